@@ -1,0 +1,125 @@
+//! Owned texts.
+
+ghost use Rattle.std.specs.Prelude.{◌≡◌, ◌++◌, ◌∷◌, [], true, nat_eq, IfOk, OnOk, OnErr};
+ghost use Rattle.std.specs.Ordering.{on, as_partial_cmp, nat_cmp};
+ghost use Rattle.std.specs.Cmp.{partial_order_from_own_ties};
+ghost use Rattle.std.specs.Cmp.Lexicographic.{slice_cmp};
+ghost use Rattle.std.specs.Cmp.Rules.{comparing, hashing};
+ghost use Rattle.std.specs.Hash as fed;
+ghost use Rattle.std.specs.Str.{chars, encode_utf8_all, all_scalars};
+ghost use Rattle.std.proofs.Common.{rules};
+ghost use lib.Pointwise.{pointwise};
+
+use std::alloc::{AllocError, Global};
+use std::cmp::Ordering;
+use std::hash::{Hash, Hasher};
+use std::marker::Model;
+use thiserror::Error;
+
+/// Want of memory, where it is the only refusal.
+#[derive(Clone, Copy, Debug, PartialEq, Eq, Error)]
+#[error("out of memory")]
+pub struct NoMemory;
+
+/// An owned text in UTF-8, which contracts see as the list of its characters.
+///
+/// Texts are compared, ordered and hashed by their bytes.
+#[derive(Debug, Drop)]
+pub struct Text {
+    string: String,
+}
+
+impl Model for Text {
+    ghost use Rattle.std.specs.Prelude.{List, ℕ, string_bytes};
+    ghost use Rattle.std.specs.Str.{chars};
+
+    ghost Value = { List ℕ };
+
+    ghost view = { λ t. chars (string_bytes t.string) };
+}
+
+impl Text {
+    /// The text with no characters. Takes no memory.
+    pub fn new(alloc: Global) -> Text
+        ensures { result ≡ [] }
+    {
+        Text {
+            string: String::new(alloc),
+        }
+    }
+
+    /// The same characters.
+    pub fn of(alloc: Global, text: &str) -> Result<Text, NoMemory>
+        ensures { IfOk result (λ t. t ≡ chars text.now) }
+    {
+        match String::from_str(alloc, text) {
+            Ok(string) => Ok(Text { string }),
+            Err(_) => Err(NoMemory),
+        }
+    }
+
+    /// The same characters. Takes no memory.
+    pub fn as_str(&self) -> &str
+        ensures chars { chars result.now ≡ self.now }
+        ensures bytes { result.now ≡ encode_utf8_all self.now }
+        ensures scalars { all_scalars self.now ≡ true }
+    {
+        self.string.as_str()
+    }
+
+    /// Puts a character at the end.
+    pub fn push(&mut self, c: char) -> Result<(), AllocError>
+        ensures ok { OnOk result (self.new ≡ self.old ++ c ∷ []) }
+        ensures err { OnErr result (self.new ≡ self.old) }
+    {
+        self.string.push(c)
+    }
+}
+
+impl PartialEq for Text {
+    ghost eq = { on encode_utf8_all (pointwise nat_eq) };
+
+    ghost laws = { Prim.search (comparing, rules) };
+
+    fn eq(&self, other: &Text) -> bool {
+        self.as_str() == other.as_str()
+    }
+}
+
+impl Eq for Text {
+    ghost laws = { Prim.search (comparing, rules) };
+}
+
+impl PartialOrd for Text {
+    ghost partial_cmp = { as_partial_cmp (on encode_utf8_all (slice_cmp nat_cmp)) };
+
+    ghost laws = { partial_order_from_own_ties (Prim.search (comparing, rules)) (Prim.search (comparing, rules)) };
+
+    fn partial_cmp(&self, other: &Text) -> Option<Ordering> {
+        Some(self.cmp(other))
+    }
+}
+
+impl Ord for Text {
+    ghost cmp = { on encode_utf8_all (slice_cmp nat_cmp) };
+
+    ghost total = { Prim.search (comparing, rules) };
+
+    ghost matches_partial_cmp = { Prim.search (comparing, rules) };
+
+    ghost matches_eq = { Prim.search (comparing, rules) };
+
+    fn cmp(&self, other: &Text) -> Ordering {
+        self.as_str().cmp(other.as_str())
+    }
+}
+
+impl Hash for Text {
+    ghost hash_input = { λ t. fed.str (encode_utf8_all t) };
+
+    ghost respects_eq = { Prim.search (hashing, rules) };
+
+    fn hash<H: Hasher>(&self, state: &mut H) {
+        self.as_str().hash(state);
+    }
+}
