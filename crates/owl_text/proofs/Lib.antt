@@ -1,1 +1,3 @@
 pub mod Characters
+pub mod Spans
+pub mod First

@@ -1,0 +1,3 @@
+pub mod Iri
+pub mod Tokens
+pub mod Lexing
