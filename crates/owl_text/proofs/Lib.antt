@@ -1,3 +1,5 @@
 pub mod Characters
 pub mod Spans
 pub mod First
+pub mod Longest
+pub mod Steps
