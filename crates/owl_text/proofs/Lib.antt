@@ -3,3 +3,4 @@ pub mod Spans
 pub mod First
 pub mod Longest
 pub mod Steps
+pub mod Advancing

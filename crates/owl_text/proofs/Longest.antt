@@ -1,5 +1,5 @@
 -- Where each kind of token is the longest, and where no token begins.
-use Rattle.std.proofs.Common.{◌≡◌, ◌==◌, ◌||◌, ℕ, ◌+◌, ◌≤◌, Bool, true, false, List, [], ◌∷◌, ◌++◌, length, refl, sym, ap, ◌∙◌, subst, arith, codes, ◌&&◌}
+use Rattle.std.proofs.Common.{◌≡◌, ◌≢◌, ◌==◌, ◌||◌, ℕ, ◌+◌, ◌≤◌, Bool, true, false, List, [], ◌∷◌, ◌++◌, length, refl, sym, ap, ◌∙◌, subst, arith, codes, ◌&&◌}
 use Rattle.std.specs.Char.{is_ascii_alphabetic, is_ascii_digit}
 use Rattle.std.proofs.lemmas.List.{append_assoc, append-nil, length-append}
 use Rattle.std.proofs.lemmas.Bool.{false≢true}
@@ -18,7 +18,16 @@ use Rattle.owl_text.proofs.First.{HasHead, head_of}
 abbrev pub is_held : ℕ → Bool
 is_held c = is_iri_character c && is_ascii c
 
-scheme_is_held : (c : ℕ) → is_scheme_character c ≡ true → is_held c ≡ true
+-- the parts of a test that passes
+pub and_first : (a b : Bool) → (a && b) ≡ true → a ≡ true
+and_first true b e = refl
+and_first false b e = e
+
+pub and_second : (a b : Bool) → (a && b) ≡ true → b ≡ true
+and_second true b e = e
+and_second false b e = absurd (false≢true e)
+
+pub scheme_is_held : (c : ℕ) → is_scheme_character c ≡ true → is_held c ≡ true
 scheme_is_held c h = grind (arith, nat_tests)
 
 letter_is_scheme : (c : ℕ) → is_ascii_alphabetic c ≡ true → is_scheme_character c ≡ true
@@ -28,7 +37,7 @@ AllAre-both : (p q : ℕ → Bool) (xs : List ℕ) → AllAre p xs → AllAre q 
 AllAre-both p q [] h k = tt
 AllAre-both p q (x ∷ xs) h k = (ap (λ b. b && q x) h.0 ∙ k.0, AllAre-both p q xs h.1 k.1)
 
-scheme_characters : (cs : List ℕ) → IsScheme cs → AllAre is_scheme_character cs
+pub scheme_characters : (cs : List ℕ) → IsScheme cs → AllAre is_scheme_character cs
 scheme_characters [] h = absurd h
 scheme_characters (c ∷ cs) h = (letter_is_scheme c h.0, h.1)
 
@@ -99,12 +108,12 @@ splits_none at c rest (p ∷ ps) h none s = at_gap s.1.gap s.1.spaces s.1.parts
     at_gap [] spaces e = none p.token s.0 s.1.token e
     at_gap (g ∷ gap) spaces e = both is_space g c (cc) spaces.0 h
 
-pub none_elsewhere : (c : ℕ) (rest : List ℕ) → is_ascii_alphabetic c ≡ false → (c == 60) ≡ false → (c == 40) ≡ false → (c == 41) ≡ false → BeginsNone c rest
-none_elsewhere c rest l less opens closes (Iri ds) more t e = both (λ n. n == 60) 60 c (cc) refl less
+pub none_elsewhere : (c : ℕ) (rest : List ℕ) → is_ascii_alphabetic c ≡ false → c ≢ 60 → c ≢ 40 → c ≢ 41 → BeginsNone c rest
+none_elsewhere c rest l less opens closes (Iri ds) more t e = less (cc)
 none_elsewhere c rest l less opens closes (Word []) more t e = t
 none_elsewhere c rest l less opens closes (Word (d ∷ ds)) more t e = both is_ascii_alphabetic d c (cc) t.0 l
-none_elsewhere c rest l less opens closes (Sign Open) more t e = both (λ n. n == 40) 40 c (cc) refl opens
-none_elsewhere c rest l less opens closes (Sign Close) more t e = both (λ n. n == 41) 41 c (cc) refl closes
+none_elsewhere c rest l less opens closes (Sign Open) more t e = opens (cc)
+none_elsewhere c rest l less opens closes (Sign Close) more t e = closes (cc)
 
 -- what begins with `<` can only be an IRI
 only_iri : (rest : List ℕ) → ((ds more : List ℕ) → IsToken (Iri ds) → rest ≡ ds ++ 62 ∷ more → ⊥) → BeginsNone 60 rest
@@ -115,31 +124,26 @@ only_iri rest none (Sign Open) more t e = heads (λ n. n == 60) 60 40 _ _ refl r
 only_iri rest none (Sign Close) more t e = heads (λ n. n == 60) 60 41 _ _ refl refl e
 
 -- a character that no IRI has, and that is not `>`
-pub none_in_iri : (cs : List ℕ) (c : ℕ) (rest : List ℕ) → AllAre is_held cs → is_held c ≡ false → (c == 62) ≡ false → BeginsNone 60 (cs ++ c ∷ rest)
+pub none_in_iri : (cs : List ℕ) (c : ℕ) (rest : List ℕ) → AllAre is_held cs → is_held c ≡ false → c ≢ 62 → BeginsNone 60 (cs ++ c ∷ rest)
 none_in_iri cs c rest h k close = only_iri (cs ++ c ∷ rest) (λ ds more t e.
     let same = same_cut is_held cs ds c 62 rest more h (held_characters ds t.0 t.1) k refl e in
-    both (λ n. n == 62) 62 c (sym same.fails) refl close)
+    close same.fails)
 
 -- the end within an IRI
 pub none_at_end : (cs : List ℕ) → AllAre is_held cs → BeginsNone 60 cs
 none_at_end cs h = only_iri cs (λ ds more t e. found is_held ds 62 more cs h refl e)
 
--- what may stand before the colon
-abbrev pub IsSchemeFront : List ℕ → Type 0
-IsSchemeFront [] = Unit {0}
-IsSchemeFront (c ∷ cs) = IsScheme (c ∷ cs)
+-- a character that can't stand in a scheme or behind it
+pub none_in_scheme : (cs : List ℕ) (c : ℕ) (rest : List ℕ) → IsScheme cs → is_scheme_character c ≡ false → c ≢ 58 → BeginsNone 60 (cs ++ c ∷ rest)
+none_in_scheme cs c rest h k colon = only_iri (cs ++ c ∷ rest) (λ ds more t e.
+    let e2 = e ∙ ap (λ x. x ++ 62 ∷ more) t.0.parts ∙ append_assoc t.0.scheme (58 ∷ t.0.rest) (62 ∷ more) in
+    let same = same_cut is_scheme_character cs t.0.scheme c 58 rest (t.0.rest ++ 62 ∷ more) (scheme_characters cs h) (scheme_characters t.0.scheme t.0.named) k refl e2 in
+    colon same.fails)
 
--- the character that makes a front of a scheme longer
-abbrev pub goes_on : List ℕ → ℕ → Bool
-goes_on [] c = is_ascii_alphabetic c
-goes_on (x ∷ xs) c = is_scheme_character c
-
-pub none_in_scheme : (cs : List ℕ) (c : ℕ) (rest : List ℕ) → IsSchemeFront cs → goes_on cs c ≡ false → (c == 58) ≡ false → BeginsNone 60 (cs ++ c ∷ rest)
-none_in_scheme cs c rest h k colon = only_iri (cs ++ c ∷ rest) (λ ds more t e. at_scheme cs t.0.scheme t.0.rest more h k t.0.named (e ∙ ap (λ x. x ++ 62 ∷ more) t.0.parts ∙ append_assoc t.0.scheme (58 ∷ t.0.rest) (62 ∷ more)))
+-- a character that begins no scheme
+pub none_opened : (c : ℕ) (rest : List ℕ) → is_ascii_alphabetic c ≡ false → BeginsNone 60 (c ∷ rest)
+none_opened c rest h = only_iri (c ∷ rest) (λ ds more t e. first t.0.scheme (t.0.rest ++ 62 ∷ more) t.0.named (e ∙ ap (λ x. x ++ 62 ∷ more) t.0.parts ∙ append_assoc t.0.scheme (58 ∷ t.0.rest) (62 ∷ more)))
   where
-    at_scheme : (cs scheme others more : List ℕ) → IsSchemeFront cs → goes_on cs c ≡ false → IsScheme scheme → cs ++ c ∷ rest ≡ scheme ++ 58 ∷ (others ++ 62 ∷ more) → ⊥
-    at_scheme cs [] others more h k s e = s
-    at_scheme [] (y ∷ ys) others more h k s e = both is_ascii_alphabetic y c (cc) s.0 k
-    at_scheme (x ∷ xs) (y ∷ ys) others more h k s e =
-        let same = same_cut is_scheme_character (x ∷ xs) (y ∷ ys) c 58 rest (others ++ 62 ∷ more) (scheme_characters (x ∷ xs) h) (scheme_characters (y ∷ ys) s) k refl e in
-        both (λ n. n == 58) 58 c (sym same.fails) refl colon
+    first : (scheme behind : List ℕ) → IsScheme scheme → c ∷ rest ≡ scheme ++ 58 ∷ behind → ⊥
+    first [] behind s e = s
+    first (y ∷ ys) behind s e = both is_ascii_alphabetic y c (cc) s.0 h

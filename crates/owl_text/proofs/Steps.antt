@@ -81,8 +81,8 @@ gives_token token at h c e t l =
     let seam : (more : List ℕ) → h ++ c ∷ more ≡ spelling token ++ more = λ more. sym (append_assoc h (c ∷ []) more) ∙ ap (λ x. x ++ more) e in
     record {
       all = λ more tokens k.
-        let first = token_first token at more tokens t (l more) (subst (λ x. Splits at x tokens) (seam more) k.splits) in
-        (first.others, first.is, record { open_yet = refl; splits = first.splits });
+          let first = token_first token at more tokens t (l more) (subst (λ x. Splits at x tokens) (seam more) k.splits) in
+          (first.others, first.is, record { open_yet = refl; splits = first.splits });
       only = λ more rest k. record { open_yet = refl; splits = subst (λ x. Splits at x (record { token = token; at = at } ∷ rest)) (sym (seam more)) (splits_token token at more rest t (l more) k.splits) };
     }
 
@@ -90,9 +90,9 @@ gives_token token at h c e t l =
 pub gives_behind : (token : Token) (at c : ℕ) (given : List Placed) (new : Begun) → IsToken token → ((more : List ℕ) → IsLongest token (c ∷ more)) → Gives (begun_at (at + length (spelling token)) []) (c ∷ []) given new → Gives (begun_at at (spelling token)) (c ∷ []) (record { token = token; at = at } ∷ given) new
 gives_behind token at c given new t l g = record {
   all = λ more tokens k.
-    let first = token_first token at (c ∷ more) tokens t (l more) k.splits in
-    let rest = g.all more first.others (record { open_yet = refl; splits = first.splits }) in
-    (rest.0, first.is ∙ ap (λ x. record { token = token; at = at } ∷ x) rest.1, rest.2);
+      let first = token_first token at (c ∷ more) tokens t (l more) k.splits in
+      let rest = g.all more first.others (record { open_yet = refl; splits = first.splits }) in
+      (rest.0, first.is ∙ ap (λ x. record { token = token; at = at } ∷ x) rest.1, rest.2);
   only = λ more rest k. record { open_yet = refl; splits = splits_token token at (c ∷ more) (given ++ rest) t (l more) (g.only more rest k).splits };
 }
 
@@ -116,10 +116,10 @@ gives_none old = record { all = λ more tokens k. (tokens, refl, k); only = λ m
 pub gives_both : (a b d : Begun) (xs ys : List ℕ) (ps qs : List Placed) → Gives a xs ps b → Gives b ys qs d → Gives a (xs ++ ys) (ps ++ qs) d
 gives_both a b d xs ys ps qs g h = record {
   all = λ more tokens k.
-    let first = g.all (ys ++ more) tokens (subst (λ x. Continues a x tokens) (append_assoc xs ys more) k) in
-    let second = h.all more first.0 first.2 in
-    (second.0, first.1 ∙ ap (λ x. ps ++ x) second.1 ∙ sym (append_assoc ps qs second.0), second.2);
+      let first = g.all (ys ++ more) tokens (subst (λ x. Continues a x tokens) (append_assoc xs ys more) k) in
+      let second = h.all more first.0 first.2 in
+      (second.0, first.1 ∙ ap (λ x. ps ++ x) second.1 ∙ sym (append_assoc ps qs second.0), second.2);
   only = λ more rest k.
-    let e = g.only (ys ++ more) (qs ++ rest) (h.only more rest k) in
-    subst (λ x. Continues a x ((ps ++ qs) ++ rest)) (sym (append_assoc xs ys more)) (subst (λ x. Continues a (xs ++ (ys ++ more)) x) (sym (append_assoc ps qs rest)) e);
+      let e = g.only (ys ++ more) (qs ++ rest) (h.only more rest k) in
+      subst (λ x. Continues a x ((ps ++ qs) ++ rest)) (sym (append_assoc xs ys more)) (subst (λ x. Continues a (xs ++ (ys ++ more)) x) (sym (append_assoc ps qs rest)) e);
 }

@@ -1,3 +1,4 @@
 pub mod Iri
 pub mod Tokens
 pub mod Lexing
+pub mod States

@@ -1,8 +1,12 @@
 //! Texts as lists of characters, and the tokens of Functional-Style Syntax.
 #![tactic(auto)]
 
+mod bytes;
+mod fault;
+mod state;
 mod text;
 mod token;
 
+pub use fault::LexFault;
 pub use text::{NoMemory, Text};
 pub use token::{Dialect, Placed, Sign, Token};
