@@ -71,9 +71,10 @@ abbrev pub IsLater : List ℕ → Type 0
 IsLater cs = IsIri cs × AllAre is_ascii cs
 
 pub IsIri-colon : (cs : List ℕ) (c : ℕ) → IsScheme cs → c ≡ 58 → IsLater (cs ++ c ∷ [])
-IsIri-colon cs c h e =
-    (record { scheme = cs; rest = []; parts = ap (λ (x : ℕ). cs ++ x ∷ []) e; named = h; allowed = tt },
-    AllAre-append is_ascii cs (c ∷ []) (AllAre-weaker is_scheme_character is_ascii scheme_is_ascii cs (scheme_characters cs h)) (ap is_ascii e, tt))
+IsIri-colon cs c h e = (
+  record { scheme = cs; rest = []; parts = ap (λ (x : ℕ). cs ++ x ∷ []) e; named = h; allowed = tt },
+  AllAre-append is_ascii cs (c ∷ []) (AllAre-weaker is_scheme_character is_ascii scheme_is_ascii cs (scheme_characters cs h)) (ap is_ascii e, tt),
+)
 
 pub IsScheme-push : (cs : List ℕ) (c : ℕ) → IsScheme cs → is_scheme_character c ≡ true → IsScheme (cs ++ c ∷ [])
 IsScheme-push [] c h e = absurd h
@@ -81,9 +82,10 @@ IsScheme-push (x ∷ xs) c h e = (h.0, AllAre-append is_scheme_character xs (c �
 
 pub IsIri-push : (cs : List ℕ) (c : ℕ) → IsLater cs → (is_iri_character c && is_ascii c) ≡ true → IsLater (cs ++ c ∷ [])
 IsIri-push cs c h e =
-    let i = h.0 in
-    (record { scheme = i.scheme; rest = i.rest ++ c ∷ []; parts = ap (λ (x : List ℕ). x ++ c ∷ []) i.parts ∙ append_assoc i.scheme (58 ∷ i.rest) (c ∷ []); named = i.named; allowed = AllAre-append is_iri_character i.rest (c ∷ []) i.allowed (and_first _ _ e, tt) },
-    AllAre-append is_ascii cs (c ∷ []) h.1 (and_second _ _ e, tt))
+    let i = h.0 in (
+      record { scheme = i.scheme; rest = i.rest ++ c ∷ []; parts = ap (λ (x : List ℕ). x ++ c ∷ []) i.parts ∙ append_assoc i.scheme (58 ∷ i.rest) (c ∷ []); named = i.named; allowed = AllAre-append is_iri_character i.rest (c ∷ []) i.allowed (and_first _ _ e, tt) },
+      AllAre-append is_ascii cs (c ∷ []) h.1 (and_second _ _ e, tt),
+    )
 
 -- `>` ends an IRI
 pub iri_ends : (cs : List ℕ) (at c place : ℕ) (before after : List Placed) → IsLater cs → at + length (codes "<" ++ cs) ≡ place → c ≡ 62 → after ≡ before ++ record { token = Iri cs; at = at } ∷ [] → Advances (record { mode = InIri cs; at = at }) c before after (between_at (place + 1))
@@ -113,8 +115,8 @@ word_given cs at c place before mid after t here letter added a = record {
   given = record { token = Word cs; at = at } ∷ a.given;
   added = a.added ∙ ap (λ (x : List Placed). x ++ a.given) added ∙ append_assoc before (record { token = Word cs; at = at } ∷ []) a.given;
   next = λ more tokens k.
-    let first = token_first (Word cs) at (c ∷ more) tokens t (word_longest cs c more t letter) k.splits in
-    let moved = subst (λ (n : ℕ). Splits n (c ∷ more) first.others) here first.splits in
-    let rest = a.next more first.others (record { open_yet = refl; splits = moved }) in
-    (rest.0, first.is ∙ ap (λ (x : List Placed). record { token = Word cs; at = at } ∷ x) rest.1);
+      let first = token_first (Word cs) at (c ∷ more) tokens t (word_longest cs c more t letter) k.splits in
+      let moved = subst (λ (n : ℕ). Splits n (c ∷ more) first.others) here first.splits in
+      let rest = a.next more first.others (record { open_yet = refl; splits = moved }) in
+      (rest.0, first.is ∙ ap (λ (x : List Placed). record { token = Word cs; at = at } ∷ x) rest.1);
 }

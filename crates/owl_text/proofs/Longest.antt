@@ -147,3 +147,8 @@ none_opened c rest h = only_iri (c ∷ rest) (λ ds more t e. first t.0.scheme (
     first : (scheme behind : List ℕ) → IsScheme scheme → c ∷ rest ≡ scheme ++ 58 ∷ behind → ⊥
     first [] behind s e = s
     first (y ∷ ys) behind s e = both is_ascii_alphabetic y c (cc) s.0 h
+
+-- within an IRI the end leaves no tokens
+pub no_last : (at : ℕ) (held cs : List ℕ) (tokens : List Placed) → held ≡ 60 ∷ cs → AllAre is_held cs → Splits at (held ++ []) tokens → ⊥
+no_last at held cs tokens e h s =
+    splits_none at 60 cs tokens refl (none_at_end cs h) (subst (λ (x : List ℕ). Splits at x tokens) (append-nil held ∙ e) s)

@@ -1,5 +1,5 @@
 -- What one byte makes of what is begun.
-use Rattle.std.proofs.Common.{◌≡◌, ◌==◌, ℕ, ◌+◌, ◌≤◌, Bool, true, false, List, [], ◌∷◌, ◌++◌, length, refl, sym, ap, ◌∙◌, subst, arith, codes}
+use Rattle.std.proofs.Common.{Result, Ok, Err, OnErr, ◌≡◌, ℕ, ◌+◌, ◌≤◌, Bool, true, false, List, [], ◌∷◌, ◌++◌, length, refl, sym, ap, ◌∙◌, subst, arith, codes}
 use Rattle.std.specs.Char.{is_ascii_alphabetic}
 use Rattle.std.proofs.lemmas.List.{append_assoc, append-nil}
 use Rattle.std.proofs.lemmas.Bool.{false≢true}
@@ -10,7 +10,7 @@ use Rattle.owl_text.specs.declared.token.Token.{Token}
 use Rattle.owl_text.specs.declared.token.Token.TheVariants.{Iri, Word, Sign}
 use Rattle.owl_text.specs.declared.token.Placed.{Placed}
 use Rattle.owl_text.proofs.Spans.{both, heads, found, same_cut, SameSeam, same_seam}
-use Rattle.owl_text.proofs.First.{HasHead, head_of, SameFirst, same_first}
+use Rattle.owl_text.proofs.First.{HasHead, head_of, SameFirst, same_first, same_splits}
 
 -- a place, and bytes that are held from there on
 abbrev pub begun_at : ℕ → List ℕ → Begun
@@ -123,3 +123,35 @@ gives_both a b d xs ys ps qs g h = record {
       let e = g.only (ys ++ more) (qs ++ rest) (h.only more rest k) in
       subst (λ x. Continues a x ((ps ++ qs) ++ rest)) (sym (append_assoc xs ys more)) (subst (λ x. Continues a (xs ++ (ys ++ more)) x) (sym (append_assoc ps qs rest)) e);
 }
+
+-- the tokens that come are the only ones
+pub only_tokens : (begun : Begun) (before after : List Placed) → ((tokens : List Placed) × (after ≡ before ++ tokens) × Continues begun [] tokens) → (tokens : List Placed) → Continues begun [] tokens → after ≡ before ++ tokens
+only_tokens begun before after ok tokens k =
+    ok.1 ∙ ap (λ (x : List Placed). before ++ x) (same_splits begun.at (begun.held ++ []) ok.0 tokens ok.2.splits k.splits)
+
+-- one more byte behind bytes that were taken
+pub adds_both : (a b d : Begun) (xs ys : List ℕ) (before mid after : List Placed) → Adds a xs before mid b → Adds b ys mid after d → Adds a (xs ++ ys) before after d
+adds_both a b d xs ys before mid after g h = record {
+  given = g.given ++ h.given;
+  added = h.added ∙ ap (λ (x : List Placed). x ++ h.given) g.added ∙ append_assoc before g.given h.given;
+  gives = gives_both a b d xs ys g.given h.given g.gives h.gives;
+}
+
+pub adds_nothing : (a : Begun) (before : List Placed) → Adds a [] before before a
+adds_nothing a before = record { given = []; added = sym (append-nil before); gives = gives_none a }
+
+-- what is there where memory runs out behind bytes that were taken
+pub adds_some_behind : (a b : Begun) (xs ys zs : List ℕ) (before mid after : List Placed) → Adds a xs before mid b → AddsSome b ys mid after → AddsSome a (xs ++ (ys ++ zs)) before after
+adds_some_behind a b xs ys zs before mid after g h = record {
+  given = g.given ++ h.given;
+  added = h.added ∙ ap (λ (x : List Placed). x ++ h.given) g.added ∙ append_assoc before g.given h.given;
+  next = λ more tokens k.
+    let first = g.gives.all (ys ++ (zs ++ more)) tokens (subst (λ (x : List ℕ). Continues a x tokens) (append_assoc xs (ys ++ zs) more ∙ ap (λ (x : List ℕ). xs ++ x) (append_assoc ys zs more)) k) in
+    let second = h.next (zs ++ more) first.0 first.2 in
+    (second.0, first.1 ∙ ap (λ (x : List Placed). g.given ++ x) second.1 ∙ sym (append_assoc g.given h.given second.0));
+}
+
+-- what holds wherever holds at an error
+pub on_err : {T E P : Type 0} (r : Result T E) → P → OnErr r P
+on_err (Ok x) p = tt
+on_err (Err e) p = p

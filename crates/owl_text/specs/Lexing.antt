@@ -1,6 +1,7 @@
 -- What a lexer has in hand, and what can still come of it.
 use Rattle.std.specs.Prelude.{◌≡◌, ℕ, Bool, false, Option, List, ◌++◌}
 use Rattle.owl_text.specs.Tokens.{Splits}
+use Rattle.owl_text.specs.declared.fault.LexFault.{LexFault}
 use Rattle.owl_text.specs.declared.token.Placed.{Placed}
 
 -- the bytes of a token that is begun, the place of the first of them, and whether no token can come of what was fed
@@ -31,3 +32,9 @@ pub record AddsSome (old : Begun) (bytes : List ℕ) (before after : List Placed
   pub given : List Placed
   pub added : after ≡ before ++ given
   pub next : (more : List ℕ) (tokens : List Placed) → Continues old (bytes ++ more) tokens → (rest : List Placed) × (tokens ≡ given ++ rest)
+
+-- What a lexer is: what is begun, how many bytes were fed, and the refusal that it keeps.
+pub record Lexing : Type 0 where
+  pub begun : Begun
+  pub fed : ℕ
+  pub refused : Option LexFault

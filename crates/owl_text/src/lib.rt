@@ -3,10 +3,12 @@
 
 mod bytes;
 mod fault;
+mod lexer;
 mod state;
 mod text;
 mod token;
 
 pub use fault::LexFault;
+pub use lexer::Lexer;
 pub use text::{NoMemory, Text};
 pub use token::{Dialect, Placed, Sign, Token};

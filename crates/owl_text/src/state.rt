@@ -1,13 +1,15 @@
 //! What a lexer has in hand between two bytes, and what the next byte makes of it.
 
-ghost use Rattle.std.specs.Prelude.{◌≡◌, ◌+◌, ◌^◌, ◌<◌, ◌∷◌, [], ◌++◌, length, IfOk, OnOk, OnErr, codes};
+ghost use Rattle.std.specs.Prelude.{◌≡◌, ◌+◌, ◌^◌, ◌<◌, ◌∷◌, [], ◌++◌, List, length, IfOk, OnOk, OnErr, IsErrOf};
 ghost use Rattle.owl_text.specs.Iri.{AllAre, IsIri, IsScheme, is_ascii};
 ghost use Rattle.owl_text.specs.Tokens.{IsWord};
-ghost use Rattle.owl_text.specs.Lexing.{AddsSome};
+ghost use Rattle.owl_text.specs.Lexing.{AddsSome, Continues};
 ghost use Rattle.owl_text.specs.States.{Advances, IsWell, seen, next_of};
+ghost use Rattle.owl_text.specs.declared.token.Placed.{Placed};
 ghost use Rattle.owl_text.specs.declared.state.Mode.TheVariants.{Between, Opened, InScheme, InIri, InWord, Lost};
 
 use crate::bytes::{is_iri_byte, is_scheme_byte, is_space};
+use crate::fault::LexFault;
 use crate::text::Text;
 use crate::token::{Placed, Sign, Token};
 use std::alloc::{AllocError, Global};
@@ -251,5 +253,26 @@ pub fn step(
             mode: Mode::Lost,
             at: place + 1,
         }),
+    }
+}
+
+/// Adds the token that the end makes whole, if one is begun.
+pub fn last(state: State, into: &mut Vec<Placed>) -> Result<(), LexFault>
+    requires { IsWell state.mode }
+    ensures ok { OnOk result ((tokens : List Placed) × (into.new.items ≡ into.old.items ++ tokens) × Continues (seen state) [] tokens) }
+    ensures not_built { IsErrOf result LexFault.NotBuilt → (tokens : List Placed) → Continues (seen state) [] tokens → ⊥ }
+    ensures err { OnErr result (into.new.items ≡ into.old.items) }
+{
+    let State { mode, at } = state;
+    match mode {
+        Mode::Between => Ok(()),
+        Mode::InWord(word) => {
+            give(into, Token::Word(word), at)?;
+            Ok(())
+        }
+        Mode::Opened => Err(LexFault::NotBuilt),
+        Mode::InScheme(_) => Err(LexFault::NotBuilt),
+        Mode::InIri(_) => Err(LexFault::NotBuilt),
+        Mode::Lost => Err(LexFault::NotBuilt),
     }
 }
