@@ -1,6 +1,6 @@
 //! Owned texts.
 
-ghost use Rattle.std.specs.Prelude.{◌≡◌, ◌++◌, ◌∷◌, [], true, nat_eq, IfOk, OnOk, OnErr};
+ghost use Rattle.std.specs.Prelude.{◌≡◌, ◌++◌, ◌∷◌, [], true, nat_eq, ◌↔◌, IsTrue, IfOk, OnOk, OnErr};
 ghost use Rattle.std.specs.Ordering.{on, as_partial_cmp, nat_cmp};
 ghost use Rattle.std.specs.Cmp.{partial_order_from_own_ties};
 ghost use Rattle.std.specs.Cmp.Lexicographic.{slice_cmp};
@@ -65,6 +65,13 @@ impl Text {
         ensures scalars { all_scalars self.now ≡ true }
     {
         self.string.as_str()
+    }
+
+    /// Whether the text is this word.
+    pub fn is(&self, word: &str) -> bool
+        ensures { IsTrue result ↔ (self.now ≡ chars word.now) }
+    {
+        self.as_str() == word
     }
 
     /// Puts a character at the end.

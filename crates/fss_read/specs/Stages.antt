@@ -1,0 +1,83 @@
+-- How a document is read token by token. What a stage has taken is spelled by `taken`; that the documents read so are
+-- those of the grammar is proved beside the reader.
+use Rattle.std.specs.Prelude.{◌≡◌, ℕ, Bool, true, false, Option, None, Some, List, [], ◌∷◌, ◌++◌, map, codes, nat_eq, if◌then◌else◌}
+use Rattle.std.specs.List.{flat_map}
+use Rattle.std.specs.Str.{bytes_eq}
+use Rattle.owl_text.specs.declared.token.Token.{Token}
+use Rattle.owl_text.specs.declared.token.Token.TheVariants.{Iri, Word, Sign}
+use Rattle.owl_text.specs.declared.token.Sign.{Sign as Mark}
+use Rattle.owl_text.specs.declared.token.Sign.TheVariants.{Open, Close}
+use Rattle.fss_read.specs.declared.document.FirstAxiom.TheVariants.{Declares, Sub}
+use Rattle.fss_read.specs.declared.stage.Declaring.{Declaring as DeclaringPart}
+use Rattle.fss_read.specs.declared.stage.Declaring.TheVariants as d
+use Rattle.fss_read.specs.declared.stage.Subclassing.{Subclassing as SubclassingPart}
+use Rattle.fss_read.specs.declared.stage.Subclassing.TheVariants as s
+use Rattle.fss_read.specs.declared.stage.Stage.{Stage}
+use Rattle.fss_read.specs.declared.stage.Stage.TheVariants.{Start, Keyword as KeywordRead, Bracket, Body, Declaring, Subclassing, Whole, Lost}
+use Rattle.fss_read.specs.declared.stage.Move.{Move}
+use Rattle.fss_read.specs.declared.stage.Move.TheVariants.{To, Names, Adds}
+use Rattle.fss_read.specs.declared.stage.Keyword.{Keyword}
+use Rattle.fss_read.specs.declared.stage.Keyword.TheVariants.{Ontology, Declaration, Class, SubClassOf}
+
+abbrev pub text_of : Keyword → List ℕ
+text_of Ontology = codes "Ontology"
+text_of Declaration = codes "Declaration"
+text_of Class = codes "Class"
+text_of SubClassOf = codes "SubClassOf"
+
+abbrev pub is_word : Token → Keyword → Bool
+is_word (Iri iri) keyword = false
+is_word (Word word) keyword = bytes_eq word (text_of keyword)
+is_word (Sign sign) keyword = false
+
+abbrev pub same_sign : Mark → Mark → Bool
+same_sign Open Open = true
+same_sign Open Close = false
+same_sign Close Open = false
+same_sign Close Close = true
+
+abbrev pub is_sign : Token → Mark → Bool
+is_sign (Iri iri) sign = false
+is_sign (Word word) sign = false
+is_sign (Sign other) sign = same_sign other sign
+
+-- what a token makes of a stage
+abbrev pub to_if : Bool → Stage → Move
+to_if found next = To (if found then next else Lost)
+
+unfoldable pub moved_in_body : Token → Move
+moved_in_body token =
+    if is_word token Declaration then To (Declaring d.Keyword) else (if is_word token SubClassOf then To (Subclassing s.Keyword) else to_if (is_sign token Close) Whole)
+
+abbrev pub iri_of : Token → Option (List ℕ)
+iri_of (Iri iri) = Some iri
+iri_of (Word word) = None
+iri_of (Sign sign) = None
+
+abbrev pub with_iri : (List ℕ → Move) → Move → Option (List ℕ) → Move
+with_iri found other None = other
+with_iri found other (Some iri) = found iri
+
+unfoldable pub moved_in_declaration : DeclaringPart → Token → Move
+moved_in_declaration d.Keyword token = to_if (is_sign token Open) (Declaring d.Bracket)
+moved_in_declaration d.Bracket token = to_if (is_word token Class) (Declaring d.Class)
+moved_in_declaration d.Class token = to_if (is_sign token Open) (Declaring d.ClassBracket)
+moved_in_declaration d.ClassBracket token = with_iri (λ class. To (Declaring (d.Iri class))) (To Lost) (iri_of token)
+moved_in_declaration (d.Iri class) token = to_if (is_sign token Close) (Declaring (d.ClassClosed class))
+moved_in_declaration (d.ClassClosed class) token = if is_sign token Close then Adds (Declares class) else To Lost
+
+unfoldable pub moved_in_subclass : SubclassingPart → Token → Move
+moved_in_subclass s.Keyword token = to_if (is_sign token Open) (Subclassing s.Bracket)
+moved_in_subclass s.Bracket token = with_iri (λ sub. To (Subclassing (s.Sub sub))) (To Lost) (iri_of token)
+moved_in_subclass (s.Sub sub) token = with_iri (λ super. To (Subclassing (s.Both sub super))) (To Lost) (iri_of token)
+moved_in_subclass (s.Both sub super) token = if is_sign token Close then Adds (Sub sub super) else To Lost
+
+unfoldable pub moved : Stage → Token → Move
+moved Start token = to_if (is_word token Ontology) KeywordRead
+moved KeywordRead token = to_if (is_sign token Open) Bracket
+moved Bracket token = with_iri (λ iri. Names iri) (moved_in_body token) (iri_of token)
+moved Body token = moved_in_body token
+moved (Declaring part) token = moved_in_declaration part token
+moved (Subclassing part) token = moved_in_subclass part token
+moved Whole token = To Lost
+moved Lost token = To Lost

@@ -1,0 +1,9 @@
+//! Reads documents in Functional-Style Syntax, in whatever pieces their bytes come.
+#![tactic(auto)]
+
+mod document;
+mod fault;
+mod stage;
+
+pub use document::{FirstAxiom, FirstDoc};
+pub use fault::ReadFault;
