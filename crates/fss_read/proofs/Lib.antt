@@ -1,1 +1,3 @@
 pub mod Keywords
+pub mod Parsing
+pub mod Documents

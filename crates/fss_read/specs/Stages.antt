@@ -7,6 +7,8 @@ use Rattle.owl_text.specs.declared.token.Token.{Token}
 use Rattle.owl_text.specs.declared.token.Token.TheVariants.{Iri, Word, Sign}
 use Rattle.owl_text.specs.declared.token.Sign.{Sign as Mark}
 use Rattle.owl_text.specs.declared.token.Sign.TheVariants.{Open, Close}
+use Rattle.fss_read.specs.Grammar.{opening, closing, axiom_tokens, iri_tokens}
+use Rattle.fss_read.specs.declared.document.FirstAxiom.{FirstAxiom}
 use Rattle.fss_read.specs.declared.document.FirstAxiom.TheVariants.{Declares, Sub}
 use Rattle.fss_read.specs.declared.stage.Declaring.{Declaring as DeclaringPart}
 use Rattle.fss_read.specs.declared.stage.Declaring.TheVariants as d
@@ -81,3 +83,82 @@ moved (Declaring part) token = moved_in_declaration part token
 moved (Subclassing part) token = moved_in_subclass part token
 moved Whole token = To Lost
 moved Lost token = To Lost
+
+-- what was read of a document
+pub record Parse : Type 0 where
+  pub iri : Option (List ℕ)
+  pub axioms : List FirstAxiom
+  pub stage : Stage
+
+abbrev pub start : Parse
+start = record { iri = None; axioms = []; stage = Start }
+
+abbrev pub applied : Parse → Move → Parse
+applied p (To stage) = record { iri = p.iri; axioms = p.axioms; stage = stage }
+applied p (Names iri) = record { iri = Some iri; axioms = p.axioms; stage = Body }
+applied p (Adds «axiom») = record { iri = p.iri; axioms = p.axioms ++ «axiom» ∷ []; stage = Body }
+
+abbrev pub step : Parse → Token → Parse
+step p token = applied p (moved p.stage token)
+
+abbrev pub after : Parse → List Token → Parse
+after p [] = p
+after p (token ∷ tokens) = after (step p token) tokens
+
+abbrev pub is_lost : Stage → Bool
+is_lost Start = false
+is_lost KeywordRead = false
+is_lost Bracket = false
+is_lost Body = false
+is_lost (Declaring part) = false
+is_lost (Subclassing part) = false
+is_lost Whole = false
+is_lost Lost = true
+
+abbrev pub declaring_tokens : DeclaringPart → List Token
+declaring_tokens d.Keyword = Word (codes "Declaration") ∷ []
+declaring_tokens d.Bracket = opening (codes "Declaration")
+declaring_tokens d.Class = opening (codes "Declaration") ++ Word (codes "Class") ∷ []
+declaring_tokens d.ClassBracket = opening (codes "Declaration") ++ opening (codes "Class")
+declaring_tokens (d.Iri class) = opening (codes "Declaration") ++ (opening (codes "Class") ++ Iri class ∷ [])
+declaring_tokens (d.ClassClosed class) = opening (codes "Declaration") ++ (opening (codes "Class") ++ Iri class ∷ closing)
+
+abbrev pub subclassing_tokens : SubclassingPart → List Token
+subclassing_tokens s.Keyword = Word (codes "SubClassOf") ∷ []
+subclassing_tokens s.Bracket = opening (codes "SubClassOf")
+subclassing_tokens (s.Sub sub) = opening (codes "SubClassOf") ++ Iri sub ∷ []
+subclassing_tokens (s.Both sub super) = opening (codes "SubClassOf") ++ Iri sub ∷ Iri super ∷ []
+
+-- the tokens of the header and the whole axioms
+abbrev pub head_of : Parse → List Token
+head_of p = opening (codes "Ontology") ++ (iri_tokens p.iri ++ flat_map axiom_tokens p.axioms)
+
+-- the tokens that were read
+abbrev pub taken_at : Parse → Stage → List Token
+taken_at p Start = []
+taken_at p KeywordRead = Word (codes "Ontology") ∷ []
+taken_at p Bracket = opening (codes "Ontology")
+taken_at p Body = head_of p
+taken_at p (Declaring part) = head_of p ++ declaring_tokens part
+taken_at p (Subclassing part) = head_of p ++ subclassing_tokens part
+taken_at p Whole = head_of p ++ closing
+taken_at p Lost = []
+
+abbrev pub taken : Parse → List Token
+taken p = taken_at p p.stage
+
+-- in the header nothing is read yet
+abbrev pub IsEarly : Parse → Stage → Type 0
+IsEarly p Start = (p.iri ≡ None) × (p.axioms ≡ [])
+IsEarly p KeywordRead = (p.iri ≡ None) × (p.axioms ≡ [])
+IsEarly p Bracket = (p.iri ≡ None) × (p.axioms ≡ [])
+IsEarly p Body = Unit {0}
+IsEarly p (Declaring part) = Unit {0}
+IsEarly p (Subclassing part) = Unit {0}
+IsEarly p Whole = Unit {0}
+IsEarly p Lost = Unit {0}
+
+-- Some tokens lead here: those that were read.
+pub record IsReached (p : Parse) : Type 0 where
+  pub early : IsEarly p p.stage
+  pub run : is_lost p.stage ≡ false → after start (taken p) ≡ p

@@ -3,6 +3,7 @@
 
 mod document;
 mod fault;
+mod parser;
 mod stage;
 
 pub use document::{FirstAxiom, FirstDoc};
