@@ -1,3 +1,4 @@
 pub mod Keywords
 pub mod Parsing
 pub mod Documents
+pub mod Readings

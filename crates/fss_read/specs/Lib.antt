@@ -2,3 +2,4 @@ pub mod Document
 pub mod Faults
 pub mod Grammar
 pub mod Stages
+pub mod Reading

@@ -4,7 +4,9 @@
 mod document;
 mod fault;
 mod parser;
+mod reader;
 mod stage;
 
 pub use document::{FirstAxiom, FirstDoc};
 pub use fault::ReadFault;
+pub use reader::{MOST_BYTES, Reader};

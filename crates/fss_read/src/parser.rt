@@ -1,9 +1,9 @@
 //! Reads the tokens of a document one by one.
 
-ghost use Rattle.std.specs.Prelude.{◌≡◌, [], None, IfOk, OnOk, OnErr, IsErrOf, IfErr};
-ghost use Rattle.fss_read.specs.Document.{Document};
-ghost use Rattle.fss_read.specs.Grammar.{SpellsFunctional, tokens_of};
-ghost use Rattle.fss_read.specs.Stages.{start, step, after};
+ghost use Rattle.std.specs.Prelude.{◌≡◌, ◌≢◌, IfOk, OnOk, IfErr};
+ghost use Rattle.fss_read.specs.Grammar.{tokens_of};
+ghost use Rattle.fss_read.specs.Stages.{start, step, after, IsReached};
+ghost use Rattle.fss_read.specs.declared.stage.Stage.TheVariants.{Whole};
 
 use crate::document::{FirstAxiom, FirstDoc};
 use crate::fault::ReadFault;
@@ -63,11 +63,32 @@ impl Parser {
 
     /// Takes tokens in turn.
     pub fn take_all(&mut self, tokens: Vec<Placed>) -> Result<(), AllocError>
-        ensures { OnOk result (self.new ≡ after self.old (tokens_of tokens.items)) }
+        ensures ok { OnOk result (self.new ≡ after self.old (tokens_of tokens.items)) }
+        ensures reached { IsReached self.old }
     {
+        let _ = &self.stage;
         for placed in tokens {
             self.take(placed.token)?;
         }
         Ok(())
+    }
+
+    /// The document that all the tokens taken spell. `NotBuilt` comes exactly where they spell none.
+    pub fn finish(self) -> Result<FirstDoc, ReadFault>
+        ensures whole { IfOk result (λ document. (self.stage ≡ Whole) × (document ≡ record { iri = self.iri; axioms = self.axioms })) }
+        ensures reached { IsReached self }
+        ensures not_built { IfErr result (λ fault. (fault ≡ ReadFault.NotBuilt) × (self.stage ≢ Whole)) }
+    {
+        let Parser { iri, axioms, stage } = self;
+        match stage {
+            Stage::Whole => Ok(FirstDoc { iri, axioms }),
+            Stage::Start => Err(ReadFault::NotBuilt),
+            Stage::Keyword => Err(ReadFault::NotBuilt),
+            Stage::Bracket => Err(ReadFault::NotBuilt),
+            Stage::Body => Err(ReadFault::NotBuilt),
+            Stage::Declaring(_part) => Err(ReadFault::NotBuilt),
+            Stage::Subclassing(_part) => Err(ReadFault::NotBuilt),
+            Stage::Lost => Err(ReadFault::NotBuilt),
+        }
     }
 }
