@@ -1,0 +1,8 @@
+//! All that the program does, over any shelf of documents and any sinks.
+#![tactic(auto)]
+
+mod command;
+mod status;
+
+pub use command::{Command, Target, WordsFault, words};
+pub use status::Status;
