@@ -87,7 +87,33 @@ impl Shelf for MemShelf {
 
     ghost faults = { faults_on };
 
-    fn read(&mut self, name: &str, into: &mut [u8]) -> Result<usize, Failed> {
+    fn read(&mut self, name: &str, into: &mut [u8]) -> Result<usize, Failed>
+        requires { 0 < length into.old }
+
+        // It fails at the chosen read, and where it lacks the name.
+        ensures fails { IsErr result ↔ ((self.old.failing ≡ Some (self.old.made + 1)) ⊎ (left_on self.old name.now ≡ None)) }
+
+        ensures lacks { left_on self.old name.now ≡ None → IsErr result }
+
+        // It gives as much as the buffer, the piece and the name have.
+        ensures count { IfOk result (λ n. n ≡ min (min (length into.old) self.old.most) (length (unwrap_or (left_on self.old name.now) []))) }
+        ensures bound { IfOk result (λ n. n ≤ length into.new) }
+        ensures bytes { IfOk result (λ n. left_on self.old name.now ≡ before (take n into.new) (left_on self.new name.now)) }
+        ensures end { IfOk result (λ n. n ≡ 0 → left_on self.old name.now ≡ Some []) }
+
+        // A failed read is counted, and nothing else of the name changes.
+        ensures failed { OnErr result (left_on self.new name.now ≡ left_on self.old name.now) }
+        ensures raised { OnErr result (faults_on self.new name.now ≡ raised (faults_on self.old name.now)) }
+        ensures kept { OnOk result (faults_on self.new name.now ≡ faults_on self.old name.now) }
+        ensures faults { faults_on self.old name.now ≤ faults_on self.new name.now }
+        ensures cause { OnErr result (Rose (faults_on self.old name.now) (faults_on self.new name.now)) }
+
+        // The other names, the number of the next read, and the settings.
+        ensures others { (other : List ℕ) → other ≢ name.now → left_on self.new other ≡ left_on self.old other }
+        ensures counts { (other : List ℕ) → other ≢ name.now → faults_on self.new other ≡ faults_on self.old other }
+        ensures made { self.new.made ≡ raised self.old.made }
+        ensures settings { (self.new.most ≡ self.old.most) × (self.new.failing ≡ self.old.failing) }
+    {
         let fails = self.turns.next();
         let most = self.most;
         read_from(&mut self.documents, name, into, most, fails)
