@@ -1,2 +1,3 @@
-pub mod Outside
 pub mod MemShelf
+pub mod MemSink
+pub mod Outside

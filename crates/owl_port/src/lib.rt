@@ -4,10 +4,12 @@
 
 mod document;
 mod mem_shelf;
+mod mem_sink;
 mod outside;
 mod turn;
 mod whole;
 
 pub use mem_shelf::MemShelf;
+pub use mem_sink::MemSink;
 pub use outside::{Failed, Shelf, Sink};
 pub use whole::{ReadFault, put_all, read_all};
