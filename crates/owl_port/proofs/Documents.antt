@@ -9,11 +9,8 @@ use Rattle.std.proofs.lemmas.Option.{slice_get-get_or, slice_get_past}
 use Rattle.std.proofs.lemmas.List.Folds.{find-set, find_past, find_at, find-append}
 use Rattle.std.proofs.lemmas.List.Quantifiers.{position-Some}
 use Rattle.std.proofs.lemmas.Slice.Eq.{bytes_eq-Decides}
-use Rattle.owl_port.specs.Outside.{Rose, raised, before}
+use Rattle.owl_port.specs.Outside.{raised, before}
 use Rattle.owl_port.specs.MemShelf.{Kept, document_in}
-
-pub Rose-raised : (count : ℕ) → Rose count (raised count)
-Rose-raised count = grind arith
 
 -- a test that chose a number chose it because it passed
 chosen : (b : Bool) (n i : ℕ) → cond b (Some n) None ≡ Some i → (b ≡ true) × (n ≡ i)

@@ -28,8 +28,10 @@ left_in documents name = option_map (λ d. d.left) (document_in documents name)
 abbrev pub faults_in : List Kept → List ℕ → ℕ
 faults_in documents name = unwrap_or (option_map (λ d. d.faults) (document_in documents name)) (2 ^ 64 - 1)
 
+-- the bytes that are left under a name on the shelf
 abbrev pub left_on : Shelved → List ℕ → Option (List ℕ)
 left_on shelf name = left_in shelf.documents name
 
+-- the count of faults of a name on the shelf
 abbrev pub faults_on : Shelved → List ℕ → ℕ
 faults_on shelf name = faults_in shelf.documents name

@@ -3,13 +3,11 @@
 ghost use Rattle.std.specs.Prelude.{◌≡◌, ◌<◌, ◌≤◌, ◌++◌, ◌+◌, ◌↔◌, ◌⊎◌, [], None, Some, length, take, min, IfOk, OnOk, OnErr, IsErr};
 ghost use Rattle.owl_port.specs.Outside.{Rose, raised};
 
-use std::alloc::Global;
-use std::marker::Model;
-
-use owl_text::NoMemory;
-
 use crate::outside::{Failed, Sink};
 use crate::turn::Turns;
+use owl_text::NoMemory;
+use std::alloc::Global;
+use std::marker::Model;
 
 /// Bytes in memory, which takes pieces of a chosen size, and fails at a chosen
 /// put and where its room is used up.

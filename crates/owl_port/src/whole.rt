@@ -1,6 +1,6 @@
 //! Whole documents out of a shelf, and whole texts into a sink.
 
-ghost use Rattle.std.specs.Prelude.{◌≡◌, ◌≢◌, ◌<◌, ◌≤◌, ◌+◌, ◌^◌, ◌++◌, ℕ, List, [], Some, length, take, vec_len, IsTrue, IfOk, OnOk, OnErr, Err};
+ghost use Rattle.std.specs.Prelude.{◌≡◌, ◌≢◌, ◌<◌, ◌≤◌, ◌+◌, ◌^◌, ◌++◌, ℕ, List, [], Some, length, take, vec_len, IsTrue, IfOk, OnOk, OnErr, IsOk, Err};
 ghost use Rattle.owl_port.specs.Outside.{Rose, before};
 
 use crate::outside::{Failed, Shelf, Sink};
@@ -87,14 +87,15 @@ pub fn read_all<S: Shelf>(
     Err(ReadFault::TooLong)
 }
 
-/// Puts all the bytes, one piece after another. After `Failed` a front of them
-/// was put. Takes no memory.
+/// Puts all the bytes, one piece after another; where there are none, it puts
+/// nothing. After `Failed` a front of them was put. Takes no memory.
 pub fn put_all<S: Sink>(sink: &mut S, bytes: &[u8]) -> Result<(), Failed>
     ensures told { S.tells sink.new ≡ S.tells sink.old }
     ensures whole { IsTrue (S.tells sink.old) → OnOk result (S.written sink.new ≡ S.written sink.old ++ bytes.now) }
-    ensures front { IsTrue (S.tells sink.old) → OnErr result ((n : ℕ) × (S.written sink.new ≡ S.written sink.old ++ take n bytes.now)) }
+    ensures front { IsTrue (S.tells sink.old) → OnErr result ((n : ℕ) × (n < length bytes.now) × (S.written sink.new ≡ S.written sink.old ++ take n bytes.now)) }
     ensures failed { OnErr result (Rose (S.faults sink.old) (S.faults sink.new)) }
     ensures faults { S.faults sink.old ≤ S.faults sink.new }
+    ensures none { bytes.now ≡ [] → IsOk result × (sink.new ≡ sink.old) }
 {
     let mut put = 0;
     while put < bytes.len() {

@@ -9,4 +9,5 @@ loop-put-preserved g c = record {
   front = λ t.
       put_then c.loop-put.put c.in_ok-put.field-0 c.args.bytes.now _ _ _ (c.loop-put.invariant.front t) (c.in_ok-put.ensures.bytes (along _ _ c.loop-put.invariant.told t));
   faults = search rules;
+  none = search rules;
 }
