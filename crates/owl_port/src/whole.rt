@@ -78,11 +78,12 @@ pub fn read_all<S: Shelf>(
     let mut buffer = [0u8; PIECE];
     while all.len() < most {
         let room = (most - all.len()).min(PIECE);
+        all.reserve(room)?;
         let count = shelf.read(name, &mut buffer[..room])?;
         if count == 0 {
             return Ok(all);
         }
-        all.extend_from_slice(&buffer[..count])?;
+        all.extend_from_slice(&buffer[..count]).unwrap();
     }
     Err(ReadFault::TooLong)
 }
