@@ -1,5 +1,5 @@
 -- What the outside tells of itself.
-use Rattle.std.specs.Prelude.{◌≡◌, ◌<◌, ◌+◌, ◌-◌, ◌^◌, ◌++◌, ◌⊎◌, ℕ, min, List, Option, None, Some}
+use Rattle.std.specs.Prelude.{◌≡◌, ◌≢◌, ◌<◌, ◌+◌, ◌-◌, ◌^◌, ◌++◌, ◌⊎◌, ℕ, min, List, Option, None, Some}
 
 -- a count of faults rose, or stands at its last value
 abbrev pub Rose : ℕ → ℕ → Type 0
@@ -9,6 +9,10 @@ Rose old new = (old < new) ⊎ (new ≡ 2 ^ 64 - 1)
 abbrev pub before : List ℕ → Option (List ℕ) → Option (List ℕ)
 before taken None = None
 before taken (Some rest) = Some (taken ++ rest)
+
+-- every other name has what it had
+abbrev pub SameElsewhere : {A : Type 0} → List ℕ → (List ℕ → A) → (List ℕ → A) → Type 0
+SameElsewhere name old new = (other : List ℕ) → other ≢ name → new other ≡ old other
 
 -- one more, up to the last value that a count of 64 bits has
 abbrev pub raised : ℕ → ℕ

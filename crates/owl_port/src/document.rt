@@ -24,7 +24,11 @@ impl Model for Document {
 
     ghost Value = { Kept };
 
-    ghost view = { λ d. record { name = encode_utf8_all d.name; left = drop d.given d.bytes.items; faults = d.faults } };
+    ghost view = { λ d. record {
+      name = encode_utf8_all d.name;
+      left = drop d.given d.bytes.items;
+      faults = d.faults;
+    } };
 
     ghost invariant = { λ d. d.given ≤ length d.bytes.items };
 }

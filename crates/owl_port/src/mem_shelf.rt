@@ -1,8 +1,8 @@
 //! A shelf in memory.
 
-ghost use Rattle.std.specs.Prelude.{◌≡◌, ◌≢◌, ◌<◌, ◌≤◌, ◌^◌, ◌++◌, ◌∷◌, ◌+◌, ◌↔◌, ◌⊎◌, ℕ, List, [], None, Some, true, length, take, min, position, unwrap_or, IsTrue, IfOk, OnOk, OnErr, IsErr};
+ghost use Rattle.std.specs.Prelude.{◌≡◌, ◌<◌, ◌≤◌, ◌^◌, ◌++◌, ◌∷◌, ◌+◌, ◌↔◌, ◌⊎◌, ℕ, List, [], None, Some, true, length, take, min, position, unwrap_or, IsTrue, IfOk, OnOk, OnErr, IsErr};
 ghost use Rattle.std.specs.Str.{bytes_eq, encode_utf8_all};
-ghost use Rattle.owl_port.specs.Outside.{Rose, before, raised};
+ghost use Rattle.owl_port.specs.Outside.{Rose, SameElsewhere, before, raised};
 ghost use Rattle.owl_port.specs.MemShelf.{document_in, left_in, faults_in, left_on, faults_on};
 
 use crate::document::Document;
@@ -29,7 +29,12 @@ impl Model for MemShelf {
 
     ghost Value = { Shelved };
 
-    ghost view = { λ s. record { documents = s.documents.items; most = s.most; made = s.turns.made; failing = s.turns.failing } };
+    ghost view = { λ s. record {
+      documents = s.documents.items;
+      most = s.most;
+      made = s.turns.made;
+      failing = s.turns.failing;
+    } };
 
     ghost invariant = { λ s. 0 < s.most };
 }
@@ -51,9 +56,10 @@ impl MemShelf {
     pub fn add(&mut self, name: Text, bytes: Vec<u8>) -> Result<(), NoMemory>
         ensures left { OnOk result (left_on self.new (encode_utf8_all name) ≡ Some bytes.items) }
         ensures faults { OnOk result (faults_on self.new (encode_utf8_all name) ≡ 0) }
-        ensures left_of_others { (other : List ℕ) → other ≢ encode_utf8_all name → left_on self.new other ≡ left_on self.old other }
-        ensures faults_of_others { (other : List ℕ) → other ≢ encode_utf8_all name → faults_on self.new other ≡ faults_on self.old other }
-        ensures settings { (self.new.most ≡ self.old.most) × (self.new.made ≡ self.old.made) × (self.new.failing ≡ self.old.failing) }
+        ensures others { SameElsewhere (encode_utf8_all name) (left_on self.old) (left_on self.new) }
+        ensures counts { SameElsewhere (encode_utf8_all name) (faults_on self.old) (faults_on self.new) }
+        ensures settings { (self.new.most ≡ self.old.most) × (self.new.made ≡ self.old.made)
+            × (self.new.failing ≡ self.old.failing) }
         ensures err { OnErr result (self.new ≡ self.old) }
     {
         keep(&mut self.documents, Document::new(name, bytes))
@@ -91,12 +97,13 @@ impl Shelf for MemShelf {
         requires { 0 < length into.old }
 
         // It fails at the chosen read, and where it lacks the name.
-        ensures fails { IsErr result ↔ ((self.old.failing ≡ Some (self.old.made + 1)) ⊎ (left_on self.old name.now ≡ None)) }
-
+        ensures fails { IsErr result ↔ ((self.old.failing ≡ Some (self.old.made + 1))
+            ⊎ (left_on self.old name.now ≡ None)) }
         ensures lacks { left_on self.old name.now ≡ None → IsErr result }
 
         // It gives as much as the buffer, the piece and the name have.
-        ensures count { IfOk result (λ n. n ≡ min (min (length into.old) self.old.most) (length (unwrap_or (left_on self.old name.now) []))) }
+        ensures count { let left = unwrap_or (left_on self.old name.now) [] in
+            IfOk result (λ n. n ≡ min (min (length into.old) self.old.most) (length left)) }
         ensures bound { IfOk result (λ n. n ≤ length into.new) }
         ensures bytes { IfOk result (λ n. left_on self.old name.now ≡ before (take n into.new) (left_on self.new name.now)) }
         ensures end { IfOk result (λ n. n ≡ 0 → left_on self.old name.now ≡ Some []) }
@@ -109,8 +116,8 @@ impl Shelf for MemShelf {
         ensures cause { OnErr result (Rose (faults_on self.old name.now) (faults_on self.new name.now)) }
 
         // The other names, the number of the next read, and the settings.
-        ensures others { (other : List ℕ) → other ≢ name.now → left_on self.new other ≡ left_on self.old other }
-        ensures counts { (other : List ℕ) → other ≢ name.now → faults_on self.new other ≡ faults_on self.old other }
+        ensures others { SameElsewhere name.now (left_on self.old) (left_on self.new) }
+        ensures counts { SameElsewhere name.now (faults_on self.old) (faults_on self.new) }
         ensures made { self.new.made ≡ raised self.old.made }
         ensures settings { (self.new.most ≡ self.old.most) × (self.new.failing ≡ self.old.failing) }
     {
@@ -132,7 +139,7 @@ fn place_of(documents: &[Document], name: &str) -> Option<usize>
 /// Keeps a document, in place of the one of its name.
 fn keep(documents: &mut Vec<Document>, document: Document) -> Result<(), NoMemory>
     ensures kept { OnOk result (document_in documents.new.items document.name ≡ Some document) }
-    ensures others { (other : List ℕ) → other ≢ document.name → document_in documents.new.items other ≡ document_in documents.old.items other }
+    ensures others { SameElsewhere document.name (document_in documents.old.items) (document_in documents.new.items) }
     ensures err { OnErr result (documents.new.items ≡ documents.old.items) }
 {
     match place_of(documents, document.name()) {
@@ -164,13 +171,17 @@ fn read_from(
     fails: bool,
 ) -> Result<usize, Failed>
     ensures failed { IsErr result ↔ (IsTrue fails ⊎ (left_in documents.old.items name.now ≡ None)) }
-    ensures count { IfOk result (λ n. n ≡ min (min (length into.old) most) (length (unwrap_or (left_in documents.old.items name.now) []))) }
-    ensures bytes { IfOk result (λ n. left_in documents.old.items name.now ≡ before (take n into.new) (left_in documents.new.items name.now)) }
+    ensures count { let left = unwrap_or (left_in documents.old.items name.now) [] in
+        IfOk result (λ n. n ≡ min (min (length into.old) most) (length left)) }
+    ensures bytes { IfOk result (λ n.
+        left_in documents.old.items name.now
+        ≡ before (take n into.new) (left_in documents.new.items name.now)) }
     ensures kept { OnErr result (left_in documents.new.items name.now ≡ left_in documents.old.items name.now) }
     ensures quiet { OnOk result (faults_in documents.new.items name.now ≡ faults_in documents.old.items name.now) }
-    ensures raised { OnErr result (faults_in documents.new.items name.now ≡ raised (faults_in documents.old.items name.now)) }
+    ensures raised { OnErr result (faults_in documents.new.items name.now
+        ≡ raised (faults_in documents.old.items name.now)) }
     ensures grows { faults_in documents.old.items name.now ≤ faults_in documents.new.items name.now }
-    ensures others { (other : List ℕ) → other ≢ name.now → document_in documents.new.items other ≡ document_in documents.old.items other }
+    ensures others { SameElsewhere name.now (document_in documents.old.items) (document_in documents.new.items) }
 {
     match place_of(documents, name) {
         None => Err(Failed),

@@ -26,7 +26,14 @@ impl Model for MemSink {
 
     ghost Value = { Sunk };
 
-    ghost view = { λ s. record { written = s.bytes.items; room = s.room; most = s.most; made = s.turns.made; failing = s.turns.failing; faults = s.faults } };
+    ghost view = { λ s. record {
+      written = s.bytes.items;
+      room = s.room;
+      most = s.most;
+      made = s.turns.made;
+      failing = s.turns.failing;
+      faults = s.faults;
+    } };
 
     ghost invariant = { λ s. (0 < s.most) × (length s.bytes.items ≤ s.room) × (s.room ≤ vec_capacity s.bytes) };
 }
@@ -35,7 +42,14 @@ impl MemSink {
     /// A sink with no bytes and room for so many, which takes whole pieces. All
     /// its memory is taken here.
     pub fn new(alloc: Global, room: usize) -> Result<MemSink, NoMemory>
-        ensures { IfOk result (λ s. s ≡ record { written = []; room = room; most = usize.MAX; made = 0; failing = None; faults = 0 }) }
+        ensures { IfOk result (λ s. s ≡ record {
+          written = [];
+          room = room;
+          most = usize.MAX;
+          made = 0;
+          failing = None;
+          faults = 0;
+        }) }
     {
         match Vec::with_capacity(alloc, room) {
             Ok(bytes) => Ok(MemSink {
@@ -87,7 +101,8 @@ impl Sink for MemSink {
         requires { 0 < length piece.now }
 
         // It fails at the chosen put, and where there is no room for what it would append.
-        ensures fails { IsErr result ↔ ((self.old.failing ≡ Some (self.old.made + 1)) ⊎ (self.old.room < length self.old.written + min (length piece.now) self.old.most)) }
+        ensures fails { IsErr result ↔ ((self.old.failing ≡ Some (self.old.made + 1))
+            ⊎ (self.old.room < length self.old.written + min (length piece.now) self.old.most)) }
 
         // It appends the piece, as far as it takes so much.
         ensures count { IfOk result (λ n. n ≡ min (length piece.now) self.old.most) }
@@ -104,7 +119,8 @@ impl Sink for MemSink {
 
         // The number of the next put, and the settings.
         ensures made { self.new.made ≡ raised self.old.made }
-        ensures settings { (self.new.room ≡ self.old.room) × (self.new.most ≡ self.old.most) × (self.new.failing ≡ self.old.failing) }
+        ensures settings { (self.new.room ≡ self.old.room) × (self.new.most ≡ self.old.most)
+            × (self.new.failing ≡ self.old.failing) }
     {
         let fails = self.turns.next();
         let count = piece.len().min(self.most);

@@ -1,7 +1,7 @@
 //! What a program asks of the outside.
 
-ghost use Rattle.std.specs.Prelude.{◌≡◌, ◌≢◌, ◌<◌, ◌≤◌, ◌++◌, ℕ, List, [], Option, Bool, length, take, IsTrue, IfOk, OnErr, IsErr};
-ghost use Rattle.owl_port.specs.Outside.{Rose, before};
+ghost use Rattle.std.specs.Prelude.{◌≡◌, ◌<◌, ◌≤◌, ◌++◌, ℕ, List, [], Option, Bool, length, take, IsTrue, IfOk, OnErr, IsErr};
+ghost use Rattle.owl_port.specs.Outside.{Rose, SameElsewhere, before};
 
 use thiserror::Error;
 
@@ -30,16 +30,17 @@ pub trait Shelf {
         ensures told { tells self.new ≡ tells self.old }
 
         // The map, where the shelf tells it.
-        ensures bytes { IsTrue (tells self.old) → IfOk result (λ n. left self.old name.now ≡ before (take n into.new) (left self.new name.now)) }
+        ensures bytes { IsTrue (tells self.old) →
+            IfOk result (λ n. left self.old name.now ≡ before (take n into.new) (left self.new name.now)) }
         ensures end { IsTrue (tells self.old) → IfOk result (λ n. n ≡ 0 → left self.old name.now ≡ Some []) }
         ensures lacks { IsTrue (tells self.old) → left self.old name.now ≡ None → IsErr result }
         ensures failed { IsTrue (tells self.old) → OnErr result (left self.new name.now ≡ left self.old name.now) }
-        ensures others { IsTrue (tells self.old) → (other : List ℕ) → other ≢ name.now → left self.new other ≡ left self.old other }
+        ensures others { IsTrue (tells self.old) → SameElsewhere name.now (left self.old) (left self.new) }
 
         // The counts of faults, also where it does not tell.
         ensures cause { OnErr result (Rose (faults self.old name.now) (faults self.new name.now)) }
         ensures faults { faults self.old name.now ≤ faults self.new name.now }
-        ensures counts { (other : List ℕ) → other ≢ name.now → faults self.new other ≡ faults self.old other };
+        ensures counts { SameElsewhere name.now (faults self.old) (faults self.new) };
 }
 
 /// A place that bytes are put to, one after another.
@@ -60,7 +61,8 @@ pub trait Sink {
         ensures some { IfOk result (λ n. 0 < n) }
         ensures bound { IfOk result (λ n. n ≤ length piece.now) }
         ensures told { tells self.new ≡ tells self.old }
-        ensures bytes { IsTrue (tells self.old) → IfOk result (λ n. written self.new ≡ written self.old ++ take n piece.now) }
+        ensures bytes { IsTrue (tells self.old) →
+            IfOk result (λ n. written self.new ≡ written self.old ++ take n piece.now) }
         ensures failed { IsTrue (tells self.old) → OnErr result (written self.new ≡ written self.old) }
         ensures cause { OnErr result (Rose (faults self.old) (faults self.new)) }
         ensures faults { faults self.old ≤ faults self.new };

@@ -37,7 +37,7 @@ impl Turns {
     /// Counts a call, and says whether it is the one that is to fail.
     pub fn next(&mut self) -> bool
         ensures fails { IsTrue result ↔ (self.old.failing ≡ Some (self.old.made + 1)) }
-        ensures counted { self.new ≡ record { made = raised self.old.made; failing = self.old.failing } }
+        ensures counted { self.new ≡ record self.old { made = raised self.old.made } }
     {
         let fails = self.is_next();
         self.made = self.made.saturating_add(1);

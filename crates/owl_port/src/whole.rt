@@ -1,7 +1,7 @@
 //! Whole documents out of a shelf, and whole texts into a sink.
 
-ghost use Rattle.std.specs.Prelude.{◌≡◌, ◌≢◌, ◌<◌, ◌≤◌, ◌+◌, ◌^◌, ◌++◌, ℕ, List, [], Some, length, take, vec_len, IsTrue, IfOk, OnOk, OnErr, IsOk, Err};
-ghost use Rattle.owl_port.specs.Outside.{Rose, before};
+ghost use Rattle.std.specs.Prelude.{◌≡◌, ◌<◌, ◌≤◌, ◌+◌, ◌^◌, ◌++◌, ℕ, List, [], Some, length, take, vec_len, IsTrue, IfOk, OnOk, OnErr, IsOk, Err};
+ghost use Rattle.owl_port.specs.Outside.{Rose, SameElsewhere, before};
 
 use crate::outside::{Failed, Shelf, Sink};
 use std::alloc::{AllocError, Global};
@@ -61,17 +61,23 @@ pub fn read_all<S: Shelf>(
     ensures told { S.tells shelf.new ≡ S.tells shelf.old }
 
     // What comes out, and what is left under the name.
-    ensures whole { IsTrue (S.tells shelf.old) → IfOk result (λ bytes. S.left shelf.old name.now ≡ Some bytes.items) }
+    ensures whole { IsTrue (S.tells shelf.old) →
+        IfOk result (λ bytes. S.left shelf.old name.now ≡ Some bytes.items) }
     ensures emptied { IsTrue (S.tells shelf.old) → OnOk result (S.left shelf.new name.now ≡ Some []) }
     ensures within { IfOk result (λ bytes. vec_len bytes ≤ limit) }
-    ensures too_long { IsTrue (S.tells shelf.old) → result ≡ Err ReadFault.TooLong → (taken rest : List ℕ) × (S.left shelf.old name.now ≡ Some (taken ++ rest)) × (S.left shelf.new name.now ≡ Some rest) × (length taken ≡ limit + 1) }
-    ensures taken { IsTrue (S.tells shelf.old) → (taken : List ℕ) × (length taken ≤ limit + 1) × (S.left shelf.old name.now ≡ before taken (S.left shelf.new name.now)) }
+    ensures too_long { IsTrue (S.tells shelf.old) → result ≡ Err ReadFault.TooLong →
+        (taken rest : List ℕ) × (S.left shelf.old name.now ≡ Some (taken ++ rest))
+        × (S.left shelf.new name.now ≡ Some rest) × (length taken ≡ limit + 1) }
+    ensures taken { IsTrue (S.tells shelf.old) →
+        (taken : List ℕ) × (length taken ≤ limit + 1)
+        × (S.left shelf.old name.now ≡ before taken (S.left shelf.new name.now)) }
 
     // The counts of faults, and every other name.
-    ensures failed { result ≡ Err ReadFault.Failed → Rose (S.faults shelf.old name.now) (S.faults shelf.new name.now) }
+    ensures failed { result ≡ Err ReadFault.Failed →
+        Rose (S.faults shelf.old name.now) (S.faults shelf.new name.now) }
     ensures faults { S.faults shelf.old name.now ≤ S.faults shelf.new name.now }
-    ensures others { IsTrue (S.tells shelf.old) → (other : List ℕ) → other ≢ name.now → S.left shelf.new other ≡ S.left shelf.old other }
-    ensures counts { (other : List ℕ) → other ≢ name.now → S.faults shelf.new other ≡ S.faults shelf.old other }
+    ensures others { IsTrue (S.tells shelf.old) → SameElsewhere name.now (S.left shelf.old) (S.left shelf.new) }
+    ensures counts { SameElsewhere name.now (S.faults shelf.old) (S.faults shelf.new) }
 {
     let most = limit as usize + 1;
     let mut all = Vec::new(alloc);
@@ -92,8 +98,11 @@ pub fn read_all<S: Shelf>(
 /// nothing. After `Failed` a front of them was put. Takes no memory.
 pub fn put_all<S: Sink>(sink: &mut S, bytes: &[u8]) -> Result<(), Failed>
     ensures told { S.tells sink.new ≡ S.tells sink.old }
-    ensures whole { IsTrue (S.tells sink.old) → OnOk result (S.written sink.new ≡ S.written sink.old ++ bytes.now) }
-    ensures front { IsTrue (S.tells sink.old) → OnErr result ((n : ℕ) × (n < length bytes.now) × (S.written sink.new ≡ S.written sink.old ++ take n bytes.now)) }
+    ensures whole { IsTrue (S.tells sink.old) →
+        OnOk result (S.written sink.new ≡ S.written sink.old ++ bytes.now) }
+    ensures front { IsTrue (S.tells sink.old) →
+        OnErr result ((n : ℕ) × (n < length bytes.now)
+        × (S.written sink.new ≡ S.written sink.old ++ take n bytes.now)) }
     ensures failed { OnErr result (Rose (S.faults sink.old) (S.faults sink.new)) }
     ensures faults { S.faults sink.old ≤ S.faults sink.new }
     ensures none { bytes.now ≡ [] → IsOk result × (sink.new ≡ sink.old) }

@@ -1,5 +1,5 @@
-use Rattle.std.proofs.Common.{◌≡◌, ◌≢◌, ◌≤◌, ◌+◌, ◌-◌, ℕ, List, [], None, length, IsTrue}
-use Rattle.owl_port.specs.Outside.{before}
+use Rattle.std.proofs.Common.{◌≡◌, ◌≤◌, ◌+◌, ◌-◌, [], None, length, IsTrue}
+use Rattle.owl_port.specs.Outside.{SameElsewhere, before}
 use Rattle.owl_port.proofs.whole.read_all.Given as goal
 
 abbrev pub invariant-loop-buffer : goal.invariant-loop-buffer
@@ -10,8 +10,8 @@ invariant-loop-buffer g l = record {
   taken : IsTrue (g.S.Shelf.tells l.fn.shelf) → g.S.Shelf.left l.fn.shelf l.name ≡ before l.all.items (g.S.Shelf.left l.shelf l.name);
   lacks : IsTrue (g.S.Shelf.tells l.fn.shelf) → g.S.Shelf.left l.shelf l.name ≡ None → l.all.items ≡ [];
   faults : g.S.Shelf.faults l.fn.shelf l.name ≤ g.S.Shelf.faults l.shelf l.name;
-  others : IsTrue (g.S.Shelf.tells l.fn.shelf) → (other : List ℕ) → other ≢ l.name → g.S.Shelf.left l.shelf other ≡ g.S.Shelf.left l.fn.shelf other;
-  counts : (other : List ℕ) → other ≢ l.name → g.S.Shelf.faults l.shelf other ≡ g.S.Shelf.faults l.fn.shelf other;
+  others : IsTrue (g.S.Shelf.tells l.fn.shelf) → SameElsewhere l.name (g.S.Shelf.left l.fn.shelf) (g.S.Shelf.left l.shelf);
+  counts : SameElsewhere l.name (g.S.Shelf.faults l.fn.shelf) (g.S.Shelf.faults l.shelf);
 }
 
 abbrev pub decreases-loop-buffer : goal.decreases-loop-buffer
