@@ -2,7 +2,6 @@ use super::*;
 use owl_text::Text;
 use std::test::Fail;
 
-/// Asserts what `read_all` gives of a document, in pieces of several sizes.
 #[test]
 fn reads_up_to_the_limit(rt: HostRuntime) -> Result<(), Fail> {
     for most in [1usize, 2, 3, 7] {

@@ -49,8 +49,8 @@ const PIECE: usize = 4096;
 /// All bytes that are left under the name, at most `limit` of them.
 ///
 /// `Failed` where a read failed; `TooLong` where more than `limit` bytes are
-/// there, once `limit + 1` of them were taken; `Memory`. Also after a refusal
-/// the bytes that were taken are gone from the shelf.
+/// there, once `limit + 1` of them were taken; `Memory`. Bytes that were taken
+/// are gone from the shelf, after a refusal too.
 pub fn read_all<S: Shelf>(
     alloc: Global,
     shelf: &mut S,
@@ -84,6 +84,7 @@ pub fn read_all<S: Shelf>(
     let mut buffer = [0u8; PIECE];
     while all.len() < most {
         let room = (most - all.len()).min(PIECE);
+        // Before the read, so that no byte is taken and then lost for want of memory.
         all.reserve(room)?;
         let count = shelf.read(name, &mut buffer[..room])?;
         if count == 0 {
