@@ -1,0 +1,3 @@
+pub mod MemShelf
+pub mod MemSink
+pub mod Outside
