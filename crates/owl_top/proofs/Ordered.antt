@@ -26,7 +26,7 @@ derived_is (Declares a) (Sub b d) = refl
 derived_is (Sub a c) (Declares b) = refl
 derived_is (Sub a c) (Sub b d) = refl
 
-derived_same : derived.ghosts.cmp ≡ axiom_cmp
+pub derived_same : derived.ghosts.cmp ≡ axiom_cmp
 derived_same = λ i x y. derived_is x y i
 
 pub axiom_cmp_total : IsTotalOrder axiom_cmp
@@ -135,7 +135,7 @@ ascending_unique (x ∷ xs) (y ∷ ys) a b h =
 
 -- what `put` leaves
 below_by : (o : Ordering) (z x y : FirstAxiom) (ys rest : List FirstAxiom) → axiom_cmp z x ≡ Less → axiom_cmp z y ≡ Less → IsBelowAll z ys → IsBelowAll z rest → IsBelowAll z (by_order o (x ∷ y ∷ ys) (y ∷ ys) (y ∷ rest))
-below_by Less z x y ys rest e f h k = (e, f, h)
+below_by Less z x y ys rest e f h k = (e, (f, h))
 below_by Equal z x y ys rest e f h k = (f, h)
 below_by Greater z x y ys rest e f h k = (f, k)
 
