@@ -1,3 +1,4 @@
 pub mod Asking
 pub mod Ordered
 pub mod Arranged
+pub mod ReadsBack

@@ -74,7 +74,7 @@ pub in_cases : (y : FirstAxiom) (ys : List FirstAxiom) (x : FirstAxiom) → Cont
 in_cases y ys x h = in_cases_at y ys x h.0 h.1 h.2
 
 -- what is below all of a list is below each of it
-all_in : (P : FirstAxiom → Type 0) (xs : List FirstAxiom) (x : FirstAxiom) → AllByRecursion P xs → Contains xs x → P x
+pub all_in : (P : FirstAxiom → Type 0) (xs : List FirstAxiom) (x : FirstAxiom) → AllByRecursion P xs → Contains xs x → P x
 all_in P [] x h k = absurd (in_none x k)
 all_in P (y ∷ ys) x h k = elim (in_cases y ys x k) [ inl e ↦ subst P e h.0 | inr m ↦ all_in P ys x h.1 m ]
 

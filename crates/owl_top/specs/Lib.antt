@@ -1,3 +1,4 @@
 pub mod Canonical
 pub mod Commands
 pub mod Status
+pub mod Text
