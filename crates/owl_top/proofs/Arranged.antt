@@ -32,6 +32,7 @@ arranged xs zs ys p s f =
     let sorted = subst (λ (r : FirstAxiom → FirstAxiom → Ordering). IsSorted r zs) derived_same s in
     let ascends = IsStrictlySortedBy-dedup axiom_cmp_total ties zs sorted in
     let holds : HoldSame (dedup equality.ghosts.eq zs) xs = λ x. (
-        λ m. Contains-permutation zs xs x (IsPermutation-sym xs zs p) (Contains-from_dedup equality.ghosts.eq zs x m),
-        λ m. Contains-dedup equivalence equal_is_same zs x (Contains-permutation xs zs x p m)) in
+      λ m. Contains-permutation zs xs x (IsPermutation-sym xs zs p) (Contains-from_dedup equality.ghosts.eq zs x m),
+      λ m. Contains-dedup equivalence equal_is_same zs x (Contains-permutation xs zs x p m),
+    ) in
     e ∙ canonical_is xs (dedup equality.ghosts.eq zs) ascends holds

@@ -2,3 +2,4 @@ pub mod Asking
 pub mod Ordered
 pub mod Arranged
 pub mod ReadsBack
+pub mod Joins

@@ -111,16 +111,19 @@ not_both x y e f = not_itself x (axiom_cmp_total.trans x y x e f)
 head_same : (x y : FirstAxiom) (xs ys : List FirstAxiom) → IsAscending (x ∷ xs) → IsAscending (y ∷ ys) → HoldSame (x ∷ xs) (y ∷ ys) → x ≡ y
 head_same x y xs ys a b h =
     elim (in_cases y ys x ((h x).0 (in_head x xs))) [
-      inl e ↦ sym e
-    | inr m ↦ elim (in_cases x xs y ((h y).1 (in_head y ys))) [
-        inl f ↦ f
-      | inr n ↦ absurd (not_both x y (all_in (λ z. axiom_cmp x z ≡ Less) xs y (head_below x xs a) n) (all_in (λ z. axiom_cmp y z ≡ Less) ys x (head_below y ys b) m)) ] ]
+      | inl e ↦ sym e
+      | inr m ↦ elim (in_cases x xs y ((h y).1 (in_head y ys))) [
+        | inl f ↦ f
+        | inr n ↦ absurd (not_both x y (all_in (λ z. axiom_cmp x z ≡ Less) xs y (head_below x xs a) n) (all_in (λ z. axiom_cmp y z ≡ Less) ys x (head_below y ys b) m))
+      ]
+    ]
 
 tail_in : (x z : FirstAxiom) (xs ys : List FirstAxiom) → IsAscending (x ∷ xs) → (Contains (x ∷ xs) z → Contains (x ∷ ys) z) → Contains xs z → Contains ys z
 tail_in x z xs ys a h m =
     elim (in_cases x ys z (h (in_tail x xs z m))) [
-      inl e ↦ absurd (not_itself x (subst (λ (w : FirstAxiom). axiom_cmp x w ≡ Less) (sym e) (all_in (λ w. axiom_cmp x w ≡ Less) xs z (head_below x xs a) m)))
-    | inr n ↦ n ]
+      | inl e ↦ absurd (not_itself x (subst (λ (w : FirstAxiom). axiom_cmp x w ≡ Less) (sym e) (all_in (λ w. axiom_cmp x w ≡ Less) xs z (head_below x xs a) m)))
+      | inr n ↦ n
+    ]
 
 pub ascending_unique : (xs ys : List FirstAxiom) → IsAscending xs → IsAscending ys → HoldSame xs ys → xs ≡ ys
 ascending_unique [] [] a b h = refl
@@ -183,8 +186,9 @@ from_by Less x y z ys rest f m = in_cases x (y ∷ ys) z m
 from_by Equal x y z ys rest f m = inr m
 from_by Greater x y z ys rest f m =
     elim (in_cases y rest z m) [
-      inl e ↦ inr (subst (λ (w : FirstAxiom). Contains (y ∷ ys) w) e (in_head y ys))
-    | inr n ↦ elim (f n) [ inl e ↦ inl e | inr k ↦ inr (in_tail y ys z k) ] ]
+      | inl e ↦ inr (subst (λ (w : FirstAxiom). Contains (y ∷ ys) w) e (in_head y ys))
+      | inr n ↦ elim (f n) [ inl e ↦ inl e | inr k ↦ inr (in_tail y ys z k) ]
+    ]
 
 from_put : (x z : FirstAxiom) (ys : List FirstAxiom) → Contains (put x ys) z → (x ≡ z) ⊎ Contains ys z
 from_put x z [] m = in_cases x [] z m
@@ -194,7 +198,8 @@ pub canonical_holds : (xs : List FirstAxiom) → HoldSame (canonical xs) xs
 canonical_holds [] = λ z. (λ m. m, λ m. m)
 canonical_holds (x ∷ xs) = λ z. (
   λ m. elim (from_put x z (canonical xs) m) [ inl e ↦ subst (λ (w : FirstAxiom). Contains (x ∷ xs) w) e (in_head x xs) | inr n ↦ in_tail x xs z ((canonical_holds xs z).0 n) ],
-  λ m. put_in x z (canonical xs) (elim (in_cases x xs z m) [ inl e ↦ inl e | inr n ↦ inr ((canonical_holds xs z).1 n) ]))
+  λ m. put_in x z (canonical xs) (elim (in_cases x xs z m) [ inl e ↦ inl e | inr n ↦ inr ((canonical_holds xs z).1 n) ]),
+)
 
 pub same_sym : (xs ys : List FirstAxiom) → HoldSame xs ys → HoldSame ys xs
 same_sym xs ys h = λ z. ((h z).1, (h z).0)

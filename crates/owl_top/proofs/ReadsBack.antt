@@ -74,7 +74,7 @@ cuts_axiom (Sub sub super) bytes tokens h k =
     let first = cuts_iri sub _ _ h.0 (cuts_space 32 _ _ refl (cuts_iri super _ _ h.1 ends)) in
     let whole = cuts_opening (codes "SubClassOf") _ _ (search rules) first in
     let line : (bracketed sub ++ (codes " " ++ (bracketed super ++ codes ")\n"))) ++ bytes ≡ bracketed sub ++ 32 ∷ (bracketed super ++ 41 ∷ 10 ∷ bytes) =
-        append_assoc (bracketed sub) (codes " " ++ (bracketed super ++ codes ")\n")) bytes ∙ ap (λ (x : List ℕ). bracketed sub ++ 32 ∷ x) (append_assoc (bracketed super) (codes ")\n") bytes) in
+    append_assoc (bracketed sub) (codes " " ++ (bracketed super ++ codes ")\n")) bytes ∙ ap (λ (x : List ℕ). bracketed sub ++ 32 ∷ x) (append_assoc (bracketed super) (codes ")\n") bytes) in
     subst (λ (x : List ℕ). Cuts (codes "SubClassOf(" ++ x) (axiom_tokens (Sub sub super) ++ tokens)) (sym line) whole
 
 cuts_axioms : (xs : List FirstAxiom) (bytes : List ℕ) (tokens : List Token) → AllByRecursion IsWritable xs → Cuts bytes tokens → Cuts (flat_map axiom_line xs ++ bytes) (flat_map axiom_tokens xs ++ tokens)

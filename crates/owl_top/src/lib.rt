@@ -3,7 +3,9 @@
 
 mod canonical;
 mod command;
+mod draft;
 mod status;
+mod writer;
 
 pub use command::{Command, Target, WordsFault, words};
 pub use status::Status;
