@@ -28,10 +28,10 @@ module _ {X : Type 0} (line : X → List ℕ) where
   pub too_long_at : (limit : ℕ) (start now : List ℕ) (xs : List X) (i : ℕ) (x : X) → now ≡ start ++ flat_map line (take i xs) → i < length xs → x ≡ get_or xs i x → limit < length (now ++ line x) → limit < length (start ++ flat_map line xs)
   too_long_at limit start now xs i x e h is l =
       let whole : start ++ flat_map line xs ≡ (now ++ line x) ++ flat_map line (drop (suc i) xs) =
-          ap (λ (z : List ℕ). start ++ z) (split_at xs i x h is)
-          ∙ sym (append_assoc start (flat_map line (take i xs)) (line x ++ flat_map line (drop (suc i) xs)))
-          ∙ ap (λ (z : List ℕ). z ++ (line x ++ flat_map line (drop (suc i) xs))) (sym e)
-          ∙ sym (append_assoc now (line x) (flat_map line (drop (suc i) xs))) in
+      ap (λ (z : List ℕ). start ++ z) (split_at xs i x h is)
+      ∙ sym (append_assoc start (flat_map line (take i xs)) (line x ++ flat_map line (drop (suc i) xs)))
+      ∙ ap (λ (z : List ℕ). z ++ (line x ++ flat_map line (drop (suc i) xs))) (sym e)
+      ∙ sym (append_assoc now (line x) (flat_map line (drop (suc i) xs))) in
       omega (arith, ap (λ (z : List ℕ). length z) whole, length-append (now ++ line x) (flat_map line (drop (suc i) xs)))
 
 -- the error that a `?` passes on

@@ -3,3 +3,4 @@ pub mod Ordered
 pub mod Arranged
 pub mod ReadsBack
 pub mod Joins
+pub mod Fed

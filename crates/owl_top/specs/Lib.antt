@@ -1,4 +1,5 @@
 pub mod Canonical
 pub mod Commands
+pub mod Outcome
 pub mod Status
 pub mod Text

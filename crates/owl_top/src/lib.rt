@@ -4,6 +4,7 @@
 mod canonical;
 mod command;
 mod draft;
+mod reading;
 mod status;
 mod writer;
 
