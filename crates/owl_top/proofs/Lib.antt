@@ -4,3 +4,4 @@ pub mod Arranged
 pub mod ReadsBack
 pub mod Joins
 pub mod Fed
+pub mod Answering

@@ -1,10 +1,9 @@
 //! What a run answers, before anything is written.
 
-ghost use Rattle.std.specs.Prelude.{◌≡◌, ◌^◌, ◌≤◌, ◌×◌, ℕ, List, Some, [], length, string_bytes, IsTrue, IfOk};
+ghost use Rattle.std.specs.Prelude.{◌≡◌, ◌++◌, codes, ℕ, List, Some, [], string_bytes, length, ◌≤◌, ◌^◌, IsTrue, IfOk, IfErr, OnOk, IsErr};
 ghost use Rattle.owl_port.specs.Outside.{Rose, SameElsewhere};
-ghost use Rattle.owl_top.specs.Outcome.{IsTranslation, IsSettled, LineFor};
-ghost use Rattle.owl_top.specs.Answers.{outcome_of, IsTold, HasForm};
-ghost use Rattle.owl_top.specs.declared.status.Status.TheVariants.{Done, ReadFailed};
+ghost use Rattle.owl_top.specs.Outcome.{IsSettled, IsTranslation, LineFor};
+ghost use Rattle.owl_top.specs.Answers.{outcome_of, HasNoText, trouble_outcome, of_shelf, of_reader, of_writer, success_outcome, Becomes, IsTheBytes, IsTheDocuments, IsFound};
 
 use crate::draft::WriteFault;
 use crate::reading::read_document;
@@ -21,4 +20,127 @@ pub struct Answer {
     pub status: Status,
     pub text: String,
     pub line: String,
+}
+
+/// Why a document is not translated.
+#[derive(Clone, Copy, Debug, PartialEq, Eq)]
+enum Trouble {
+    ReadFailed,
+    DocumentTooLong,
+    NotBuilt,
+    OutputTooLong,
+    Memory,
+}
+
+impl From<owl_port::ReadFault> for Trouble {
+    ghost from_gives = { λ fault e. e ≡ of_shelf fault };
+
+    fn from(fault: owl_port::ReadFault) -> Trouble {
+        match fault {
+            owl_port::ReadFault::Failed => Trouble::ReadFailed,
+            owl_port::ReadFault::TooLong => Trouble::DocumentTooLong,
+            owl_port::ReadFault::Memory => Trouble::Memory,
+        }
+    }
+}
+
+impl From<fss_read::ReadFault> for Trouble {
+    ghost from_gives = { λ fault e. e ≡ of_reader fault };
+
+    fn from(fault: fss_read::ReadFault) -> Trouble {
+        match fault {
+            fss_read::ReadFault::NotBuilt => Trouble::NotBuilt,
+            fss_read::ReadFault::TooLong => Trouble::DocumentTooLong,
+            fss_read::ReadFault::Memory => Trouble::Memory,
+        }
+    }
+}
+
+impl From<WriteFault> for Trouble {
+    ghost from_gives = { λ fault e. e ≡ of_writer fault };
+
+    fn from(fault: WriteFault) -> Trouble {
+        match fault {
+            WriteFault::TooLong => Trouble::OutputTooLong,
+            WriteFault::Memory => Trouble::Memory,
+        }
+    }
+}
+
+/// An answer that writes its line and nothing else.
+fn refused(
+    alloc: Global,
+    status: Status,
+    line: Result<String, AllocError>,
+) -> Result<Answer, NoMemory>
+    ensures ok { IfOk result (λ answer. IfOk line (λ text. outcome_of answer ≡ record { status = status; text = []; line = string_bytes text })) }
+    ensures only { IsErr line → IsErr result }
+{
+    match line {
+        Ok(line) => Ok(Answer {
+            status,
+            text: String::new(alloc),
+            line,
+        }),
+        Err(AllocError) => Err(NoMemory),
+    }
+}
+
+fn not_built_line(alloc: Global, name: &str) -> Result<String, AllocError>
+    ensures { IfOk result (λ line. string_bytes line ≡ (name.now ++ codes ": NotBuilt") ++ codes "\n") }
+{
+    format!(in alloc; "{name}: NotBuilt\n")
+}
+
+impl Trouble {
+    /// What is answered where there is this trouble with the document of this name.
+    fn answer(self, alloc: Global, name: &str) -> Result<Answer, NoMemory>
+        ensures outcome { IfOk result (λ answer. outcome_of answer ≡ trouble_outcome name.now self) }
+        ensures found { IfOk result (λ answer. IsFound answer.status) }
+    {
+        match self {
+            Trouble::ReadFailed => refused(
+                alloc,
+                Status::ReadFailed,
+                format!(in alloc; "read: {name}\n"),
+            ),
+            Trouble::DocumentTooLong => refused(
+                alloc,
+                Status::Limit,
+                format!(in alloc; "limit: DocumentBytes: {name}\n"),
+            ),
+            Trouble::NotBuilt => refused(alloc, Status::Document, not_built_line(alloc, name)),
+            Trouble::OutputTooLong => refused(
+                alloc,
+                Status::Limit,
+                format!(in alloc; "limit: OutputBytes: output\n"),
+            ),
+            Trouble::Memory => Err(NoMemory),
+        }
+    }
+}
+
+/// What is answered where there is a translation.
+fn success(alloc: Global, translation: Translation) -> Result<Answer, NoMemory>
+    ensures outcome { IfOk result (λ answer. outcome_of answer ≡ success_outcome translation) }
+{
+    let axioms = translation.axioms;
+    match format!(in alloc; "translated; axioms {axioms}; absorbed 0\n") {
+        Ok(line) => Ok(Answer {
+            status: Status::Done,
+            text: translation.text,
+            line,
+        }),
+        Err(AllocError) => Err(NoMemory),
+    }
+}
+
+/// The translation of the bytes of a document.
+fn translation_of_bytes(alloc: Global, bytes: &[u8]) -> Result<Translation, Trouble>
+    requires { length bytes.now ≤ 2 ^ 27 }
+    ensures ok { IfOk result (λ translation. (name : List ℕ) → IsTranslation name bytes.now (success_outcome translation)) }
+    ensures trouble { IfErr result (λ trouble. (name : List ℕ) → IsTheBytes name bytes.now trouble) }
+{
+    let document = read_document(alloc, bytes)?;
+    Ok(write(alloc, document)?)
 }

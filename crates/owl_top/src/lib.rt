@@ -1,6 +1,7 @@
 //! All that the program does, over any shelf of documents and any sinks.
 #![tactic(auto)]
 
+mod answer;
 mod canonical;
 mod command;
 mod draft;
