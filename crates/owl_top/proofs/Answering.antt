@@ -1,13 +1,14 @@
 -- What is answered is the outcome.
-use Rattle.std.proofs.Common.{Result, Ok, Err, ◌≡◌, ◌<◌, ◌≤◌, ◌^◌, ℕ, Option, Some, List, [], ◌++◌, length, string_bytes, codes, refl, sym, ap, ◌∙◌, subst}
+use Rattle.std.proofs.Common.{inl, inr, Result, Ok, Err, ◌≡◌, ◌<◌, ◌≤◌, ◌^◌, ℕ, Option, Some, List, [], ◌++◌, length, string_bytes, codes, refl, sym, ap, ◌∙◌, subst}
 use Rattle.std.specs.Result.{IfErr, IfOk, IsErrAnd, IsErrOf}
+use Rattle.std.proofs.lemmas.List.{append_assoc}
 use Rattle.fss_read.specs.Document.{Document}
 use Rattle.fss_read.specs.Grammar.{Reads}
 use Rattle.fss_read.specs.declared.fault.ReadFault as read
 use Rattle.fss_read.specs.declared.fault.ReadFault.TheVariants as rf
 use Rattle.owl_top.specs.Canonical.{canonical}
 use Rattle.owl_top.specs.Text.{text_of}
-use Rattle.owl_top.specs.Outcome.{Outcome, IsTranslation, document_too_long, no_document, text_too_long, succeeds, translated, done_line}
+use Rattle.owl_top.specs.Outcome.{Outcome, IsTranslation, document_too_long, no_document, text_too_long, succeeds, translated, done_line, LineFor}
 use Rattle.owl_top.specs.Answers.{success_outcome, trouble_outcome, of_shelf, of_reader, of_writer, IsTheBytes, IsTheDocuments, Becomes}
 use Rattle.owl_top.specs.declared.draft.WriteFault.{WriteFault}
 use Rattle.owl_top.specs.declared.draft.WriteFault.TheVariants as wf
@@ -31,3 +32,24 @@ pub writer_trouble : {T : Type 0} (r : Result T Trouble) (fault : WriteFault) (b
 writer_trouble (Ok x) fault bytes document w d e f = tt
 writer_trouble (Err y) wf.TooLong bytes document w d e f = subst (λ (z : Trouble). (name : List ℕ) → IsTheBytes name bytes z) (sym e) (λ name. text_too_long w document d (f refl) refl)
 writer_trouble (Err y) wf.Memory bytes document w d e f = subst (λ (z : Trouble). (name : List ℕ) → IsTheBytes name bytes z) (sym e) (λ name. tt)
+
+pub the_documents : (name bytes : List ℕ) (left : Option (List ℕ)) (trouble : Trouble) → left ≡ Some bytes → ((name : List ℕ) → IsTheBytes name bytes trouble) → IsTheDocuments name left trouble
+the_documents name bytes left t.ReadFailed e f = tt
+the_documents name bytes left t.DocumentTooLong e f = absurd (f name)
+the_documents name bytes left t.NotBuilt e f = (bytes, e, f name)
+the_documents name bytes left t.OutputTooLong e f = (bytes, e, f name)
+the_documents name bytes left t.Memory e f = tt
+
+-- the lines are those of their statuses
+pub success_line : (name : List ℕ) (outcome : Outcome) (translation : Translation) → outcome ≡ success_outcome translation → LineFor name outcome.status outcome.line
+success_line name outcome translation e = subst (λ (o : Outcome). LineFor name o.status o.line) (sym e) (translation.axioms, refl)
+
+line_of : (name : List ℕ) (trouble : Trouble) → LineFor name (trouble_outcome name trouble).status (trouble_outcome name trouble).line
+line_of name t.ReadFailed = append_assoc (codes "read: ") name (codes "\n")
+line_of name t.DocumentTooLong = inl (append_assoc (codes "limit: DocumentBytes: ") name (codes "\n"))
+line_of name t.NotBuilt = append_assoc name (codes ": NotBuilt") (codes "\n")
+line_of name t.OutputTooLong = inr refl
+line_of name t.Memory = refl
+
+pub trouble_line : (name : List ℕ) (outcome : Outcome) (trouble : Trouble) → outcome ≡ trouble_outcome name trouble → LineFor name outcome.status outcome.line
+trouble_line name outcome trouble e = subst (λ (o : Outcome). LineFor name o.status o.line) (sym e) (line_of name trouble)

@@ -1,6 +1,6 @@
 //! What a run answers, before anything is written.
 
-ghost use Rattle.std.specs.Prelude.{◌≡◌, ◌++◌, codes, ℕ, List, Some, [], string_bytes, length, ◌≤◌, ◌^◌, IsTrue, IfOk, IfErr, OnOk, IsErr};
+ghost use Rattle.std.specs.Prelude.{◌≡◌, ◌++◌, codes, ℕ, List, Some, [], string_bytes, length, ◌≤◌, ◌^◌, IsTrue, IfOk, IfErr, OnOk, IsErr, Err};
 ghost use Rattle.owl_port.specs.Outside.{Rose, SameElsewhere};
 ghost use Rattle.owl_top.specs.Outcome.{IsSettled, IsTranslation, LineFor};
 ghost use Rattle.owl_top.specs.Answers.{outcome_of, HasNoText, trouble_outcome, of_shelf, of_reader, of_writer, success_outcome, Becomes, IsTheBytes, IsTheDocuments, IsFound};
@@ -143,4 +143,39 @@ fn translation_of_bytes(alloc: Global, bytes: &[u8]) -> Result<Translation, Trou
 {
     let document = read_document(alloc, bytes)?;
     Ok(write(alloc, document)?)
+}
+
+/// The translation of the document of this name.
+fn translation_of<S: Shelf>(
+    alloc: Global,
+    name: &str,
+    shelf: &mut S,
+) -> Result<Translation, Trouble>
+    ensures ok { IsTrue (S.tells shelf.old) → IfOk result (λ translation. Becomes name.now (S.left shelf.old name.now) (success_outcome translation)) }
+    ensures trouble { IsTrue (S.tells shelf.old) → IfErr result (IsTheDocuments name.now (S.left shelf.old name.now)) }
+    ensures ended { IsTrue (S.tells shelf.old) → OnOk result (S.left shelf.new name.now ≡ Some []) }
+    ensures others { IsTrue (S.tells shelf.old) → SameElsewhere name.now (S.left shelf.old) (S.left shelf.new) }
+    ensures read_fault { result ≡ Err Trouble.ReadFailed → Rose (S.faults shelf.old name.now) (S.faults shelf.new name.now) }
+{
+    let bytes = read_all(alloc, shelf, name, MOST_BYTES)?;
+    translation_of_bytes(alloc, &bytes)
+}
+
+/// What is answered for the document of this name.
+pub fn answer_of<S: Shelf>(alloc: Global, name: &str, shelf: &mut S) -> Result<Answer, NoMemory>
+    ensures judged { IsTrue (S.tells shelf.old) →
+        IfOk result (λ answer. IsSettled answer.status → Becomes name.now (S.left shelf.old name.now) (outcome_of answer)) }
+    ensures found { IfOk result (λ answer. IsFound answer.status) }
+    ensures line { IfOk result (λ answer. LineFor name.now answer.status (string_bytes answer.line)) }
+    ensures text { IfOk result (λ answer. HasNoText answer.status (string_bytes answer.text)) }
+    ensures ended { IsTrue (S.tells shelf.old) →
+        IfOk result (λ answer. answer.status ≡ Status.Done → S.left shelf.new name.now ≡ Some []) }
+    ensures others { IsTrue (S.tells shelf.old) → SameElsewhere name.now (S.left shelf.old) (S.left shelf.new) }
+    ensures read_fault { IfOk result (λ answer. answer.status ≡ Status.ReadFailed →
+        Rose (S.faults shelf.old name.now) (S.faults shelf.new name.now)) }
+{
+    match translation_of(alloc, name, shelf) {
+        Ok(translation) => success(alloc, translation),
+        Err(trouble) => trouble.answer(alloc, name),
+    }
 }
