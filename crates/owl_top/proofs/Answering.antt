@@ -1,5 +1,5 @@
 -- What is answered is the outcome.
-use Rattle.std.proofs.Common.{inl, inr, Result, Ok, Err, ◌≡◌, ◌<◌, ◌≤◌, ◌^◌, ℕ, Option, Some, List, [], ◌++◌, length, string_bytes, codes, refl, sym, ap, ◌∙◌, subst}
+use Rattle.std.proofs.Common.{◌⊎◌, inl, inr, Result, Ok, Err, ◌≡◌, ◌<◌, ◌≤◌, ◌^◌, ℕ, Option, Some, List, [], ◌++◌, length, string_bytes, codes, refl, sym, ap, ◌∙◌, subst}
 use Rattle.std.specs.Result.{IfErr, IfOk, IsErrAnd, IsErrOf}
 use Rattle.std.proofs.lemmas.List.{append_assoc}
 use Rattle.fss_read.specs.Document.{Document}
@@ -8,13 +8,15 @@ use Rattle.fss_read.specs.declared.fault.ReadFault as read
 use Rattle.fss_read.specs.declared.fault.ReadFault.TheVariants as rf
 use Rattle.owl_top.specs.Canonical.{canonical}
 use Rattle.owl_top.specs.Text.{text_of}
-use Rattle.owl_top.specs.Outcome.{Outcome, IsTranslation, document_too_long, no_document, text_too_long, succeeds, translated, done_line, LineFor}
-use Rattle.owl_top.specs.Answers.{success_outcome, trouble_outcome, of_shelf, of_reader, of_writer, IsTheBytes, IsTheDocuments, Becomes}
+use Rattle.owl_top.specs.Outcome.{Outcome, IsTranslation, document_too_long, no_document, text_too_long, succeeds, translated, done_line, LineFor, IsSettled, IsNoted}
+use Rattle.owl_top.specs.Answers.{outcome_of, delivered_line, IsFound, success_outcome, trouble_outcome, of_shelf, of_reader, of_writer, IsTheBytes, IsTheDocuments, Becomes}
 use Rattle.owl_top.specs.declared.draft.WriteFault.{WriteFault}
 use Rattle.owl_top.specs.declared.draft.WriteFault.TheVariants as wf
 use Rattle.owl_top.specs.declared.answer.Trouble.{Trouble}
 use Rattle.owl_top.specs.declared.answer.Trouble.TheVariants as t
-use Rattle.owl_top.specs.declared.status.Status.TheVariants.{Done}
+use Rattle.owl_top.specs.declared.answer.Answer.{Answer}
+use Rattle.owl_top.specs.declared.status.Status.{Status}
+use Rattle.owl_top.specs.declared.status.Status.TheVariants.{Done, No, Words, Document as NoDocument, Target, Limit, ReadFailed, WriteFailed, Memory}
 use Rattle.owl_top.specs.declared.writer.Translation.{Translation}
 
 pub success_is : (translation : Translation) (document : Document) → string_bytes translation.text ≡ text_of document → translation.axioms ≡ length (canonical document.axioms) → success_outcome translation ≡ translated document
@@ -53,3 +55,32 @@ line_of name t.Memory = refl
 
 pub trouble_line : (name : List ℕ) (outcome : Outcome) (trouble : Trouble) → outcome ≡ trouble_outcome name trouble → LineFor name outcome.status outcome.line
 trouble_line name outcome trouble e = subst (λ (o : Outcome). LineFor name o.status o.line) (sym e) (line_of name trouble)
+
+-- the line that is told with an answer
+delivered_is : (answer : Answer) (status : Status) → IsFound status → delivered_line answer status ≡ string_bytes answer.line
+delivered_is answer Done h = refl
+delivered_is answer No h = absurd h
+delivered_is answer Words h = absurd h
+delivered_is answer NoDocument h = refl
+delivered_is answer Target h = absurd h
+delivered_is answer Limit h = refl
+delivered_is answer ReadFailed h = refl
+delivered_is answer WriteFailed h = absurd h
+delivered_is answer Memory h = absurd h
+
+delivered_alike : (answer : Answer) (result : Status) → IsFound answer.status → result ≡ answer.status → delivered_line answer result ≡ string_bytes answer.line
+delivered_alike answer result h e = ap (delivered_line answer) e ∙ delivered_is answer answer.status h
+
+pub delivered_note : (name : List ℕ) (left : Option (List ℕ)) (answer : Answer) (result : Status) (before after : List ℕ) → (result ≡ answer.status) ⊎ (result ≡ WriteFailed) → IsFound answer.status → LineFor name answer.status (string_bytes answer.line) → (IsSettled answer.status → Becomes name left (outcome_of answer)) → after ≡ before ++ delivered_line answer result → IsNoted (LineFor name result) (Becomes name left) result before after
+delivered_note name left answer result before after (inl e) found line judged noted = record {
+  line = delivered_line answer result;
+  is = subst (λ (l : List ℕ). LineFor name result l) (sym (delivered_alike answer result found e)) (subst (λ (s : Status). LineFor name s (string_bytes answer.line)) (sym e) line);
+  noted = noted;
+  told = λ settled. (outcome_of answer, judged (subst IsSettled e settled), e, delivered_alike answer result found e);
+}
+delivered_note name left answer result before after (inr e) found line judged noted = record {
+  line = delivered_line answer result;
+  is = subst (λ (s : Status). LineFor name s (delivered_line answer s)) (sym e) refl;
+  noted = noted;
+  told = λ settled. absurd (subst IsSettled e settled);
+}

@@ -1,8 +1,9 @@
 -- Parts of a text that are added one behind another.
-use Rattle.std.proofs.Common.{Result, Err, zero, ◌≡◌, ℕ, ◌≤◌, ◌<◌, ◌^◌, List, [], ◌∷◌, ◌++◌, length, drop, take, suc, get_or, refl, sym, ap, ◌∙◌, subst, arith}
+use Rattle.std.proofs.Common.{Result, Ok, OnOk, OnErr, Err, zero, ◌≡◌, ℕ, ◌≤◌, ◌<◌, ◌^◌, List, [], ◌∷◌, ◌++◌, length, drop, take, suc, get_or, refl, sym, ap, ◌∙◌, subst, arith}
 use Rattle.std.specs.List.{flat_map}
 use Rattle.std.specs.Result.{IsErrAnd}
 use Rattle.std.proofs.lemmas.Result.{err_from_is_err_and}
+use Rattle.std.proofs.Math.Seq.{take-length}
 use Rattle.std.proofs.lemmas.List.{append_assoc, length-append, take-append-drop}
 use Rattle.std.proofs.lemmas.List.Concat.{flat_map-append}
 
@@ -37,3 +38,8 @@ module _ {X : Type 0} (line : X → List ℕ) where
 -- the error that a `?` passes on
 pub passed_on : {T E : Type 0} (r : Result T E) (found wanted : E) → IsErrAnd r (λ y. y ≡ found) → r ≡ Err wanted → found ≡ wanted
 passed_on r found wanted h e = let p = err_from_is_err_and r h in cc
+
+-- what was put is a front of what was to be put, also where it is all
+pub front_of : {T E : Type 0} (r : Result T E) (before after line : List ℕ) → OnOk r (after ≡ before ++ line) → OnErr r ((n : ℕ) × (n < length line) × (after ≡ before ++ take n line)) → (n : ℕ) × (after ≡ before ++ take n line)
+front_of (Ok x) before after line e f = (length line, e ∙ ap (λ (z : List ℕ). before ++ z) (sym (take-length line)))
+front_of (Err x) before after line e f = (f.0, f.2)

@@ -85,3 +85,15 @@ IsFound Limit = Unit {0}
 IsFound ReadFailed = Unit {0}
 IsFound WriteFailed = ⊥
 IsFound Memory = ⊥
+
+-- the line that is told when an answer is delivered with this status
+abbrev pub delivered_line : Answer → Status → List ℕ
+delivered_line answer Done = string_bytes answer.line
+delivered_line answer No = string_bytes answer.line
+delivered_line answer Words = string_bytes answer.line
+delivered_line answer NoDocument = string_bytes answer.line
+delivered_line answer Target = string_bytes answer.line
+delivered_line answer Limit = string_bytes answer.line
+delivered_line answer ReadFailed = string_bytes answer.line
+delivered_line answer WriteFailed = codes "write\n"
+delivered_line answer Memory = string_bytes answer.line

@@ -94,3 +94,18 @@ pub record IsWritten (words : List (List ℕ)) (contents : List ℕ → Option (
   pub reads_back : Reads (text_of document) (arranged_document document)
   pub same : IsSameOntology (arranged_document document) document
   pub of_the_set : (other : Document) → IsSameOntology other document → text_of other ≡ text_of document
+
+-- The line of a status follows what was there. Where the outcome is known and neither a device failed nor memory ran
+-- out, it is the outcome's.
+pub record IsNoted (lines : List ℕ → Type 0) (outcomes : Outcome → Type 0) (status : Status) (before after : List ℕ) : Type 0 where
+  pub line : List ℕ
+  pub is : lines line
+  pub noted : after ≡ before ++ line
+  pub told : IsSettled status → (outcome : Outcome) × outcomes outcome × (status ≡ outcome.status) × (line ≡ outcome.line)
+
+-- A front of such a line follows what was there.
+pub record IsFrontNoted (lines : List ℕ → Type 0) (before after : List ℕ) : Type 0 where
+  pub line : List ℕ
+  pub is : lines line
+  pub count : ℕ
+  pub noted : after ≡ before ++ take count line

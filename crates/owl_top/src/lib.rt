@@ -6,6 +6,7 @@ mod canonical;
 mod command;
 mod draft;
 mod reading;
+mod run;
 mod status;
 mod writer;
 
