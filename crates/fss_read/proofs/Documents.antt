@@ -154,3 +154,7 @@ end_is p e =
 pub reached_moved : (p : Parse) (token : Token) (old : Stage) (move : Move) → IsReached p → old ≡ p.stage → move ≡ moved old token → IsReached (applied p move)
 reached_moved p token old move r e m =
     subst (λ (x : Move). IsReached (applied p x)) (sym (m ∙ ap (λ (x : Stage). moved x token) e)) (reached_step p token r)
+
+-- tokens spell one document at most
+pub same_spelled : (a b : Document) (tokens : List Token) → SpellsFunctional a tokens → SpellsFunctional b tokens → a ≡ b
+same_spelled a b tokens e f = ap (λ (p : Parse). record { iri = p.iri; axioms = p.axioms }) (sym (run_whole a tokens e) ∙ run_whole b tokens f)

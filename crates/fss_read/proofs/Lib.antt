@@ -2,3 +2,4 @@ pub mod Keywords
 pub mod Parsing
 pub mod Documents
 pub mod Readings
+pub mod Unique

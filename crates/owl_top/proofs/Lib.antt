@@ -5,3 +5,4 @@ pub mod ReadsBack
 pub mod Joins
 pub mod Fed
 pub mod Answering
+pub mod Outcomes

@@ -29,3 +29,7 @@ HasNoCommand words = (target : Target) (name : List ℕ) → Asks words target n
 -- The words ask for this command.
 abbrev pub IsCommand : List (List ℕ) → Command → Type 0
 IsCommand words (Translate target names) = (name : List ℕ) × Asks words target name × (map encode_utf8_all names.items ≡ name ∷ [])
+
+-- a command of the part that is built names one document
+abbrev pub HasOneName : Command → Type 0
+HasOneName (Translate target names) = (name : List ℕ) × (map encode_utf8_all names.items ≡ name ∷ [])

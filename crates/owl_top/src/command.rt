@@ -2,7 +2,8 @@
 
 ghost use Rattle.std.specs.Prelude.{◌≡◌, ◌↔◌, ◌∷◌, [], List, ℕ, map, string_bytes, IsTrue, IfOk, IsErrOf, codes};
 ghost use Rattle.std.specs.Str.{encode_utf8_all};
-ghost use Rattle.owl_top.specs.Commands.{IsName, IsCommand, HasNoCommand};
+ghost use Rattle.owl_top.specs.Commands.{IsName, IsCommand, Asks, HasNoCommand, HasOneName};
+ghost use Rattle.owl_top.specs.declared.command.Target.TheVariants.{Fss};
 
 use owl_text::{NoMemory, Text};
 use std::alloc::Global;
@@ -102,4 +103,16 @@ pub fn words(alloc: Global, words: &[String]) -> Result<Command, WordsFault>
         ),
         _ => Err(WordsFault::Words),
     }
+}
+
+/// The one document that a command names.
+pub fn named(command: Command) -> Text
+    requires { HasOneName command }
+    ensures { (words : List (List ℕ)) → IsCommand words command → Asks words Fss (encode_utf8_all result) }
+{
+    let Command::Translate {
+        target: Target::Fss,
+        mut names,
+    } = command;
+    names.remove(0)
 }

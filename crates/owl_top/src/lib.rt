@@ -5,10 +5,11 @@ mod answer;
 mod canonical;
 mod command;
 mod draft;
+mod program;
 mod reading;
-mod run;
 mod status;
 mod writer;
 
 pub use command::{Command, Target, WordsFault, words};
+pub use program::run;
 pub use status::Status;

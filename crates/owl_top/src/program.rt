@@ -1,6 +1,7 @@
 //! All that the program does.
 
-ghost use Rattle.std.specs.Prelude.{◌≡◌, ◌≢◌, ◌++◌, ◌↔◌, ◌⊎◌, ℕ, List, Some, [], map, take, string_bytes, IsTrue};
+ghost use Rattle.std.specs.Prelude.{◌≡◌, ◌≢◌, ◌++◌, ◌↔◌, ◌⊎◌, ℕ, List, Some, [], map, take, string_bytes, IsTrue, IfOk, IsErrOf};
+ghost use Rattle.std.specs.Str.{encode_utf8_all};
 ghost use Rattle.owl_port.specs.Outside.{Rose, SameElsewhere};
 ghost use Rattle.owl_top.specs.Commands.{Asks, HasNoCommand};
 ghost use Rattle.owl_top.specs.Outcome.{Outcome, IsTranslation, IsOutcome, IsSettled, IsQuiet, LineFor, IsLine, IsWritten, IsNoted, IsFrontNoted};
@@ -8,10 +9,10 @@ ghost use Rattle.owl_top.specs.Answers.{outcome_of, HasNoText, Becomes, IsFound,
 ghost use Rattle.owl_top.specs.declared.command.Target.TheVariants.{Fss};
 
 use crate::answer::{Answer, answer_of};
-use crate::command::{Command, Target, WordsFault, words};
+use crate::command::{WordsFault, named};
 use crate::status::Status;
 use owl_port::{Failed, Shelf, Sink, put_all};
-use owl_text::NoMemory;
+use owl_text::{NoMemory, Text};
 use std::alloc::Global;
 
 /// Writes a line to the note. A fault of the note changes nothing.
@@ -81,6 +82,84 @@ fn translate<S: Shelf, O: Sink, N: Sink>(
     match answer_of(alloc, name, shelf) {
         Ok(answer) => deliver(&answer, out, note),
         Err(NoMemory) => {
+            tell(note, "memory\n");
+            Status::Memory
+        }
+    }
+}
+
+/// The name of the document that the words ask to translate.
+fn asked(alloc: Global, words: &[String]) -> Result<Text, WordsFault>
+    ensures ok { IfOk result (λ name. Asks (map string_bytes words.now) Fss (encode_utf8_all name)) }
+    ensures none { IsErrOf result WordsFault.Words → HasNoCommand (map string_bytes words.now) }
+    ensures refused { HasNoCommand (map string_bytes words.now) → IsErrOf result WordsFault.Words }
+{
+    match crate::command::words(alloc, words) {
+        Ok(command) => Ok(named(command)),
+        Err(fault) => Err(fault),
+    }
+}
+
+/// All that the program does for the words behind its name: it reads documents from the shelf, and writes its text to
+/// `out` and one line to `note`.
+///
+/// The line of a status is `translated; axioms A; absorbed 0` for `Done`, `words` for `Words`, `NAME: NotBuilt` for
+/// `Document`, `limit: DocumentBytes: NAME` or `limit: OutputBytes: output` for `Limit`, `read: NAME` for `ReadFailed`,
+/// `write` for `WriteFailed` and `memory` for `Memory`. A fault of `note` changes no status.
+pub fn run<S: Shelf, O: Sink, N: Sink>(
+    alloc: Global,
+    words: &[String],
+    shelf: &mut S,
+    out: &mut O,
+    note: &mut N,
+) -> Status
+    // The status is the outcome's.
+    ensures words { (result ≡ Status.Words) ↔ HasNoCommand (map string_bytes words.now) }
+    ensures outcome { IsTrue (S.tells shelf.old) → IsSettled result →
+        (outcome : Outcome) × IsOutcome (map string_bytes words.now) (S.left shelf.old) outcome × (result ≡ outcome.status) }
+
+    // Success writes the text, and reads the document to its end.
+    ensures written { IsTrue (S.tells shelf.old) → IsTrue (O.tells out.old) → result ≡ Status.Done →
+        IsWritten (map string_bytes words.now) (S.left shelf.old) (O.written out.old) (O.written out.new) }
+    ensures ended { IsTrue (S.tells shelf.old) → result ≡ Status.Done →
+        (name : List ℕ) × Asks (map string_bytes words.now) Fss name × (S.left shelf.new name ≡ Some []) }
+    ensures others { IsTrue (S.tells shelf.old) → (name : List ℕ) → (Asks (map string_bytes words.now) Fss name → ⊥) →
+        S.left shelf.new name ≡ S.left shelf.old name }
+
+    // A refusal writes nothing, and a failed write a front of the text.
+    ensures untouched { IsTrue (O.tells out.old) → IsQuiet result → O.written out.new ≡ O.written out.old }
+    ensures front { IsTrue (S.tells shelf.old) → IsTrue (O.tells out.old) → result ≡ Status.WriteFailed →
+        (outcome : Outcome) × IsOutcome (map string_bytes words.now) (S.left shelf.old) outcome × (outcome.status ≡ Status.Done)
+        × (n : ℕ) × (O.written out.new ≡ O.written out.old ++ take n outcome.text) }
+
+    // A fault has its cause.
+    ensures read_fault { result ≡ Status.ReadFailed →
+        (name : List ℕ) × Asks (map string_bytes words.now) Fss name × Rose (S.faults shelf.old name) (S.faults shelf.new name) }
+    ensures write_fault { result ≡ Status.WriteFailed → Rose (O.faults out.old) (O.faults out.new) }
+
+    // The note is one line.
+    ensures note { IsTrue (S.tells shelf.old) → IsTrue (N.tells note.old) → (Rose (N.faults note.old) (N.faults note.new) → ⊥) →
+        IsNoted (IsLine (map string_bytes words.now) result) (IsOutcome (map string_bytes words.now) (S.left shelf.old)) result
+        (N.written note.old) (N.written note.new) }
+    ensures note_alone { IsTrue (N.tells note.old) → (Rose (N.faults note.old) (N.faults note.new) → ⊥) →
+        (line : List ℕ) × IsLine (map string_bytes words.now) result line × (N.written note.new ≡ N.written note.old ++ line) }
+    ensures note_front { IsTrue (N.tells note.old) →
+        IsFrontNoted (IsLine (map string_bytes words.now) result) (N.written note.old) (N.written note.new) }
+
+    // Where no device fails, all that is left beside the outcome is want of memory.
+    ensures completes { IsTrue (S.tells shelf.old) →
+        ((name : List ℕ) → Asks (map string_bytes words.now) Fss name → Rose (S.faults shelf.old name) (S.faults shelf.new name) → ⊥) →
+        (Rose (O.faults out.old) (O.faults out.new) → ⊥) →
+        (outcome : Outcome) → IsOutcome (map string_bytes words.now) (S.left shelf.old) outcome →
+        (result ≡ outcome.status) ⊎ (result ≡ Status.Memory) }
+{
+    match asked(alloc, words) {
+        Ok(name) => translate(alloc, name.as_str(), shelf, out, note),
+        Err(WordsFault::Words) => {
+            tell(note, "words\n");
+            Status::Words
+        }
+        Err(WordsFault::Memory) => {
             tell(note, "memory\n");
             Status::Memory
         }

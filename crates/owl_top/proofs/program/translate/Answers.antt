@@ -1,5 +1,5 @@
 use Rattle.owl_top.proofs.Answering.{delivered_note}
-use Rattle.owl_top.proofs.run.translate.Goals as goal
+use Rattle.owl_top.proofs.program.translate.Goals as goal
 
 pub returns-in-Ok-clause-note : goal.returns-in-Ok-clause-note
 returns-in-Ok-clause-note g c = λ shelf note quiet.

@@ -1,6 +1,6 @@
 use Rattle.std.proofs.Common.{List, ℕ, ◌≡◌, ◌++◌, take, subst}
 use Rattle.owl_top.proofs.Joins.{front_of}
-use Rattle.owl_top.proofs.run.tell.Goals as goal
+use Rattle.owl_top.proofs.program.tell.Goals as goal
 
 pub returns-clause-front : goal.returns-clause-front
 returns-clause-front g c = λ tells.
