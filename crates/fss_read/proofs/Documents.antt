@@ -1,31 +1,18 @@
 -- Whole documents, read token by token.
-use Rattle.std.proofs.Common.{◌≡◌, ◌↔◌, ℕ, Bool, true, false, Option, Some, None, List, [], ◌∷◌, ◌++◌, codes, refl, sym, ap, ◌∙◌, subst, if◌then◌else◌}
+use Rattle.std.proofs.Common.{◌≡◌, ℕ, Bool, true, false, Option, Some, None, List, [], ◌∷◌, ◌++◌, codes, refl, sym, ap, ◌∙◌, subst}
 use Rattle.std.specs.List.{flat_map}
-use Rattle.std.specs.Str.{bytes_eq}
 use Rattle.std.proofs.lemmas.Bool.{false≢true}
 use Rattle.std.proofs.lemmas.List.{append_assoc, append-nil}
-use Rattle.std.proofs.lemmas.List.Concat.{flat_map-append}
-use Rattle.std.proofs.lemmas.Slice.Eq.{bytes_eq-Decides}
 use Rattle.owl_text.specs.declared.token.Token.{Token}
-use Rattle.owl_text.specs.declared.token.Token.TheVariants.{Iri, Word, Sign}
-use Rattle.owl_text.specs.declared.token.Sign.{Sign as Mark}
-use Rattle.owl_text.specs.declared.token.Sign.TheVariants.{Open, Close}
 use Rattle.fss_read.specs.Document.{Document}
 use Rattle.fss_read.specs.Grammar.{opening, closing, axiom_tokens, iri_tokens, SpellsFunctional}
-use Rattle.fss_read.specs.Stages.{text_of, is_word, is_sign, same_sign, iri_of, with_iri, to_if, moved, moved_in_body, moved_in_declaration, moved_in_subclass, Parse, start, applied, step, after, is_lost, declaring_tokens, subclassing_tokens, head_of, taken_at, taken, IsEarly, IsReached}
+use Rattle.fss_read.specs.Stages.{moved, moved_in_body, moved_in_declaration, moved_in_subclass, Parse, start, applied, step, after, is_lost, taken_at, taken, IsEarly, IsReached}
 use Rattle.fss_read.specs.declared.document.FirstAxiom.{FirstAxiom}
 use Rattle.fss_read.specs.declared.document.FirstAxiom.TheVariants.{Declares, Sub}
-use Rattle.fss_read.specs.declared.stage.Declaring.{Declaring as DeclaringPart}
-use Rattle.fss_read.specs.declared.stage.Declaring.TheVariants as d
-use Rattle.fss_read.specs.declared.stage.Subclassing.{Subclassing as SubclassingPart}
-use Rattle.fss_read.specs.declared.stage.Subclassing.TheVariants as s
 use Rattle.fss_read.specs.declared.stage.Stage.{Stage}
 use Rattle.fss_read.specs.declared.stage.Stage.TheVariants.{Start, Keyword as KeywordRead, Bracket, Body, Declaring, Subclassing, Whole, Lost}
 use Rattle.fss_read.specs.declared.stage.Move.{Move}
-use Rattle.fss_read.specs.declared.stage.Move.TheVariants.{To, Names, Adds}
-use Rattle.fss_read.specs.declared.stage.Keyword.{Keyword}
-use Rattle.fss_read.specs.declared.stage.Keyword.TheVariants.{Ontology, Declaration, Class, SubClassOf}
-use Rattle.fss_read.proofs.Parsing.{Takes, Sound, sound_at}
+use Rattle.fss_read.proofs.Parsing.{Takes, sound_at}
 
 after-append : (p : Parse) (xs ys : List Token) → after p (xs ++ ys) ≡ after (after p xs) ys
 after-append p [] ys = refl

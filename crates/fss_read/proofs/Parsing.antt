@@ -1,7 +1,6 @@
 -- The documents that are read token by token are those of the grammar.
-use Rattle.std.proofs.Common.{◌≡◌, ℕ, Bool, true, false, Option, Some, None, List, [], ◌∷◌, ◌++◌, codes, refl, sym, ap, ◌∙◌, subst, if◌then◌else◌}
+use Rattle.std.proofs.Common.{◌≡◌, ℕ, Bool, true, false, Option, Some, None, List, [], ◌∷◌, ◌++◌, codes, refl, sym, ap, ◌∙◌, if◌then◌else◌}
 use Rattle.std.specs.List.{flat_map}
-use Rattle.std.specs.Str.{bytes_eq}
 use Rattle.std.proofs.lemmas.Bool.{false≢true}
 use Rattle.std.proofs.lemmas.List.{append_assoc, append-nil}
 use Rattle.std.proofs.lemmas.List.Concat.{flat_map-append}
@@ -10,9 +9,8 @@ use Rattle.owl_text.specs.declared.token.Token.{Token}
 use Rattle.owl_text.specs.declared.token.Token.TheVariants.{Iri, Word, Sign}
 use Rattle.owl_text.specs.declared.token.Sign.{Sign as Mark}
 use Rattle.owl_text.specs.declared.token.Sign.TheVariants.{Open, Close}
-use Rattle.fss_read.specs.Document.{Document}
-use Rattle.fss_read.specs.Grammar.{opening, closing, axiom_tokens, iri_tokens, SpellsFunctional}
-use Rattle.fss_read.specs.Stages.{text_of, is_word, is_sign, same_sign, iri_of, with_iri, to_if, moved, moved_in_body, moved_in_declaration, moved_in_subclass, Parse, start, applied, step, after, is_lost, declaring_tokens, subclassing_tokens, head_of, taken_at, taken, IsEarly, IsReached}
+use Rattle.fss_read.specs.Grammar.{opening, axiom_tokens, iri_tokens}
+use Rattle.fss_read.specs.Stages.{text_of, is_word, is_sign, iri_of, with_iri, to_if, moved, moved_in_body, moved_in_declaration, moved_in_subclass, Parse, applied, is_lost, declaring_tokens, subclassing_tokens, head_of, taken, IsEarly}
 use Rattle.fss_read.specs.declared.document.FirstAxiom.{FirstAxiom}
 use Rattle.fss_read.specs.declared.document.FirstAxiom.TheVariants.{Declares, Sub}
 use Rattle.fss_read.specs.declared.stage.Declaring.{Declaring as DeclaringPart}

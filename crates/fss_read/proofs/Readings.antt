@@ -1,16 +1,16 @@
 -- What bytes and tokens make of a reader.
-use Rattle.std.proofs.Common.{◌≡◌, ◌≢◌, ℕ, Bool, false, Option, List, [], ◌∷◌, ◌++◌, map, refl, sym, ap, ◌∙◌, subst}
-use Rattle.std.proofs.lemmas.List.{append_assoc, append-nil}
+use Rattle.std.proofs.Common.{◌≡◌, ◌≢◌, ℕ, false, Option, List, [], ◌∷◌, ◌++◌, refl, sym, ap, ◌∙◌, subst}
+use Rattle.std.proofs.lemmas.List.{append-nil}
 use Rattle.owl_text.specs.Lexing.{Begun, Continues, Adds}
 use Rattle.owl_text.specs.declared.token.Token.{Token}
 use Rattle.owl_text.specs.declared.token.Placed.{Placed}
 use Rattle.fss_read.specs.Document.{Document}
 use Rattle.fss_read.specs.Grammar.{SpellsFunctional, tokens_of}
 use Rattle.fss_read.specs.Stages.{Parse, step, after, is_lost, taken, IsReached}
-use Rattle.fss_read.specs.Reading.{Reading, Awaits, Leads, LeadTo, reading_of}
+use Rattle.fss_read.specs.Reading.{Awaits, LeadTo, reading_of}
 use Rattle.fss_read.specs.declared.fault.ReadFault.{ReadFault}
 use Rattle.fss_read.specs.declared.stage.Stage.TheVariants.{Whole}
-use Rattle.fss_read.proofs.Documents.{StepsOn, step_all, step_only, reached_step, open_before, end_only, end_is}
+use Rattle.fss_read.proofs.Documents.{step_all, step_only, reached_step, open_before, end_only, end_is}
 
 tokens_of-append : (ps qs : List Placed) → tokens_of (ps ++ qs) ≡ tokens_of ps ++ tokens_of qs
 tokens_of-append [] qs = refl

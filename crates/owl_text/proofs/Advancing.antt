@@ -1,22 +1,21 @@
 -- What each byte makes of each state.
-use Rattle.std.proofs.Common.{◌≡◌, ◌≢◌, ℕ, ◌+◌, Bool, true, false, List, [], ◌∷◌, ◌++◌, length, refl, sym, ap, ◌∙◌, subst, arith, codes, ◌&&◌}
+use Rattle.std.proofs.Common.{◌≡◌, ◌≢◌, ℕ, ◌+◌, true, false, List, [], ◌∷◌, ◌++◌, length, refl, sym, ap, ◌∙◌, subst, arith, codes, ◌&&◌}
 use Rattle.std.specs.Char.{is_ascii_alphabetic}
 use Rattle.std.proofs.lemmas.List.{append_assoc, append-nil, length-append}
 use Rattle.owl_text.specs.Iri.{AllAre, IsIri, IsScheme, is_ascii, is_iri_character, is_scheme_character}
-use Rattle.owl_text.specs.Tokens.{is_space, sign_spelling, spelling, IsWord, IsToken, IsLongest, Splits}
-use Rattle.owl_text.specs.Lexing.{Begun, Continues, Gives, Adds, AddsSome}
+use Rattle.owl_text.specs.Tokens.{is_space, sign_spelling, spelling, IsWord, Splits}
+use Rattle.owl_text.specs.Lexing.{Begun, Gives, Adds, AddsSome}
 use Rattle.owl_text.specs.States.{held_of, is_lost, seen, IsWell, Advances}
-use Rattle.owl_text.specs.declared.token.Token.{Token}
 use Rattle.owl_text.specs.declared.token.Token.TheVariants.{Iri, Word, Sign}
 use Rattle.owl_text.specs.declared.token.Sign.{Sign as Mark}
 use Rattle.owl_text.specs.declared.token.Sign.TheVariants.{Open, Close}
 use Rattle.owl_text.specs.declared.token.Placed.{Placed}
 use Rattle.owl_text.specs.declared.state.Mode.{Mode}
-use Rattle.owl_text.specs.declared.state.Mode.TheVariants.{Between, Opened, InScheme, InIri, InWord, Lost}
+use Rattle.owl_text.specs.declared.state.Mode.TheVariants.{Between, InIri, InWord, Lost}
 use Rattle.owl_text.specs.declared.state.State.{State}
-use Rattle.owl_text.proofs.Longest.{sign_longest, iri_longest, word_longest, splits_none, none_elsewhere, none_in_iri, none_in_scheme, none_opened, is_held, scheme_is_held, and_first, and_second, held_characters, scheme_characters}
+use Rattle.owl_text.proofs.Longest.{sign_longest, iri_longest, word_longest, splits_none, none_elsewhere, scheme_is_held, and_first, and_second, scheme_characters}
 use Rattle.owl_text.proofs.Spans.{AllAre-append, AllAre-weaker}
-use Rattle.owl_text.proofs.Steps.{StandsFirst, token_first, begun_at, gives_held, gives_space, gives_token, gives_behind, gives_nothing, gives_lost}
+use Rattle.owl_text.proofs.Steps.{token_first, begun_at, gives_held, gives_space, gives_token, gives_behind, gives_nothing}
 
 abbrev pub between_at : ℕ → State
 between_at at = record { mode = Between; at = at }

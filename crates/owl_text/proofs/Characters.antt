@@ -25,6 +25,7 @@ push_ok (Err x) s t cs c u h e p = tt
 -- a test of the bytes of two texts is one of their characters
 pub same_chars : (b : Bool) (s w cs : List ℕ) → b ≡ bytes_eq s w → IsUtf8 s → IsUtf8 w → chars s ≡ cs → (b ≡ true → cs ≡ chars w) × (cs ≡ chars w → b ≡ true)
 same_chars b s w cs e u v h =
-    let d = bytes_eq-Decides s w in
-    (λ t. sym h ∙ ap chars (d.0 (sym e ∙ t)),
-    λ k. e ∙ d.1 (sym (encodes-chars s u) ∙ ap encode_utf8_all (h ∙ k) ∙ encodes-chars w v))
+    let d = bytes_eq-Decides s w in (
+      λ t. sym h ∙ ap chars (d.0 (sym e ∙ t)),
+      λ k. e ∙ d.1 (sym (encodes-chars s u) ∙ ap encode_utf8_all (h ∙ k) ∙ encodes-chars w v),
+    )

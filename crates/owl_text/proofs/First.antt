@@ -1,16 +1,15 @@
 -- Bytes begin with one token at most, so they are one list of tokens at most.
-use Rattle.std.proofs.Common.{◌≡◌, ◌==◌, ℕ, ◌+◌, ◌≤◌, Bool, true, false, List, [], ◌∷◌, ◌++◌, length, refl, sym, ap, ◌∙◌, subst, arith, codes}
+use Rattle.std.proofs.Common.{◌≡◌, ◌==◌, ℕ, ◌+◌, true, false, List, [], ◌∷◌, ◌++◌, length, refl, sym, ap, ◌∙◌, subst, arith}
 use Rattle.std.specs.Char.{is_ascii_alphabetic}
-use Rattle.std.proofs.lemmas.List.{append_cancel_right, append_assoc}
-use Rattle.owl_text.specs.Iri.{AllAre, IsIri, is_ascii, is_iri_character}
-use Rattle.owl_text.specs.Tokens.{is_space, sign_spelling, spelling, IsWord, IsToken, IsLongest, Begins, Splits}
+use Rattle.std.proofs.lemmas.List.{append_cancel_right}
+use Rattle.owl_text.specs.Iri.{AllAre}
+use Rattle.owl_text.specs.Tokens.{is_space, spelling, IsToken, Begins, Splits}
 use Rattle.owl_text.specs.declared.token.Token.{Token}
 use Rattle.owl_text.specs.declared.token.Token.TheVariants.{Iri, Word, Sign}
-use Rattle.owl_text.specs.declared.token.Sign.{Sign as Mark}
 use Rattle.owl_text.specs.declared.token.Sign.TheVariants.{Open, Close}
 use Rattle.owl_text.specs.declared.token.Placed.{Placed}
 use Rattle.std.proofs.lemmas.Bool.Decides.{nat_tests}
-use Rattle.owl_text.proofs.Spans.{both, heads, found, SameCut, same_cut, SameSeam, same_seam}
+use Rattle.owl_text.proofs.Spans.{both, heads, found, same_cut, same_seam}
 
 -- a token has a first character, which is no white space
 pub record HasHead (token : Token) : Type 0 where

@@ -1,18 +1,17 @@
 -- Where each kind of token is the longest, and where no token begins.
-use Rattle.std.proofs.Common.{◌≡◌, ◌≢◌, ◌==◌, ◌||◌, ℕ, ◌+◌, ◌≤◌, Bool, true, false, List, [], ◌∷◌, ◌++◌, length, refl, sym, ap, ◌∙◌, subst, arith, codes, ◌&&◌}
+use Rattle.std.proofs.Common.{◌≡◌, ◌≢◌, ◌==◌, ◌||◌, ℕ, ◌≤◌, Bool, true, false, List, [], ◌∷◌, ◌++◌, length, refl, sym, ap, ◌∙◌, subst, arith, codes, ◌&&◌}
 use Rattle.std.specs.Char.{is_ascii_alphabetic, is_ascii_digit}
 use Rattle.std.proofs.lemmas.List.{append_assoc, append-nil, length-append}
 use Rattle.std.proofs.lemmas.Bool.{false≢true}
 use Rattle.std.proofs.lemmas.Bool.Decides.{nat_tests}
 use Rattle.owl_text.specs.Iri.{AllAre, is_among, IsIri, IsScheme, is_ascii, is_iri_character, is_scheme_character}
-use Rattle.owl_text.specs.Tokens.{is_space, sign_spelling, spelling, IsWord, IsToken, IsLongest, Begins, Splits}
+use Rattle.owl_text.specs.Tokens.{is_space, spelling, IsWord, IsToken, IsLongest, Splits}
 use Rattle.owl_text.specs.declared.token.Token.{Token}
 use Rattle.owl_text.specs.declared.token.Token.TheVariants.{Iri, Word, Sign}
 use Rattle.owl_text.specs.declared.token.Sign.{Sign as Mark}
 use Rattle.owl_text.specs.declared.token.Sign.TheVariants.{Open, Close}
 use Rattle.owl_text.specs.declared.token.Placed.{Placed}
-use Rattle.owl_text.proofs.Spans.{both, heads, found, SameCut, same_cut, front_within, front_within_all, AllAre-append, AllAre-weaker}
-use Rattle.owl_text.proofs.First.{HasHead, head_of}
+use Rattle.owl_text.proofs.Spans.{both, heads, found, same_cut, front_within, front_within_all, AllAre-append, AllAre-weaker}
 
 -- a character of an IRI that is built so far
 abbrev pub is_held : ℕ → Bool

@@ -1,5 +1,5 @@
 -- Two ways to cut a list at the first character that fails a test are one.
-use Rattle.std.proofs.Common.{◌≡◌, ℕ, ◌≤◌, Bool, true, false, List, [], ◌∷◌, ◌++◌, length, refl, sym, ap, ◌∙◌, subst, arith, zero-le, suc-le-suc}
+use Rattle.std.proofs.Common.{◌≡◌, ℕ, ◌≤◌, Bool, true, false, List, [], ◌∷◌, ◌++◌, length, refl, sym, ap, ◌∙◌, arith, zero-le, suc-le-suc}
 use Rattle.std.proofs.lemmas.Bool.{false≢true}
 use Rattle.owl_text.specs.Iri.{AllAre}
 

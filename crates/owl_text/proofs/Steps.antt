@@ -1,16 +1,14 @@
 -- What one byte makes of what is begun.
-use Rattle.std.proofs.Common.{Result, Ok, Err, OnErr, ◌≡◌, ℕ, ◌+◌, ◌≤◌, Bool, true, false, List, [], ◌∷◌, ◌++◌, length, refl, sym, ap, ◌∙◌, subst, arith, codes}
-use Rattle.std.specs.Char.{is_ascii_alphabetic}
+use Rattle.std.proofs.Common.{Result, Ok, Err, OnErr, ◌≡◌, ℕ, ◌+◌, true, false, List, [], ◌∷◌, ◌++◌, length, refl, sym, ap, ◌∙◌, subst, arith}
 use Rattle.std.proofs.lemmas.List.{append_assoc, append-nil}
 use Rattle.std.proofs.lemmas.Bool.{false≢true}
-use Rattle.owl_text.specs.Iri.{AllAre, IsIri, IsScheme, is_ascii, is_iri_character, is_scheme_character}
-use Rattle.owl_text.specs.Tokens.{is_space, sign_spelling, spelling, IsWord, IsToken, IsLongest, Begins, Splits}
+use Rattle.owl_text.specs.Iri.{AllAre}
+use Rattle.owl_text.specs.Tokens.{is_space, spelling, IsToken, IsLongest, Begins, Splits}
 use Rattle.owl_text.specs.Lexing.{Begun, Continues, Gives, Adds, AddsSome}
 use Rattle.owl_text.specs.declared.token.Token.{Token}
-use Rattle.owl_text.specs.declared.token.Token.TheVariants.{Iri, Word, Sign}
 use Rattle.owl_text.specs.declared.token.Placed.{Placed}
-use Rattle.owl_text.proofs.Spans.{both, heads, found, same_cut, SameSeam, same_seam}
-use Rattle.owl_text.proofs.First.{HasHead, head_of, SameFirst, same_first, same_splits}
+use Rattle.owl_text.proofs.Spans.{heads, found}
+use Rattle.owl_text.proofs.First.{head_of, same_first, same_splits}
 
 -- a place, and bytes that are held from there on
 abbrev pub begun_at : ℕ → List ℕ → Begun
@@ -146,9 +144,9 @@ adds_some_behind a b xs ys zs before mid after g h = record {
   given = g.given ++ h.given;
   added = h.added ∙ ap (λ (x : List Placed). x ++ h.given) g.added ∙ append_assoc before g.given h.given;
   next = λ more tokens k.
-    let first = g.gives.all (ys ++ (zs ++ more)) tokens (subst (λ (x : List ℕ). Continues a x tokens) (append_assoc xs (ys ++ zs) more ∙ ap (λ (x : List ℕ). xs ++ x) (append_assoc ys zs more)) k) in
-    let second = h.next (zs ++ more) first.0 first.2 in
-    (second.0, first.1 ∙ ap (λ (x : List Placed). g.given ++ x) second.1 ∙ sym (append_assoc g.given h.given second.0));
+      let first = g.gives.all (ys ++ (zs ++ more)) tokens (subst (λ (x : List ℕ). Continues a x tokens) (append_assoc xs (ys ++ zs) more ∙ ap (λ (x : List ℕ). xs ++ x) (append_assoc ys zs more)) k) in
+      let second = h.next (zs ++ more) first.0 first.2 in
+      (second.0, first.1 ∙ ap (λ (x : List Placed). g.given ++ x) second.1 ∙ sym (append_assoc g.given h.given second.0));
 }
 
 -- what holds wherever holds at an error

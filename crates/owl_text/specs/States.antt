@@ -1,5 +1,5 @@
 -- How the states of a lexer show what is begun.
-use Rattle.std.specs.Prelude.{◌≡◌, ℕ, ◌+◌, suc, Bool, true, false, List, [], ◌∷◌, ◌++◌, length, codes}
+use Rattle.std.specs.Prelude.{◌≡◌, ℕ, ◌+◌, Bool, true, false, List, [], ◌∷◌, ◌++◌, length, codes}
 use Rattle.owl_text.specs.Iri.{AllAre, IsIri, IsScheme, is_ascii}
 use Rattle.owl_text.specs.Tokens.{IsWord}
 use Rattle.owl_text.specs.Lexing.{Begun, Adds}

@@ -1,6 +1,6 @@
 -- What is answered is the outcome.
-use Rattle.std.proofs.Common.{◌⊎◌, inl, inr, Result, Ok, Err, ◌≡◌, ◌<◌, ◌≤◌, ◌^◌, ℕ, Option, Some, List, [], ◌++◌, length, string_bytes, codes, refl, sym, ap, ◌∙◌, subst}
-use Rattle.std.specs.Result.{IfErr, IfOk, IsErrAnd, IsErrOf}
+use Rattle.std.proofs.Common.{◌⊎◌, inl, inr, Result, Ok, Err, ◌≡◌, ◌<◌, ◌≤◌, ◌^◌, ℕ, Option, Some, List, ◌++◌, length, string_bytes, codes, refl, sym, ap, ◌∙◌, subst}
+use Rattle.std.specs.Result.{IfErr, IsErrAnd}
 use Rattle.std.proofs.lemmas.List.{append_assoc}
 use Rattle.fss_read.specs.Document.{Document}
 use Rattle.fss_read.specs.Grammar.{Reads}
@@ -8,8 +8,8 @@ use Rattle.fss_read.specs.declared.fault.ReadFault as read
 use Rattle.fss_read.specs.declared.fault.ReadFault.TheVariants as rf
 use Rattle.owl_top.specs.Canonical.{canonical}
 use Rattle.owl_top.specs.Text.{text_of}
-use Rattle.owl_top.specs.Outcome.{Outcome, IsTranslation, document_too_long, no_document, text_too_long, succeeds, translated, done_line, LineFor, IsSettled, IsNoted}
-use Rattle.owl_top.specs.Answers.{outcome_of, delivered_line, IsFound, success_outcome, trouble_outcome, of_shelf, of_reader, of_writer, IsTheBytes, IsTheDocuments, Becomes}
+use Rattle.owl_top.specs.Outcome.{Outcome, no_document, text_too_long, translated, done_line, LineFor, IsSettled, IsNoted}
+use Rattle.owl_top.specs.Answers.{outcome_of, delivered_line, IsFound, success_outcome, trouble_outcome, of_reader, of_writer, IsTheBytes, IsTheDocuments, Becomes}
 use Rattle.owl_top.specs.declared.draft.WriteFault.{WriteFault}
 use Rattle.owl_top.specs.declared.draft.WriteFault.TheVariants as wf
 use Rattle.owl_top.specs.declared.answer.Trouble.{Trouble}

@@ -1,5 +1,5 @@
 -- A document of which a front was fed.
-use Rattle.std.proofs.Common.{◌≡◌, ℕ, List, [], ◌∷◌, ◌++◌, length, arith, subst, sym, ap, ◌∙◌, take, drop}
+use Rattle.std.proofs.Common.{◌≡◌, ℕ, List, [], ◌∷◌, ◌++◌, length, arith, subst, sym}
 use Rattle.fss_read.specs.Document.{Document}
 use Rattle.fss_read.specs.Grammar.{Reads}
 use Rattle.fss_read.specs.Reading.{Reading, Awaits, Leads, Starts}

@@ -1,11 +1,10 @@
 -- Parts of a text that are added one behind another.
-use Rattle.std.proofs.Common.{Result, Ok, OnOk, OnErr, Err, zero, ◌≡◌, ℕ, ◌≤◌, ◌<◌, ◌^◌, List, [], ◌∷◌, ◌++◌, length, drop, take, suc, get_or, refl, sym, ap, ◌∙◌, subst, arith}
+use Rattle.std.proofs.Common.{Result, Ok, OnOk, OnErr, Err, zero, ◌≡◌, ℕ, ◌<◌, List, [], ◌∷◌, ◌++◌, length, drop, take, suc, get_or, sym, ap, ◌∙◌, arith}
 use Rattle.std.specs.List.{flat_map}
 use Rattle.std.specs.Result.{IsErrAnd}
 use Rattle.std.proofs.lemmas.Result.{err_from_is_err_and}
 use Rattle.std.proofs.Math.Seq.{take-length}
-use Rattle.std.proofs.lemmas.List.{append_assoc, length-append, take-append-drop}
-use Rattle.std.proofs.lemmas.List.Concat.{flat_map-append}
+use Rattle.std.proofs.lemmas.List.{append_assoc, length-append}
 
 pub joined2 : (s p q a b : List ℕ) → a ≡ s ++ p → b ≡ a ++ q → b ≡ s ++ (p ++ q)
 joined2 s p q a b e f = f ∙ ap (λ (x : List ℕ). x ++ q) e ∙ append_assoc s p q

@@ -1,16 +1,14 @@
 -- The answer for a document is the outcome of the words that name it, and there is one outcome.
-use Rattle.std.proofs.Common.{Result, Err, ◌≡◌, ◌<◌, ◌≤◌, ◌^◌, ◌⊎◌, inl, inr, ℕ, Option, Some, List, [], ◌∷◌, ◌++◌, length, get_or, take, map, codes, refl, sym, ap, ◌∙◌, subst, arith}
+use Rattle.std.proofs.Common.{Result, Err, ◌≡◌, ◌⊎◌, inl, inr, ℕ, Option, Some, List, ◌++◌, length, codes, refl, sym, ap, ◌∙◌, subst, arith}
 use Rattle.std.specs.List.{flat_map}
 use Rattle.std.specs.Str.{encode_utf8_all}
 use Rattle.fss_read.specs.Document.{Document}
-use Rattle.fss_read.specs.Grammar.{Reads}
 use Rattle.fss_read.proofs.Unique.{same_document}
 use Rattle.owl_top.specs.Canonical.{canonical, IsSameOntology}
-use Rattle.owl_top.specs.Commands.{Asks, HasNoCommand}
-use Rattle.owl_top.specs.Text.{text_of, header_line, axiom_line, arranged_document}
-use Rattle.owl_top.specs.Outcome.{Outcome, refused, translated, IsTranslation, document_too_long, no_document, text_too_long, succeeds, IsOutcome, no_command, translation, IsSettled, LineFor, IsLine, of_words, of_memory, of_document, IsWritten, IsNoted, IsFrontNoted}
+use Rattle.owl_top.specs.Commands.{Asks}
+use Rattle.owl_top.specs.Text.{text_of, header_line, axiom_line}
+use Rattle.owl_top.specs.Outcome.{Outcome, translated, IsTranslation, document_too_long, no_document, text_too_long, succeeds, IsOutcome, no_command, translation, IsSettled, LineFor, IsLine, of_document, IsWritten, IsNoted, IsFrontNoted}
 use Rattle.owl_top.specs.Answers.{Becomes}
-use Rattle.owl_top.specs.declared.command.Target.{Target}
 use Rattle.owl_top.specs.declared.command.Target.TheVariants.{Fss}
 use Rattle.owl_top.specs.declared.status.Status.{Status}
 use Rattle.owl_top.specs.declared.status.Status.TheVariants.{Done, No, Words, Document as NoDocument, Target as TargetRefused, Limit, ReadFailed, WriteFailed, Memory}

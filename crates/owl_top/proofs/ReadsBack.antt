@@ -1,26 +1,24 @@
 -- The text of a document reads back to its IRI and the set of its axioms.
-use Rattle.std.proofs.Common.{◌≡◌, ◌<◌, ℕ, ◌+◌, zero, suc, Bool, true, false, Option, Some, None, List, [], ◌∷◌, ◌++◌, length, get_or, codes, refl, sym, ap, ◌∙◌, subst, arith, rules}
-use Rattle.std.specs.Char.{is_ascii_alphabetic}
+use Rattle.std.proofs.Common.{◌≡◌, ◌<◌, ℕ, ◌+◌, zero, suc, true, Option, Some, None, List, [], ◌∷◌, ◌++◌, length, get_or, codes, refl, sym, ap, ◌∙◌, subst, arith, rules}
 use Rattle.std.specs.List.{Contains, AllByRecursion, flat_map}
-use Rattle.std.specs.Str.{encode_utf8_all, IsAscii}
-use Rattle.std.proofs.lemmas.List.{append_assoc, append-nil}
+use Rattle.std.specs.Str.{encode_utf8_all}
+use Rattle.std.proofs.lemmas.List.{append_assoc}
 use Rattle.std.proofs.lemmas.Str.{encodes-IsAscii}
 use borrow.Author.Tests.{ltb-true}
 use Rattle.owl_text.specs.Iri.{AllAre, is_ascii}
-use Rattle.owl_text.specs.Tokens.{is_space, spelling, IsWord, IsToken, IsLongest, Begins, Splits}
+use Rattle.owl_text.specs.Tokens.{is_space, spelling, IsWord, IsToken, IsLongest, Splits}
 use Rattle.owl_text.specs.declared.token.Token.{Token}
 use Rattle.owl_text.specs.declared.token.Token.TheVariants.{Iri, Word, Sign}
-use Rattle.owl_text.specs.declared.token.Sign.{Sign as Mark}
 use Rattle.owl_text.specs.declared.token.Sign.TheVariants.{Open, Close}
 use Rattle.owl_text.specs.declared.token.Placed.{Placed}
 use Rattle.owl_text.proofs.Longest.{sign_longest, iri_longest, word_longest}
 use Rattle.owl_text.proofs.Steps.{splits_token, splits_behind_space}
 use Rattle.fss_read.specs.Document.{Document}
-use Rattle.fss_read.specs.Grammar.{opening, closing, axiom_tokens, iri_tokens, tokens_of, SpellsFunctional, Reads}
+use Rattle.fss_read.specs.Grammar.{opening, closing, axiom_tokens, iri_tokens, tokens_of, Reads}
 use Rattle.fss_read.specs.declared.document.FirstAxiom.{FirstAxiom}
 use Rattle.fss_read.specs.declared.document.FirstAxiom.TheVariants.{Declares, Sub}
 use Rattle.owl_top.specs.Canonical.{canonical}
-use Rattle.owl_top.specs.Text.{bracketed, iri_text, header_line, axiom_line, text_of, arranged_document}
+use Rattle.owl_top.specs.Text.{bracketed, header_line, axiom_line, text_of, arranged_document}
 use Rattle.owl_top.proofs.Ordered.{in_head, in_tail, all_in, canonical_holds}
 
 -- the bytes are cut into these tokens, wherever they stand

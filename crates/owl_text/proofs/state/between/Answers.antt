@@ -1,4 +1,4 @@
-use Rattle.std.proofs.Common.{sym, ◌∙◌, ap, ◌∷◌, [], List, ℕ}
+use Rattle.std.proofs.Common.{sym, ◌∙◌, ap, ◌∷◌, [], ℕ}
 use Rattle.owl_text.specs.declared.token.Sign.TheVariants.{Open, Close}
 use Rattle.owl_text.proofs.Advancing.{between_space, between_sign, between_other}
 use Rattle.owl_text.proofs.state.between.Goals as goal

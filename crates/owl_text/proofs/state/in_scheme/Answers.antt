@@ -1,4 +1,4 @@
-use Rattle.std.proofs.Common.{sym, ◌∙◌, ap, refl, List, ℕ, ◌∷◌, [], ◌++◌, subst}
+use Rattle.std.proofs.Common.{sym, ◌∙◌, ap, refl, List, ℕ, ◌∷◌, ◌++◌, subst}
 use Rattle.owl_text.specs.Iri.{IsScheme}
 use Rattle.owl_text.specs.declared.state.Mode.TheVariants.{InScheme, InIri}
 use Rattle.owl_text.proofs.Longest.{splits_none, none_in_scheme}

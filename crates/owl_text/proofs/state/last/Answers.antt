@@ -1,4 +1,4 @@
-use Rattle.std.proofs.Common.{ap, subst, sym}
+use Rattle.std.proofs.Common.{ap, subst}
 use Rattle.owl_text.specs.States.{held_of, IsWell}
 use Rattle.owl_text.proofs.Spans.{AllAre-weaker}
 use Rattle.owl_text.proofs.Longest.{no_last, held_characters, scheme_is_held, scheme_characters}

@@ -1,4 +1,3 @@
-use Rattle.std.proofs.Common.{◌∷◌, []}
 use Rattle.owl_top.specs.declared.command.Target.TheVariants.{Fss}
 use Rattle.owl_top.proofs.Asking.{asks_four}
 use Rattle.owl_top.proofs.command.asked.Goals as goal

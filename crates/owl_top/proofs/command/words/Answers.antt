@@ -1,4 +1,4 @@
-use Rattle.std.proofs.Common.{◌≡◌, List, ℕ, ◌∷◌, [], length, string_bytes, String, Global, subst, sym, arith}
+use Rattle.std.proofs.Common.{◌≡◌, List, ℕ, length, string_bytes, subst, sym, arith}
 use Rattle.std.specs.Result.{IsErrOf}
 use Rattle.owl_top.specs.Commands.{HasNoCommand}
 use Rattle.owl_top.specs.declared.command.WordsFault.TheVariants.{Words}

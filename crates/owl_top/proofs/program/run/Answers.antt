@@ -1,4 +1,4 @@
-use Rattle.std.proofs.Common.{Err, inl, inr, map, string_bytes, codes, refl, sym, ap, ◌∙◌}
+use Rattle.std.proofs.Common.{Err, inl, map, string_bytes, codes, refl, ap}
 use Rattle.owl_top.specs.Commands.{HasNoCommand}
 use Rattle.owl_top.specs.Outcome.{Outcome, refused, no_command, of_words, of_document}
 use Rattle.owl_top.specs.declared.status.Status.TheVariants.{Words}

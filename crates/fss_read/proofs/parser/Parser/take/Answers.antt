@@ -1,5 +1,5 @@
-use Rattle.std.proofs.Common.{List, Option, Some, ap, sym, ◌∙◌, subst, ◌++◌, ◌∷◌, [], true}
-use Rattle.fss_read.specs.Stages.{IsReached, Parse}
+use Rattle.std.proofs.Common.{List, sym, subst}
+use Rattle.fss_read.specs.Stages.{IsReached}
 use Rattle.fss_read.specs.declared.document.FirstAxiom.{FirstAxiom}
 use Rattle.fss_read.specs.declared.stage.Stage.TheVariants.{Body}
 use Rattle.fss_read.specs.declared.stage.Move.TheVariants.{To, Names, Adds}
