@@ -14,10 +14,11 @@ use std::fs::Files;
 use std::io::Read;
 use std::marker::Model;
 
-/// The files that words name, each opened at the first read of its name.
+/// The files that words name, with a count of faults for each word.
 ///
-/// Contracts see it as the list of its words. Names are compared by their
-/// bytes, and of equal words the first is used.
+/// Contracts see it as the list of its words, each with its count and with what
+/// its file tells. Names are compared by their bytes, and of equal words the
+/// first is used.
 #[derive(Drop)]
 pub struct FileShelf<R: Files + Drop> {
     files: R,
@@ -34,7 +35,8 @@ impl<R: Files + Drop> Model for FileShelf<R> {
 }
 
 impl<R: Files + Drop> FileShelf<R> {
-    /// A shelf over the words, with no file open and no fault.
+    /// A shelf over the words, with no file open and no fault. `NoMemory` where
+    /// memory runs out.
     pub fn new(alloc: Global, files: R, words: &[String]) -> Result<FileShelf<R>, NoMemory>
         ensures { IfOk result (λ s. s ≡ map (λ w. unread (string_bytes w)) words.now) }
     {
@@ -64,12 +66,16 @@ impl<R: Files + Drop> Shelf for FileShelf<R> {
 
     ghost faults = { faults_of };
 
+    /// A read of the file with this name, which the first read of it opens.
+    ///
+    /// It fails where the file can't be opened or read, and where the name is
+    /// none of the words. A later read tries again.
     fn read(&mut self, name: &str, into: &mut [u8]) -> Result<usize, Failed>
         requires { 0 < length into.old }
         ensures bound { IfOk result (λ n. n ≤ length into.new) }
         ensures unknown { word_in self.old name.now ≡ None → IsErr result }
 
-        // The file is open, and what it tells to be left of it was read.
+        // The file is open, and the bytes are its next ones, as far as it tells them.
         ensures opened { OnOk result (IsOpen self.new name.now) }
         ensures bytes { ReadConsumes (left_of self.old name.now) (left_of self.new name.now) result into.new }
 

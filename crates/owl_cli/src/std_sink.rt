@@ -9,7 +9,10 @@ use owl_port::{Failed, Sink};
 use std::io::Write;
 use std::marker::Model;
 
-/// A writer, such as standard output, and how often a write failed.
+/// A writer, such as standard output, with a count of faults.
+///
+/// Contracts see the count, and the bytes that the writer holds, where it tells
+/// them.
 #[derive(Drop)]
 pub struct StdSink<W: Write + Drop> {
     writer: W,
