@@ -57,6 +57,6 @@ awk -v bytes="$bytes" -v classes="$classes" -v owl="$owl" -v cat="$cat" -v runs=
     printf "document    %d bytes, %d axioms\n", bytes, 2 * classes
     printf "owl         %.3f s, best of %d\n", owl / 1e6, runs
     printf "cat         %.3f s, best of %d\n", cat / 1e6, runs
-    printf "owl / cat   %.0f\n", owl / cat
+    printf "owl / cat   %.1f\n", owl / cat
     printf "owl         %.0f bytes a second\n", bytes / (owl / 1e6)
 }'
