@@ -13,3 +13,6 @@ mod writer;
 pub use command::{Command, Target, WordsFault, words};
 pub use program::run;
 pub use status::Status;
+
+#[cfg(test)]
+mod tests;
