@@ -1,6 +1,7 @@
 -- What a run answers, for its words and the contents of its documents.
-use Rattle.std.specs.Prelude.{◌≡◌, ◌<◌, ◌≤◌, ◌^◌, ◌⊎◌, ℕ, Option, Some, List, [], ◌++◌, length, take, codes}
+use Rattle.std.specs.Prelude.{◌≡◌, ◌<◌, ◌≤◌, ◌^◌, ◌+◌, ◌⊎◌, ℕ, Option, Some, List, [], ◌++◌, length, take, codes}
 use Rattle.std.specs.Fmt.{decimal}
+use Rattle.owl_port.specs.Outside.{before}
 use Rattle.fss_read.specs.Document.{Document}
 use Rattle.fss_read.specs.Grammar.{Reads}
 use Rattle.owl_top.specs.Canonical.{canonical, IsSameOntology}
@@ -38,6 +39,10 @@ pub data IsTranslation (name bytes : List ℕ) (outcome : Outcome) : Type 0 wher
 pub data IsOutcome (words : List (List ℕ)) (contents : List ℕ → Option (List ℕ)) (outcome : Outcome) : Type 0 where
   no_command : HasNoCommand words → outcome ≡ refused Words (codes "words") → IsOutcome words contents outcome
   translation : (name bytes : List ℕ) → Asks words Fss name → contents name ≡ Some bytes → IsTranslation name bytes outcome → IsOutcome words contents outcome
+
+-- at most so many bytes of a document are taken, from its front
+abbrev pub IsFrontTaken : Option (List ℕ) → Option (List ℕ) → Type 0
+IsFrontTaken old new = (taken : List ℕ) × (length taken ≤ 2 ^ 27 + 1) × (old ≡ before taken new)
 
 -- neither a device failed nor memory ran out
 abbrev pub IsSettled : Status → Type 0

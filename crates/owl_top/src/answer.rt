@@ -2,7 +2,7 @@
 
 ghost use Rattle.std.specs.Prelude.{◌≡◌, ◌++◌, codes, ℕ, List, Some, [], string_bytes, length, ◌≤◌, ◌^◌, IsTrue, IfOk, IfErr, OnOk, IsErr, Err};
 ghost use Rattle.owl_port.specs.Outside.{Rose, SameElsewhere};
-ghost use Rattle.owl_top.specs.Outcome.{IsSettled, IsTranslation, LineFor};
+ghost use Rattle.owl_top.specs.Outcome.{IsSettled, IsTranslation, IsFrontTaken, LineFor};
 ghost use Rattle.owl_top.specs.Answers.{outcome_of, HasNoText, trouble_outcome, of_shelf, of_reader, of_writer, success_outcome, Becomes, IsTheBytes, IsTheDocuments, IsFound};
 
 use crate::draft::WriteFault;
@@ -154,6 +154,7 @@ fn translation_of<S: Shelf>(
     ensures ok { IsTrue (S.tells shelf.old) → IfOk result (λ translation. Becomes name.now (S.left shelf.old name.now) (success_outcome translation)) }
     ensures trouble { IsTrue (S.tells shelf.old) → IfErr result (IsTheDocuments name.now (S.left shelf.old name.now)) }
     ensures ended { IsTrue (S.tells shelf.old) → OnOk result (S.left shelf.new name.now ≡ Some []) }
+    ensures taken { IsTrue (S.tells shelf.old) → IsFrontTaken (S.left shelf.old name.now) (S.left shelf.new name.now) }
     ensures others { IsTrue (S.tells shelf.old) → SameElsewhere name.now (S.left shelf.old) (S.left shelf.new) }
     ensures read_fault { result ≡ Err Trouble.ReadFailed → Rose (S.faults shelf.old name.now) (S.faults shelf.new name.now) }
 {
@@ -170,6 +171,7 @@ pub fn answer_of<S: Shelf>(alloc: Global, name: &str, shelf: &mut S) -> Result<A
     ensures text { IfOk result (λ answer. HasNoText answer.status (string_bytes answer.text)) }
     ensures ended { IsTrue (S.tells shelf.old) →
         IfOk result (λ answer. answer.status ≡ Status.Done → S.left shelf.new name.now ≡ Some []) }
+    ensures taken { IsTrue (S.tells shelf.old) → IsFrontTaken (S.left shelf.old name.now) (S.left shelf.new name.now) }
     ensures others { IsTrue (S.tells shelf.old) → SameElsewhere name.now (S.left shelf.old) (S.left shelf.new) }
     ensures read_fault { IfOk result (λ answer. answer.status ≡ Status.ReadFailed →
         Rose (S.faults shelf.old name.now) (S.faults shelf.new name.now)) }

@@ -4,7 +4,7 @@ ghost use Rattle.std.specs.Prelude.{◌≡◌, ◌≢◌, ◌++◌, ◌↔◌, �
 ghost use Rattle.std.specs.Str.{encode_utf8_all};
 ghost use Rattle.owl_port.specs.Outside.{Rose, SameElsewhere};
 ghost use Rattle.owl_top.specs.Commands.{Asks, HasNoCommand};
-ghost use Rattle.owl_top.specs.Outcome.{Outcome, IsTranslation, IsOutcome, IsSettled, IsQuiet, LineFor, IsLine, IsWritten, IsNoted, IsFrontNoted};
+ghost use Rattle.owl_top.specs.Outcome.{Outcome, IsTranslation, IsFrontTaken, IsOutcome, IsSettled, IsQuiet, LineFor, IsLine, IsWritten, IsNoted, IsFrontNoted};
 ghost use Rattle.owl_top.specs.Answers.{outcome_of, HasNoText, Becomes, IsFound, delivered_line};
 ghost use Rattle.owl_top.specs.declared.command.Target.TheVariants.{Fss};
 
@@ -65,6 +65,7 @@ fn translate<S: Shelf, O: Sink, N: Sink>(
         (outcome : Outcome) × Becomes name.now (S.left shelf.old name.now) outcome × (outcome.status ≡ Status.Done)
         × (O.written out.new ≡ O.written out.old ++ outcome.text) }
     ensures ended { IsTrue (S.tells shelf.old) → result ≡ Status.Done → S.left shelf.new name.now ≡ Some [] }
+    ensures taken { IsTrue (S.tells shelf.old) → IsFrontTaken (S.left shelf.old name.now) (S.left shelf.new name.now) }
     ensures others { IsTrue (S.tells shelf.old) → SameElsewhere name.now (S.left shelf.old) (S.left shelf.new) }
     ensures untouched { IsTrue (O.tells out.old) → IsQuiet result → O.written out.new ≡ O.written out.old }
     ensures front { IsTrue (S.tells shelf.old) → IsTrue (O.tells out.old) → result ≡ Status.WriteFailed →
@@ -125,6 +126,8 @@ pub fn run<S: Shelf, O: Sink, N: Sink>(
         (name : List ℕ) × Asks (map string_bytes words.now) Fss name × (S.left shelf.new name ≡ Some []) }
     ensures others { IsTrue (S.tells shelf.old) → (name : List ℕ) → (Asks (map string_bytes words.now) Fss name → ⊥) →
         S.left shelf.new name ≡ S.left shelf.old name }
+    ensures taken { IsTrue (S.tells shelf.old) → (name : List ℕ) → Asks (map string_bytes words.now) Fss name →
+        IsFrontTaken (S.left shelf.old name) (S.left shelf.new name) }
 
     // A refusal writes nothing, and a failed write a front of the text.
     ensures untouched { IsTrue (O.tells out.old) → IsQuiet result → O.written out.new ≡ O.written out.old }
