@@ -10,3 +10,6 @@ mod stage;
 pub use document::{FirstAxiom, FirstDoc};
 pub use fault::ReadFault;
 pub use reader::{MOST_BYTES, Reader};
+
+#[cfg(test)]
+mod tests;
