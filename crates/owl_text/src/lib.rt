@@ -12,3 +12,6 @@ pub use fault::LexFault;
 pub use lexer::Lexer;
 pub use text::{NoMemory, Text};
 pub use token::{Dialect, Placed, Sign, Token};
+
+#[cfg(test)]
+mod tests;
