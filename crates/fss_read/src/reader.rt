@@ -50,6 +50,7 @@ impl Model for Reader {
 impl Reader {
     /// A reader that was fed nothing.
     pub fn new(alloc: Global) -> Result<Reader, NoMemory>
+        ensures succeeds { IsOk result }
         ensures starts { IfOk result Starts }
         ensures fed { IfOk result (λ reader. reader.fed ≡ 0) }
         ensures open_yet { IfOk result (λ reader. reader.refused ≡ None) }
@@ -73,6 +74,7 @@ impl Reader {
         ensures open_yet { OnOk result ((self.old.refused ≡ None) × (self.new.refused ≡ None)) }
         ensures within { OnOk result (self.new.fed ≤ 2 ^ 27) }
         ensures too_long { self.old.refused ≡ None → IsErrOf result ReadFault.TooLong → 2 ^ 27 < self.old.fed + length piece.now }
+        ensures past { self.old.refused ≡ None → 2 ^ 27 < self.old.fed + length piece.now → result ≡ Err ReadFault.TooLong }
         ensures not_yet { self.old.refused ≡ None → IsErrOf result ReadFault.NotBuilt → ⊥ }
         ensures empty { self.old.refused ≡ None → piece.now ≡ [] → IsOk result }
         ensures keeps { IfErr result (λ fault. self.new.refused ≡ Some fault) }

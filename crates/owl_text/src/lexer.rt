@@ -61,6 +61,7 @@ impl Lexer {
         requires { self.old.fed + length piece.now ≤ 2 ^ 62 }
         ensures ok { OnOk result (Adds self.old.begun piece.now into.old.items into.new.items self.new.begun) }
         ensures fed { OnOk result (self.new.fed ≡ self.old.fed + length piece.now) }
+        ensures bound { self.new.fed ≤ self.old.fed + length piece.now }
         ensures open_yet { OnOk result ((self.old.refused ≡ None) × (self.new.refused ≡ None)) }
         ensures some { OnErr result (AddsSome self.old.begun piece.now into.old.items into.new.items) }
         ensures memory { self.old.refused ≡ None → IfErr result (λ fault. fault ≡ LexFault.Memory) }
@@ -80,11 +81,14 @@ impl Lexer {
     ///
     /// `NotBuilt` comes exactly where the bytes fed are no tokens with white space between them, and `Memory` where
     /// memory runs out. After a refusal `into` has what it had, and the lexer answers the same refusal from then on.
+    /// After an answer the lexer begins afresh, at the place of the next byte.
     pub fn finish(&mut self, into: &mut Vec<Placed>) -> Result<(), LexFault>
         ensures ok { OnOk result ((tokens : List Placed) × (into.new.items ≡ into.old.items ++ tokens) × Continues self.old.begun [] tokens) }
         ensures only { OnOk result ((tokens : List Placed) → Continues self.old.begun [] tokens → into.new.items ≡ into.old.items ++ tokens) }
         ensures not_built { self.old.refused ≡ None → IsErrOf result LexFault.NotBuilt → (tokens : List Placed) → Continues self.old.begun [] tokens → ⊥ }
         ensures open_yet { OnOk result (self.old.refused ≡ None) }
+        ensures fed { self.new.fed ≡ self.old.fed }
+        ensures again { OnOk result (self.new ≡ record { begun = record { at = self.old.fed; held = []; lost = false }; fed = self.old.fed; refused = None }) }
         ensures err { OnErr result (into.new.items ≡ into.old.items) }
         ensures keeps { IfErr result (λ fault. self.new.refused ≡ Some fault) }
         ensures same { (fault : LexFault) → self.old.refused ≡ Some fault → (result ≡ Err fault) × (self.new ≡ self.old) }
@@ -112,6 +116,7 @@ impl Lexer {
         requires { self.old.fed + 1 < 2 ^ 64 }
         ensures ok { OnOk result (Adds self.old.begun (c ∷ []) into.old.items into.new.items self.new.begun) }
         ensures fed { OnOk result (self.new.fed ≡ self.old.fed + 1) }
+        ensures bound { self.new.fed ≤ self.old.fed + 1 }
         ensures open_yet { OnOk result (self.new.refused ≡ self.old.refused) }
         ensures some { OnErr result (AddsSome self.old.begun (c ∷ []) into.old.items into.new.items) }
         ensures memory { IfErr result (λ fault. (fault ≡ LexFault.Memory) × (self.new.refused ≡ Some fault)) }

@@ -131,11 +131,13 @@ fn what_is_no_tokens_is_not_built(rt: HostRuntime) -> Result<(), Fail> {
         assert!(rt; text.len() < 1000);
         lexer.feed(text.as_bytes(), &mut tokens)?;
         let before = tokens.len();
-        for _ in 0..2 {
-            let fault = lexer.finish(&mut tokens).err();
-            assert_eq!(rt; fault, Some(LexFault::NotBuilt), "{text}");
-            assert_eq!(rt; tokens.len(), before, "{text}");
-        }
+        let finished = lexer.finish(&mut tokens).err();
+        assert_eq!(rt; finished, Some(LexFault::NotBuilt), "{text}");
+        let fed = lexer.feed(b" a".as_slice(), &mut tokens).err();
+        assert_eq!(rt; fed, Some(LexFault::NotBuilt), "{text}");
+        let finished = lexer.finish(&mut tokens).err();
+        assert_eq!(rt; finished, Some(LexFault::NotBuilt), "{text}");
+        assert_eq!(rt; tokens.len(), before, "{text}");
     }
     Ok(())
 }

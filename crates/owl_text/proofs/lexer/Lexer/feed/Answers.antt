@@ -14,6 +14,9 @@ returns-in_err-push-clause-some c =
     let some = adds_some_behind _ _ _ (get_or piece i 0 ∷ []) (drop (suc i) piece) _ _ _ c.loop-c.invariant.adds c.in_err-push.ensures.some in
     on_err c.from_residual.result (subst (λ (x : List ℕ). AddsSome c.args.self.now.begun x c.args.into.now.items c.push.new.into.items) whole some)
 
+pub returns-in_err-push-clause-bound : goal.returns-in_err-push-clause-bound
+returns-in_err-push-clause-bound c = omega (arith, c.push.ensures.bound, c.loop-c.invariant.fed, c.loop-c-test.true)
+
 pub loop-c-preserved : goal.loop-c-preserved
 loop-c-preserved c =
     let piece = c.args.piece.now in
