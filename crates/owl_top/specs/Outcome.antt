@@ -108,7 +108,12 @@ pub record IsNoted (lines : List ℕ → Type 0) (outcomes : Outcome → Type 0)
   pub noted : after ≡ before ++ line
   pub told : IsSettled status → (outcome : Outcome) × outcomes outcome × (status ≡ outcome.status) × (line ≡ outcome.line)
 
--- A front of such a line follows what was there.
+-- A front of this line follows what was there.
+abbrev pub IsFrontOfNote : (List ℕ → Type 0) → (Outcome → Type 0) → Status → List ℕ → List ℕ → Type 0
+IsFrontOfNote lines outcomes status before after =
+    (line : List ℕ) × (count : ℕ) × IsNoted lines outcomes status before (before ++ line) × (after ≡ before ++ take count line)
+
+-- A front of some such line follows what was there.
 pub record IsFrontNoted (lines : List ℕ → Type 0) (before after : List ℕ) : Type 0 where
   pub line : List ℕ
   pub is : lines line

@@ -4,7 +4,7 @@ ghost use Rattle.std.specs.Prelude.{◌≡◌, ◌≢◌, ◌++◌, ◌↔◌, �
 ghost use Rattle.std.specs.Str.{encode_utf8_all};
 ghost use Rattle.owl_port.specs.Outside.{Rose, SameElsewhere};
 ghost use Rattle.owl_top.specs.Commands.{Asks, HasNoCommand};
-ghost use Rattle.owl_top.specs.Outcome.{Outcome, IsTranslation, IsFrontTaken, IsOutcome, IsSettled, IsQuiet, LineFor, IsLine, IsWritten, IsNoted, IsFrontNoted};
+ghost use Rattle.owl_top.specs.Outcome.{Outcome, IsTranslation, IsFrontTaken, IsOutcome, IsSettled, IsQuiet, LineFor, IsLine, IsWritten, IsNoted, IsFrontOfNote, IsFrontNoted};
 ghost use Rattle.owl_top.specs.Answers.{outcome_of, HasNoText, Becomes, IsFound, delivered_line};
 ghost use Rattle.owl_top.specs.declared.command.Target.TheVariants.{Fss};
 
@@ -77,7 +77,9 @@ fn translate<S: Shelf, O: Sink, N: Sink>(
         IsNoted (LineFor name.now result) (Becomes name.now (S.left shelf.old name.now)) result (N.written note.old) (N.written note.new) }
     ensures note_alone { IsTrue (N.tells note.old) → (Rose (N.faults note.old) (N.faults note.new) → ⊥) →
         (line : List ℕ) × LineFor name.now result line × (N.written note.new ≡ N.written note.old ++ line) }
-    ensures note_front { IsTrue (N.tells note.old) → IsFrontNoted (LineFor name.now result) (N.written note.old) (N.written note.new) }
+    ensures note_front { IsTrue (S.tells shelf.old) → IsTrue (N.tells note.old) →
+        IsFrontOfNote (LineFor name.now result) (Becomes name.now (S.left shelf.old name.now)) result (N.written note.old) (N.written note.new) }
+    ensures note_front_alone { IsTrue (N.tells note.old) → IsFrontNoted (LineFor name.now result) (N.written note.old) (N.written note.new) }
     ensures some { result ≢ Status.Words }
 {
     match answer_of(alloc, name, shelf) {
@@ -146,7 +148,10 @@ pub fn run<S: Shelf, O: Sink, N: Sink>(
         (N.written note.old) (N.written note.new) }
     ensures note_alone { IsTrue (N.tells note.old) → (Rose (N.faults note.old) (N.faults note.new) → ⊥) →
         (line : List ℕ) × IsLine (map string_bytes words.now) result line × (N.written note.new ≡ N.written note.old ++ line) }
-    ensures note_front { IsTrue (N.tells note.old) →
+    ensures note_front { IsTrue (S.tells shelf.old) → IsTrue (N.tells note.old) →
+        IsFrontOfNote (IsLine (map string_bytes words.now) result) (IsOutcome (map string_bytes words.now) (S.left shelf.old)) result
+        (N.written note.old) (N.written note.new) }
+    ensures note_front_alone { IsTrue (N.tells note.old) →
         IsFrontNoted (IsLine (map string_bytes words.now) result) (N.written note.old) (N.written note.new) }
 
     // Where no device fails, all that is left beside the outcome is want of memory.
