@@ -32,6 +32,7 @@ impl Model for Parser {
 }
 
 impl Parser {
+    /// Nothing was read. Takes no memory.
     pub fn new(alloc: Global) -> Parser
         ensures { result ≡ start }
     {
@@ -42,7 +43,7 @@ impl Parser {
         }
     }
 
-    /// Takes the next token.
+    /// Takes the next token. Where memory runs out, it is lost.
     fn take(&mut self, token: Token) -> Result<(), AllocError>
         ensures { OnOk result (self.new ≡ step self.old token) }
     {
@@ -66,6 +67,7 @@ impl Parser {
         ensures ok { OnOk result (self.new ≡ after self.old (tokens_of tokens.items)) }
         ensures reached { IsReached self.old }
     {
+        // Looks at a field, so that the invariant is known before the first token.
         let _ = &self.stage;
         for placed in tokens {
             self.take(placed.token)?;

@@ -7,7 +7,7 @@ use thiserror::Error;
 
 /// The outside did not do what was asked.
 #[derive(Clone, Copy, Debug, PartialEq, Eq, Error)]
-#[error("the outside failed")]
+#[error("the device failed")]
 pub struct Failed;
 
 /// Documents under names, each read from its front on.

@@ -100,3 +100,19 @@ fn puts_no_more_than_there_is_room_for(rt: HostRuntime) -> Result<(), Fail> {
     }
     Ok(())
 }
+
+#[test]
+fn refusals_are_printed(rt: HostRuntime) -> Result<(), Fail> {
+    let text = format!(in rt.alloc();
+        "{} / {} / {} / {}",
+        Failed,
+        ReadFault::Failed,
+        ReadFault::TooLong,
+        ReadFault::Memory
+    )?;
+    assert_eq!(rt;
+        text.as_str(),
+        "the device failed / the shelf failed / the document is longer than its limit / out of memory"
+    );
+    Ok(())
+}

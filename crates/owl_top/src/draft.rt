@@ -49,6 +49,7 @@ impl Model for Draft {
 }
 
 impl Draft {
+    /// The empty text. Takes no memory.
     pub fn new(alloc: Global) -> Draft
         ensures { result ≡ [] }
     {
@@ -57,6 +58,7 @@ impl Draft {
         }
     }
 
+    /// Adds these bytes.
     pub fn add(&mut self, part: &str) -> Result<(), WriteFault>
         ensures ok { OnOk result (self.new ≡ self.old ++ part.now) }
         ensures too_long { IsErrOf result WriteFault.TooLong → 2 ^ 27 < length (self.old ++ part.now) }
@@ -68,6 +70,7 @@ impl Draft {
         Ok(())
     }
 
+    /// Adds an IRI in full, between `<` and `>`.
     fn add_iri(&mut self, iri: &Text) -> Result<(), WriteFault>
         ensures ok { OnOk result (self.new ≡ self.old ++ bracketed iri.now) }
         ensures too_long { IsErrOf result WriteFault.TooLong → 2 ^ 27 < length (self.old ++ bracketed iri.now) }
@@ -78,6 +81,7 @@ impl Draft {
         Ok(())
     }
 
+    /// Adds the first line, with the ontology's IRI if it has one.
     pub fn add_header(&mut self, iri: &Option<Text>) -> Result<(), WriteFault>
         ensures ok { OnOk result (self.new ≡ self.old ++ header_line iri.now) }
         ensures too_long { IsErrOf result WriteFault.TooLong → 2 ^ 27 < length (self.old ++ header_line iri.now) }
@@ -112,16 +116,18 @@ impl Draft {
         Ok(())
     }
 
-    pub fn add_axiom(&mut self, axiom: &FirstAxiom) -> Result<(), WriteFault>
-        ensures ok { OnOk result (self.new ≡ self.old ++ axiom_line axiom.now) }
-        ensures too_long { IsErrOf result WriteFault.TooLong → 2 ^ 27 < length (self.old ++ axiom_line axiom.now) }
+    /// Adds the line of an axiom.
+    pub fn add_axiom(&mut self, line: &FirstAxiom) -> Result<(), WriteFault>
+        ensures ok { OnOk result (self.new ≡ self.old ++ axiom_line line.now) }
+        ensures too_long { IsErrOf result WriteFault.TooLong → 2 ^ 27 < length (self.old ++ axiom_line line.now) }
     {
-        match axiom {
+        match line {
             FirstAxiom::Declares(class) => self.add_declaration(class),
             FirstAxiom::Sub(sub, superclass) => self.add_subclass(sub, superclass),
         }
     }
 
+    /// The text.
     pub fn into_text(self) -> String
         ensures text { string_bytes result ≡ self }
         ensures within { length self ≤ 2 ^ 27 }

@@ -130,6 +130,27 @@ fn refuses_other_words(rt: HostRuntime) -> Result<(), Fail> {
 }
 
 #[test]
+fn reads_words(rt: HostRuntime) -> Result<(), Fail> {
+    let line = split(rt.alloc(), "translate --to fss classes.v2.ofn")?;
+    let Command::Translate { target, names } = words(rt.alloc(), &line)?;
+    assert_eq!(rt; target, Target::Fss);
+    assert_eq!(rt;
+        names.as_slice(),
+        [Text::of(rt.alloc(), "classes.v2.ofn")?].as_slice()
+    );
+    let other = words(rt.alloc(), &split(rt.alloc(), "translate classes.v2.ofn")?).err();
+    assert_eq!(rt; other, Some(WordsFault::Words));
+    for (fault, want) in [
+        (WordsFault::Words, "words"),
+        (WordsFault::Memory, "out of memory"),
+    ] {
+        let text = format!(in rt.alloc(); "{fault}")?;
+        assert_eq!(rt; text.as_str(), want);
+    }
+    Ok(())
+}
+
+#[test]
 fn tells_that_a_read_failed(rt: HostRuntime) -> Result<(), Fail> {
     let mut room = room_with(rt.alloc(), "Ontology()")?;
     room.shelf.piece(8);
