@@ -1,4 +1,5 @@
 pub mod Characters
+pub mod NameCharacters
 pub mod Spans
 pub mod First
 pub mod Longest

@@ -1,4 +1,5 @@
 pub mod Iri
+pub mod Names
 pub mod Tokens
 pub mod Lexing
 pub mod States

@@ -3,6 +3,7 @@
 use Rattle.std.specs.Prelude.{◌≡◌, ℕ, ◌+◌, ◌≤◌, Bool, List, [], ◌∷◌, ◌++◌, length, codes}
 use Rattle.std.specs.Char.{is_ascii_alphabetic}
 use Rattle.owl_text.specs.Iri.{AllAre, IsIri, is_among, is_ascii}
+use Rattle.owl_text.specs.Names.{IsRunOf}
 use Rattle.owl_text.specs.declared.token.Token.{Token}
 use Rattle.owl_text.specs.declared.token.Token.TheVariants.{Iri, Word, Sign}
 use Rattle.owl_text.specs.declared.token.Sign.{Sign as Mark}
@@ -25,8 +26,7 @@ spelling (Sign sign) = sign_spelling sign
 
 -- one or more ASCII letters
 abbrev pub IsWord : List ℕ → Type 0
-IsWord [] = ⊥
-IsWord (c ∷ cs) = AllAre is_ascii_alphabetic (c ∷ cs)
+IsWord cs = IsRunOf is_ascii_alphabetic cs
 
 -- what a token may hold
 abbrev pub IsToken : Token → Type 0

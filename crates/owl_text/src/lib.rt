@@ -4,12 +4,14 @@
 mod bytes;
 mod fault;
 mod lexer;
+mod names;
 mod state;
 mod text;
 mod token;
 
 pub use fault::LexFault;
 pub use lexer::Lexer;
+pub use names::{is_base, is_part, is_start};
 pub use text::{NoMemory, Text};
 pub use token::{Dialect, Placed, Sign, Token};
 
