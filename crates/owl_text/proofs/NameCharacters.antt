@@ -1,12 +1,12 @@
 -- The characters of names may stand in IRIs.
-use Rattle.std.proofs.Common.{subst, ◌≡◌, ℕ, ◌≤◌, ◌<◌, Bool, true, false, not, ◌&&◌, ◌||◌, List, [], ◌∷◌, ◌++◌, refl, sym, ap, ◌∙◌, inl, inr, arith}
+use Rattle.std.proofs.Common.{subst, ◌≡◌, ℕ, ◌≤◌, ◌<◌, Bool, true, not, ◌&&◌, ◌||◌, List, [], ◌∷◌, ◌++◌, refl, sym, ap, ◌∙◌, inl, inr, arith}
 use Rattle.std.specs.Prelude.{codes, flat_map, nat_lt, nat_le, ◌==◌}
 use Rattle.std.specs.Char.{is_ascii_digit, is_ascii_hexdigit}
 use Rattle.std.specs.Int.{is_in_range}
-use Rattle.std.specs.List.{AllByRecursion, list_all, list_any}
+use Rattle.std.specs.List.{AllByRecursion, list_all}
 use Rattle.std.proofs.lemmas.Bool.{and_parts, and_from, or_cases, eqb-true, not_from_false, false_from_ne_true, both_ways, not-true, leb-true, ltb-true, lt-ltb}
 use Rattle.owl_text.specs.Iri.{AllAre, is_among, is_iri_character}
-use Rattle.owl_text.specs.Names.{in_ranges, base_ranges, start_ranges, part_ranges, is_base, is_start, is_part, is_local_start, is_local_inner, is_escapable, Piece, plain, percent, escaped, IsPieceOf, piece_text, AreLocalPieces, SpellsLocal}
+use Rattle.owl_text.specs.Names.{in_ranges, base_ranges, start_ranges, part_ranges, is_base, is_start, is_part, is_local_start, is_local_inner, Piece, plain, percent, escaped, IsPieceOf, piece_text, AreLocalPieces, SpellsLocal}
 
 -- what no IRI has behind its scheme
 abbrev marks : List ℕ

@@ -1,5 +1,7 @@
 pub mod Iri
 pub mod Names
+pub mod Order
+pub mod OrderLaws
 pub mod Tokens
 pub mod Lexing
 pub mod States

@@ -1,14 +1,14 @@
 //! Owned texts.
 
-ghost use Rattle.std.specs.Prelude.{◌≡◌, ◌++◌, ◌∷◌, [], true, nat_eq, ◌↔◌, IsTrue, IfOk, OnOk, OnErr};
-ghost use Rattle.std.specs.Ordering.{on, as_partial_cmp, nat_cmp};
+ghost use Rattle.std.specs.Prelude.{◌≡◌, ◌++◌, ◌∷◌, [], true, ◌↔◌, IsTrue, IfOk, OnOk, OnErr};
+ghost use Rattle.std.specs.Ordering.{as_partial_cmp};
 ghost use Rattle.std.specs.Cmp.{partial_order_from_own_ties};
-ghost use Rattle.std.specs.Cmp.Lexicographic.{slice_cmp};
 ghost use Rattle.std.specs.Cmp.Rules.{comparing, hashing};
 ghost use Rattle.std.specs.Hash as fed;
 ghost use Rattle.std.specs.Str.{chars, encode_utf8_all, all_scalars};
-ghost use Rattle.std.proofs.Common.{rules};
-ghost use lib.Pointwise.{pointwise};
+ghost use Rattle.std.proofs.Common.{ap, rules};
+ghost use Rattle.owl_text.specs.Order.{text_cmp, text_eq};
+ghost use Rattle.owl_text.specs.OrderLaws.{equal_bytes, equal_ties};
 
 use std::alloc::{AllocError, Global};
 use std::cmp::Ordering;
@@ -23,7 +23,8 @@ pub struct NoMemory;
 
 /// An owned text in UTF-8, which contracts see as the list of its characters.
 ///
-/// Texts are compared, ordered and hashed by their bytes.
+/// Texts are equal where they have the same characters, and they are ordered
+/// by their bytes.
 #[derive(Debug, Drop)]
 pub struct Text {
     string: String,
@@ -84,7 +85,7 @@ impl Text {
 }
 
 impl PartialEq for Text {
-    ghost eq = { on encode_utf8_all (pointwise nat_eq) };
+    ghost eq = { text_eq };
 
     ghost laws = { Prim.search (comparing, rules) };
 
@@ -98,9 +99,9 @@ impl Eq for Text {
 }
 
 impl PartialOrd for Text {
-    ghost partial_cmp = { as_partial_cmp (on encode_utf8_all (slice_cmp nat_cmp)) };
+    ghost partial_cmp = { as_partial_cmp text_cmp };
 
-    ghost laws = { partial_order_from_own_ties (Prim.search (comparing, rules)) (Prim.search (comparing, rules)) };
+    ghost laws = { partial_order_from_own_ties (Prim.search (comparing, rules)) equal_ties };
 
     fn partial_cmp(&self, other: &Text) -> Option<Ordering> {
         Some(self.cmp(other))
@@ -108,13 +109,13 @@ impl PartialOrd for Text {
 }
 
 impl Ord for Text {
-    ghost cmp = { on encode_utf8_all (slice_cmp nat_cmp) };
+    ghost cmp = { text_cmp };
 
     ghost total = { Prim.search (comparing, rules) };
 
     ghost matches_partial_cmp = { Prim.search (comparing, rules) };
 
-    ghost matches_eq = { Prim.search (comparing, rules) };
+    ghost matches_eq = { equal_ties };
 
     fn cmp(&self, other: &Text) -> Ordering {
         self.as_str().cmp(other.as_str())
@@ -124,7 +125,7 @@ impl Ord for Text {
 impl Hash for Text {
     ghost hash_input = { λ t. fed.str (encode_utf8_all t) };
 
-    ghost respects_eq = { Prim.search (hashing, rules) };
+    ghost respects_eq = { λ a b h. ap fed.str (equal_bytes a b h) };
 
     fn hash<H: Hasher>(&self, state: &mut H) {
         self.as_str().hash(state);
