@@ -1,13 +1,10 @@
-// A library with one function.
+//! The atoms of ontologies: IRIs, labels of anonymous individuals, literals
+//! and prefixes, and the datatypes that are built in.
 #![tactic(auto)]
 
-ghost use Rattle.std.specs.Prelude.{◌≡◌};
-ghost use Rattle.owl_atom.specs.Echo.{echo_of};
+mod fault;
+mod iri;
+mod scan;
 
-// The `ensures` clause is the contract: what `echo` returns is `echo_of` of its argument, a definition
-// in `specs/Echo.antt`, which a caller's clause can cite too.
-pub fn echo(x: usize) -> usize
-    ensures { result ≡ echo_of x }
-{
-    x
-}
+pub use fault::{DeclareFault, ExpandFault, IriFault, LabelFault, LiteralFault};
+pub use iri::Iri;

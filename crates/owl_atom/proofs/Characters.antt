@@ -1,0 +1,52 @@
+-- What tests of a text tell of its characters.
+use Rattle.std.proofs.Common.{◌≡◌, ℕ, ◌<◌, ◌+◌, ◌↔◌, Bool, true, not, List, [], ◌∷◌, ◌++◌, refl, sym, ap, ◌∙◌, subst, take, drop, length, length-drop, take-append-drop, arith}
+use Rattle.std.specs.Char.{len_utf8}
+use Rattle.std.specs.List.{list_all}
+use Rattle.std.specs.Str.{IsUtf8, NoCharPasses, IsCharBoundary, NonePass, chars}
+use Rattle.std.specs.Str.Pattern.{HasCharAt}
+use Rattle.std.proofs.lemmas.Bool.{and_parts, and_from, not_from_false}
+use Rattle.std.proofs.lemmas.Str.{chars-append, chars_past_char, encodes-chars, encodes_same, IsCharBoundary-before_ascii, IsUtf8-take, IsUtf8-drop}
+use Rattle.std.proofs.lemmas.Str.Pattern.{drop_at_char}
+use Rattle.owl_text.specs.Iri.{AllAre}
+
+-- the test of all characters, and the fact
+pub all_are : (test : ℕ → Bool) (cs : List ℕ) → (list_all test cs ≡ true) ↔ AllAre test cs
+all_are test [] = (λ _. tt, λ _. refl)
+all_are test (c ∷ cs) =
+    let rest = all_are test cs in (
+      λ h. let both = and_parts (test c) (list_all test cs) h in (both.0, rest.0 both.1),
+      λ h. and_from (test c) (list_all test cs) h.0 (rest.1 h.1),
+    )
+
+-- no character passes the test
+abbrev pub NoneAre : (ℕ → Bool) → List ℕ → Type 0
+NoneAre test cs = AllAre (λ c. not (test c)) cs
+
+none_pass : (test : ℕ → Bool) (cs : List ℕ) → NonePass test cs → NoneAre test cs
+none_pass test [] h = tt
+none_pass test (c ∷ cs) h = (not_from_false (test c) h.0, none_pass test cs h.1)
+
+pub none_of : (test : ℕ → Bool) (bs : List ℕ) → IsUtf8 bs → NoCharPasses test bs → NoneAre test (chars bs)
+none_of test bs u h =
+    let same : h.0 ≡ chars bs = encodes_same h.0 (chars bs) (h.1 ∙ sym (encodes-chars bs u)) in
+    subst (NoneAre test) same (none_pass test h.0 h.2)
+
+-- a text may be cut before an ASCII character
+boundary_at : (c : ℕ) (bs : List ℕ) (i j : ℕ) → HasCharAt c bs i j → c < 128 → IsCharBoundary bs i
+boundary_at c bs i j h small =
+    let here : drop i bs ≡ c ∷ drop j bs = drop_at_char c bs i j h small in
+    let within : i < length bs = omega (arith, ap (λ (x : List ℕ). length x) here, length-drop i bs) in
+    IsCharBoundary-before_ascii bs i within (subst (λ n. n < 128) (sym (h.byte small)) small)
+
+pub front_utf8 : (c : ℕ) (bs : List ℕ) (i j : ℕ) → IsUtf8 bs → HasCharAt c bs i j → c < 128 → IsUtf8 (take i bs)
+front_utf8 c bs i j u h small = IsUtf8-take bs i u (boundary_at c bs i j h small)
+
+pub back_utf8 : (c : ℕ) (bs : List ℕ) (i j : ℕ) → IsUtf8 bs → HasCharAt c bs i j → IsUtf8 (drop j bs)
+back_utf8 c bs i j u h = subst (λ n. IsUtf8 (drop n bs)) (sym h.ends) (IsUtf8-drop bs (i + len_utf8 c) u h.after)
+
+-- a text that is cut at an ASCII character has its characters cut there
+pub cut_at : (c : ℕ) (bs : List ℕ) (i j : ℕ) → IsUtf8 bs → HasCharAt c bs i j → c < 128 → chars bs ≡ chars (take i bs) ++ c ∷ chars (drop j bs)
+cut_at c bs i j u h small =
+    sym (ap chars (take-append-drop i bs))
+    ∙ chars-append (take i bs) (drop i bs) (front_utf8 c bs i j u h small)
+    ∙ ap (λ x. chars (take i bs) ++ x) (chars_past_char (drop i bs) (drop j bs) c (IsUtf8-drop bs i u (boundary_at c bs i j h small)) h.split)
