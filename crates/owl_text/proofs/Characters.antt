@@ -22,6 +22,10 @@ pub push_ok : {T E : Type 0} (r : Result T E) (s t cs : List ℕ) (c : ℕ) → 
 push_ok (Ok x) s t cs c u h e p = ap chars p ∙ chars-push s c u h ∙ ap (λ x. x ++ c ∷ []) e
 push_ok (Err x) s t cs c u h e p = tt
 
+-- what is left when a text was put at the end
+pub pushed : (s more t cs : List ℕ) → IsUtf8 s → chars s ≡ cs → t ≡ s ++ more → chars t ≡ cs ++ chars more
+pushed s more t cs u h e = ap chars e ∙ chars-append s more u ∙ ap (λ x. x ++ chars more) h
+
 -- a test of the bytes of two texts is one of their characters
 pub same_chars : (b : Bool) (s w cs : List ℕ) → b ≡ bytes_eq s w → IsUtf8 s → IsUtf8 w → chars s ≡ cs → (b ≡ true → cs ≡ chars w) × (cs ≡ chars w → b ≡ true)
 same_chars b s w cs e u v h =

@@ -36,7 +36,12 @@ fn a_text_has_its_characters(rt: HostRuntime) -> Result<(), Fail> {
         assert!(rt; !text.is(before), "no more {before}");
         assert_eq!(rt; text, Text::of(rt.alloc(), whole)?);
     }
-    assert!(rt; Text::new(rt.alloc()).is(""));
+    let mut text = Text::new(rt.alloc());
+    assert!(rt; text.is(""));
+    text.push_str("é")?;
+    text.push_str("")?;
+    text.push_str("€a")?;
+    assert_eq!(rt; text.as_str(), "é€a");
     Ok(())
 }
 

@@ -21,6 +21,14 @@ use thiserror::Error;
 #[error("out of memory")]
 pub struct NoMemory;
 
+impl From<AllocError> for NoMemory {
+    ghost from_gives = { λ _ _. Unit {0} };
+
+    fn from(_e: AllocError) -> NoMemory {
+        NoMemory
+    }
+}
+
 /// An owned text in UTF-8, which contracts see as the list of its characters.
 ///
 /// Texts are equal where they have the same characters, and they are ordered
@@ -53,10 +61,8 @@ impl Text {
     pub fn of(alloc: Global, text: &str) -> Result<Text, NoMemory>
         ensures { IfOk result (λ t. t ≡ chars text.now) }
     {
-        match String::from_str(alloc, text) {
-            Ok(string) => Ok(Text { string }),
-            Err(_) => Err(NoMemory),
-        }
+        let string = String::from_str(alloc, text)?;
+        Ok(Text { string })
     }
 
     /// The same characters. Takes no memory.
@@ -81,6 +87,15 @@ impl Text {
         ensures err { OnErr result (self.new ≡ self.old) }
     {
         self.string.push(c)
+    }
+
+    /// Puts characters at the end. At want of memory the text stays as it was.
+    pub fn push_str(&mut self, more: &str) -> Result<(), NoMemory>
+        ensures ok { OnOk result (self.new ≡ self.old ++ chars more.now) }
+        ensures err { OnErr result (self.new ≡ self.old) }
+    {
+        self.string.push_str(more)?;
+        Ok(())
     }
 }
 
