@@ -1,7 +1,6 @@
 //! Why a call refused.
 
 ghost use Rattle.std.specs.Prelude.{◌≡◌};
-ghost use Rattle.owl_text.specs.declared.text.NoMemory.{NoMemory as Wanting};
 ghost use Rattle.owl_atom.specs.declared.fault.IriFault.TheVariants.{Memory as IriMemory};
 ghost use Rattle.owl_atom.specs.declared.fault.LabelFault.TheVariants.{Memory as LabelMemory};
 ghost use Rattle.owl_atom.specs.declared.fault.LiteralFault.TheVariants.{Memory as LiteralMemory};
@@ -64,14 +63,6 @@ impl From<NoMemory> for LiteralFault {
     ghost from_gives = { λ _ e. e ≡ LiteralMemory };
 
     fn from(_e: NoMemory) -> LiteralFault {
-        LiteralFault::Memory
-    }
-}
-
-impl From<IriFault> for LiteralFault {
-    ghost from_gives = { λ _ _. Unit {0} };
-
-    fn from(_e: IriFault) -> LiteralFault {
         LiteralFault::Memory
     }
 }

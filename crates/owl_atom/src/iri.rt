@@ -1,9 +1,9 @@
 //! IRIs.
 
-ghost use Rattle.std.specs.Prelude.{◌≡◌, ◌↔◌, IsTrue, IfOk, IsErrOf, true};
+ghost use Rattle.std.specs.Prelude.{◌≡◌, ◌↔◌, ◌++◌, IsTrue, IfOk, IsErrOf, true};
 ghost use Rattle.std.specs.Str.{chars, encode_utf8_all, all_scalars};
 ghost use Rattle.std.specs.Char.{is_ascii_alphabetic};
-ghost use Rattle.owl_text.specs.Iri.{AllAre, IsIri, IsScheme};
+ghost use Rattle.owl_text.specs.Iri.{AllAre, IsIri, IsScheme, is_iri_character};
 ghost use Rattle.owl_atom.specs.Characters.{begins_with};
 ghost use Rattle.owl_text.specs.Order.{text_cmp, text_eq};
 ghost use Rattle.std.specs.Cmp.Rules.{comparing, hashing};
@@ -48,6 +48,14 @@ impl Iri {
         if !is_iri(text) {
             return Err(IriFault::BadIri);
         }
+        Ok(Iri::known(alloc, text)?)
+    }
+
+    /// The IRI with these characters, of which it is known that they are one.
+    pub(crate) fn known(alloc: Global, text: &str) -> Result<Iri, NoMemory>
+        requires { IsIri (chars text.now) }
+        ensures { IfOk result (λ iri. iri ≡ chars text.now) }
+    {
         let text = Text::of(alloc, text)?;
         Ok(Iri { text })
     }
@@ -62,12 +70,28 @@ impl Iri {
         self.text.as_str()
     }
 
+    /// Whether these are its characters. Takes no memory.
+    pub(crate) fn is(&self, text: &str) -> bool
+        ensures { IsTrue result ↔ (self.now ≡ chars text.now) }
+    {
+        self.text.is(text)
+    }
+
+    /// This IRI, and then characters that an IRI may have.
+    pub fn followed_by(&self, alloc: Global, more: &str) -> Result<Iri, NoMemory>
+        requires { AllAre is_iri_character (chars more.now) }
+        ensures { IfOk result (λ iri. iri ≡ self.now ++ chars more.now) }
+    {
+        let mut text = Text::of(alloc, self.text.as_str())?;
+        text.push_str(more)?;
+        Ok(Iri { text })
+    }
+
     /// An equal IRI.
     pub fn copy(&self, alloc: Global) -> Result<Iri, NoMemory>
         ensures { IfOk result (λ iri. iri ≡ self.now) }
     {
-        let text = Text::of(alloc, self.text.as_str())?;
-        Ok(Iri { text })
+        Iri::known(alloc, self.text())
     }
 }
 

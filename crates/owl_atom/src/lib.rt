@@ -4,7 +4,18 @@
 
 mod fault;
 mod iri;
+mod label;
+mod language;
+mod literal;
+mod prefixes;
 mod scan;
+mod vocabulary;
 
 pub use fault::{DeclareFault, ExpandFault, IriFault, LabelFault, LiteralFault};
 pub use iri::Iri;
+pub use label::Label;
+pub use literal::Literal;
+pub use prefixes::Prefixes;
+
+#[cfg(test)]
+mod tests;

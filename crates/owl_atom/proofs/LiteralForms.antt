@@ -1,0 +1,135 @@
+-- What the forms of literals denote.
+use Rattle.std.proofs.Common.{Result, Ok, Err, IfOk, IsErrOf, IsNone, ◌⊎◌, Option, length, inl, inr, arith, ◌≡◌, ◌≢◌, ℕ, ◌<◌, ◌↔◌, Bool, true, false, not, List, [], ◌∷◌, ◌++◌, get_or, take, drop, Some, None, refl, sym, ap, ◌∙◌, subst}
+use Rattle.std.specs.Prelude.{codes, ◌==◌}
+use Rattle.std.specs.Char.{is_ascii_alphanumeric}
+use Rattle.std.specs.List.{list_all}
+use Rattle.std.specs.Str.{IsUtf8, chars, encode_utf8_all}
+use Rattle.std.specs.Str.Pattern.{RFindsChar}
+use denote.Ref.{Bor}
+use Rattle.std.proofs.lemmas.Bool.{both_ways, false≢true, ne_eqb}
+use Rattle.std.proofs.lemmas.Str.{chars-nil, encodes-chars}
+use Rattle.std.specs.Option.{option_map}
+use Rattle.owl_atom.specs.declared.fault.LiteralFault.{LiteralFault}
+use Rattle.owl_atom.specs.declared.fault.LiteralFault.TheVariants.{BadLiteral}
+use Rattle.owl_text.specs.Iri.{AllAre, IsIri, is_iri_character}
+use Rattle.owl_text.specs.Names.{IsLanguageTag}
+use Rattle.owl_text.proofs.Spans.{SameCut, found}
+use Rattle.owl_atom.specs.Literals.{Denotes, DenotesTyped, FitsTag, LiteralParts, PlainForm, PlainParts, lang_string, of_datatype, plain_literal, string, with_tag}
+use Rattle.owl_atom.proofs.Characters.{NoneAre, all_are, back_utf8, cut_at, none_of}
+use Rattle.owl_atom.proofs.Iris.{another}
+use Rattle.owl_atom.proofs.LanguageTags.{tag_passes}
+
+-- lists that are cut at the last character that fails are cut alike
+same_last_cut : (p : ℕ → Bool) (xs ys : List ℕ) (c : ℕ) (a b : List ℕ) → AllAre p a → AllAre p b → p c ≡ false → xs ++ c ∷ a ≡ ys ++ c ∷ b → SameCut xs ys c c a b
+same_last_cut p [] [] c a b ha hb f e = record { front = refl; fails = refl; rest = cc }
+same_last_cut p [] (y ∷ ys) c a b ha hb f e = absurd (found p ys c b a ha f (cc))
+same_last_cut p (x ∷ xs) [] c a b ha hb f e = absurd (found p xs c a b hb f (cc))
+same_last_cut p (x ∷ xs) (y ∷ ys) c a b ha hb f e =
+    let s = same_last_cut p xs ys c a b ha hb f (cc) in
+    let h : x ≡ y = cc in
+    record { front = cc; fails = refl; rest = s.rest }
+
+-- what `rsplit_once` tells of the characters
+pub last_cut : (c : ℕ) (bs : List ℕ) (front back : Bor (List ℕ)) (i j : ℕ) → IsUtf8 bs → RFindsChar c bs (Some (i, j)) → front.now ≡ take i bs → back.now ≡ drop j bs → c < 128 → (chars bs ≡ chars front.now ++ c ∷ chars back.now) × NoneAre (λ d. d == c) (chars back.now)
+last_cut c bs front back i j u h before after small = (
+  cut_at c bs i j u h.1 small ∙ ap (λ x. chars x ++ c ∷ chars (drop j bs)) (sym before) ∙ ap (λ x. chars front.now ++ c ∷ chars x) (sym after),
+  subst (λ x. NoneAre (λ d. d == c) (chars x)) (sym after) (none_of (λ d. d == c) (drop j bs) (back_utf8 c bs i j u h.1) h.0),
+)
+
+-- what stands behind the `@` of a form has none itself
+rest_has_none : (text rest : List ℕ) (literal : LiteralParts) → PlainParts text rest literal → NoneAre (λ d. d == 64) rest
+rest_has_none text [] literal h = tt
+rest_has_none text (c ∷ cs) literal h =
+    tag_passes (λ d. not (d == 64)) refl (λ d t. another is_ascii_alphanumeric 64 d refl t) (c ∷ cs) h.0
+
+-- what a form denotes is what the parts at its last `@` denote
+pub parts_of_form : (form before after : List ℕ) → form ≡ before ++ 64 ∷ after → NoneAre (λ d. d == 64) after → (literal : LiteralParts) → PlainParts before after literal ↔ PlainForm form literal
+parts_of_form form before after e fresh literal = (
+  λ h. record { text = before; rest = after; parts = e; denotes = h },
+  λ f.
+      let same = same_last_cut (λ d. not (d == 64)) before f.text 64 after f.rest fresh (rest_has_none f.text f.rest literal f.denotes) refl (sym e ∙ f.parts) in
+      subst (λ x. PlainParts x after literal) (sym same.front) (subst (λ y. PlainParts f.text y literal) (sym same.rest) f.denotes),
+)
+
+pub no_form : (form : List ℕ) → NoneAre (λ d. d == 64) form → (literal : LiteralParts) → PlainForm form literal → ⊥
+no_form form fresh literal f = found (λ d. not (d == 64)) f.text 64 f.rest form fresh refl f.parts
+
+-- an IRI that is written out
+written_iri : (rest : List ℕ) → list_all is_iri_character rest ≡ true → IsIri (codes "http:" ++ rest)
+written_iri rest h = record { scheme = codes "http"; rest = rest; parts = refl; named = (refl, (refl, (refl, (refl, tt)))); allowed = (all_are is_iri_character rest).0 h }
+
+pub string_is_iri : IsIri string
+string_is_iri = written_iri (codes "//www.w3.org/2001/XMLSchema#string") refl
+
+pub plain_literal_is_iri : IsIri plain_literal
+plain_literal_is_iri = written_iri (codes "//www.w3.org/1999/02/22-rdf-syntax-ns#PlainLiteral") refl
+
+-- texts that differ at the place 18
+apart : (a b : List ℕ) → (get_or a 18 0 == 50) ≡ true → (get_or b 18 0 == 50) ≡ false → a ≢ b
+apart a b h k e = false≢true (sym k ∙ sym (ap (λ x. get_or x 18 0 == 50) e) ∙ h)
+
+pub string_has_no_tags : FitsTag None string
+string_has_no_tags = (apart string plain_literal refl refl, apart string lang_string refl refl)
+
+pub string_chars : chars string ≡ string
+unfolding chars
+string_chars = refl
+
+pub plain_literal_chars : chars plain_literal ≡ plain_literal
+unfolding chars
+plain_literal_chars = refl
+
+pub lang_string_chars : chars lang_string ≡ lang_string
+unfolding chars
+lang_string_chars = refl
+
+-- where a form denotes something, and the call does not refuse it
+pub taken : {T : Type 0} (r : Result T LiteralFault) (D : LiteralParts → Type 0) (literal : LiteralParts) → D literal → (IsErrOf r BadLiteral → ⊥) → IsErrOf r BadLiteral ↔ ((other : LiteralParts) → D other → ⊥)
+taken r D literal d n = (λ bad. absurd (n bad), λ none. absurd (none literal d))
+
+-- where a form denotes nothing
+pub refused : {T : Type 0} (D : LiteralParts → Type 0) → ((other : LiteralParts) → D other → ⊥) → IsErrOf {T = T} {E = LiteralFault} (Err BadLiteral) BadLiteral ↔ ((other : LiteralParts) → D other → ⊥)
+refused D none = (λ _. none, λ _. refl)
+
+-- what is refused is the same where the two denote the same
+pub alike : {T : Type 0} (r : Result T LiteralFault) (C D : LiteralParts → Type 0) → ((literal : LiteralParts) → C literal ↔ D literal) → IsErrOf r BadLiteral ↔ ((other : LiteralParts) → C other → ⊥) → IsErrOf r BadLiteral ↔ ((other : LiteralParts) → D other → ⊥)
+alike r C D same h = (λ bad other d. h.0 bad other ((same other).1 d), λ none. h.1 (λ other c. none other ((same other).0 c)))
+
+pub given : {E : Type 0} (r : Result LiteralParts E) (C D : LiteralParts → Type 0) → ((literal : LiteralParts) → C literal → D literal) → IfOk r C → IfOk r D
+given (Ok literal) C D to h = to literal h
+given (Err e) C D to h = tt
+
+-- a text of no bytes has no characters, and no other has none
+pub none_when_empty : (bs : List ℕ) → (length bs == 0) ≡ true → chars bs ≡ []
+none_when_empty [] h = chars-nil
+none_when_empty (b ∷ bs) h = absurd (both_ways (length (b ∷ bs) == 0) (ne_eqb _ 0 (λ e. omega (arith, e))) h)
+
+pub some_when_not : (bs : List ℕ) → IsUtf8 bs → (length bs == 0) ≡ false → chars bs ≡ [] → ⊥
+some_when_not bs u h e = both_ways (length bs == 0) h (ap (λ x. length x == 0) (sym (encodes-chars bs u) ∙ ap encode_utf8_all e))
+
+pub parts_of_tag : (text tag : List ℕ) → IsLanguageTag tag → PlainParts text tag (with_tag text tag)
+parts_of_tag text [] h = absurd h.0
+parts_of_tag text (c ∷ cs) h = (h, refl)
+
+pub no_parts : (text rest : List ℕ) → (rest ≡ [] → ⊥) → (IsLanguageTag rest → ⊥) → (literal : LiteralParts) → PlainParts text rest literal → ⊥
+no_parts text [] some no_tag literal h = some refl
+no_parts text (c ∷ cs) some no_tag literal h = no_tag h.0
+
+-- a form of rdf:PlainLiteral, and one of any other datatype that has forms
+pub typed_plain : (form datatype : List ℕ) → datatype ≡ plain_literal → (literal : LiteralParts) → PlainForm form literal ↔ DenotesTyped form datatype literal
+typed_plain form datatype e literal = (λ f. inl (e, f), λ t. elim t [ inl x ↦ x.1 | inr x ↦ absurd (x.0 e) ])
+
+-- with a datatype there is no tag
+pub without_tag : (form datatype : List ℕ) (tag : Option (Bor (List ℕ))) → IsNone tag → (literal : LiteralParts) → DenotesTyped form datatype literal ↔ Denotes form (Some datatype) (option_map (λ t. chars t.now) tag) literal
+without_tag form datatype None h literal = (λ d. d, λ d. d)
+without_tag form datatype (Some tag) h literal = absurd (cc)
+
+pub one_of_two : {X Y : Type 0} (o : Option X) (x : X) (p : Option Y) → IsNone o ⊎ IsNone p → o ≡ Some x → IsNone p
+one_of_two None x p h e = absurd (cc)
+one_of_two (Some y) x p (inl h) e = absurd (cc)
+one_of_two (Some y) x p (inr h) e = h
+
+-- a form without a datatype denotes something
+pub without_datatype : (form : List ℕ) (tag : Option (List ℕ)) → (literal : LiteralParts) × Denotes form None tag literal
+without_datatype form None = (of_datatype form string, refl)
+without_datatype form (Some tag) = (with_tag form tag, refl)

@@ -1,0 +1,2 @@
+mod prefixes;
+mod values;
