@@ -1,12 +1,12 @@
 -- Which texts are language tags.
-use Rattle.std.proofs.Common.{◌≡◌, ◌≢◌, ℕ, zero, suc, ◌<◌, lit<, None, Some, ◌↔◌, Bool, true, false, List, [], ◌∷◌, length, refl, sym, ap, ◌∙◌, inl, inr, subst, arith, get_or}
+use Rattle.std.proofs.Common.{◌≡◌, ◌≢◌, ℕ, suc, ◌<◌, lit<, None, Some, ◌↔◌, Bool, true, false, List, [], ◌∷◌, length, refl, sym, ap, ◌∙◌, inl, inr, subst, arith, get_or}
 use Rattle.std.specs.Prelude.{◌||◌, ◌==◌, nat_le}
 use denote.Ref.{Bor}
 use Rattle.std.specs.Int.{is_in_range}
 use Rattle.std.specs.Char.{is_ascii_alphabetic, is_ascii_alphanumeric}
 use Rattle.std.specs.List.{AllByRecursion, after_first, list_all, onto_first, slice_split}
 use Rattle.std.specs.Str.{IsAscii, IsUtf8, chars}
-use Rattle.std.proofs.lemmas.Bool.{and_parts, and_from, cases_Bool, eqb-true, false≢true, leb-true, lt-ltb, ltb-true, ne_eqb, or_cases, or_left, or_right}
+use Rattle.std.proofs.lemmas.Bool.{and_parts, and_from, cases_Bool, eqb-true, false≢true, leb-true, lt-ltb, ne_eqb, or_cases, or_left, or_right}
 use Rattle.std.proofs.lemmas.List.Splits.{slice_split-cons_no, slice_split-cons_yes, slice_split_first}
 use Rattle.std.proofs.lemmas.Str.Pattern.{IsSplitOnceResult, split_once_first, split_parts}
 use Rattle.std.proofs.lemmas.Str.{chars-IsAscii, encodes-IsAscii, encodes-chars}
@@ -15,6 +15,7 @@ use Rattle.owl_text.specs.Names.{AreSubtags, IsLanguageTag, IsRunOf}
 use Rattle.owl_text.proofs.Spans.{AllAre-weaker}
 use Rattle.owl_atom.specs.Characters.{is_run_of}
 use Rattle.owl_atom.proofs.Characters.{all_are}
+use Rattle.owl_atom.proofs.Words.{ascii_text}
 
 -- a run that is not empty
 pub run_of_some : (test : ℕ → Bool) (xs : List ℕ) (b : Bool) → (length xs == 0) ≡ false → b ≡ list_all test xs → b ≡ is_run_of test xs
@@ -89,14 +90,9 @@ parts_pass to hyphen (x ∷ xs) h =
 pub tag_passes : (to : ℕ → Bool) → to 0x2D ≡ true → ((c : ℕ) → is_ascii_alphanumeric c ≡ true → to c ≡ true) → (xs : List ℕ) → IsLanguageTag xs → AllAre to xs
 tag_passes to hyphen weaker xs h = parts_pass to hyphen xs (subtags_pass to weaker (slice_split is_hyphen xs) h)
 
-ascii_at : (xs : List ℕ) → AllAre is_ascii xs → IsAscii xs
-ascii_at [] h i = lit< tt
-ascii_at (x ∷ xs) h zero = ltb-true x 128 h.0
-ascii_at (x ∷ xs) h (suc i) = ascii_at xs h.1 i
-
 -- the bytes of a tag are its characters
 tag_is_ascii : (xs : List ℕ) → IsLanguageTag xs → IsAscii xs
-tag_is_ascii xs h = ascii_at xs (tag_passes is_ascii refl alphanumeric_is_ascii xs h)
+tag_is_ascii xs h = ascii_text xs ((all_are is_ascii xs).1 (tag_passes is_ascii refl alphanumeric_is_ascii xs h))
 
 pub tag_of_bytes : (bs : List ℕ) → IsUtf8 bs → IsLanguageTag bs ↔ IsLanguageTag (chars bs)
 tag_of_bytes bs u = (

@@ -3,3 +3,14 @@ pub mod Iris
 pub mod Labels
 pub mod LanguageTags
 pub mod LiteralForms
+pub mod PrefixTables
+pub mod Shortening
+pub mod LocalParts
+pub mod FixedPrefixes
+pub mod PrefixEdits
+pub mod Words
+pub mod AsciiTexts
+pub mod DatatypeRows
+pub mod IntegerForms
+pub mod IntegerRows
+pub mod LexicalForms

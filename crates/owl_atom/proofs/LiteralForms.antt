@@ -2,7 +2,6 @@
 use Rattle.std.proofs.Common.{Result, Ok, Err, IfOk, IsErrOf, IsNone, ◌⊎◌, Option, length, inl, inr, arith, ◌≡◌, ◌≢◌, ℕ, ◌<◌, ◌↔◌, Bool, true, false, not, List, [], ◌∷◌, ◌++◌, get_or, take, drop, Some, None, refl, sym, ap, ◌∙◌, subst}
 use Rattle.std.specs.Prelude.{codes, ◌==◌}
 use Rattle.std.specs.Char.{is_ascii_alphanumeric}
-use Rattle.std.specs.List.{list_all}
 use Rattle.std.specs.Str.{IsUtf8, chars, encode_utf8_all}
 use Rattle.std.specs.Str.Pattern.{RFindsChar}
 use denote.Ref.{Bor}
@@ -11,13 +10,14 @@ use Rattle.std.proofs.lemmas.Str.{chars-nil, encodes-chars}
 use Rattle.std.specs.Option.{option_map}
 use Rattle.owl_atom.specs.declared.fault.LiteralFault.{LiteralFault}
 use Rattle.owl_atom.specs.declared.fault.LiteralFault.TheVariants.{BadLiteral}
-use Rattle.owl_text.specs.Iri.{AllAre, IsIri, is_iri_character}
+use Rattle.owl_text.specs.Iri.{AllAre, IsIri}
 use Rattle.owl_text.specs.Names.{IsLanguageTag}
 use Rattle.owl_text.proofs.Spans.{SameCut, found}
 use Rattle.owl_atom.specs.Literals.{Denotes, DenotesTyped, FitsTag, LiteralParts, PlainForm, PlainParts, lang_string, of_datatype, plain_literal, string, with_tag}
-use Rattle.owl_atom.proofs.Characters.{NoneAre, all_are, back_utf8, cut_at, none_of}
-use Rattle.owl_atom.proofs.Iris.{another}
+use Rattle.owl_atom.proofs.Characters.{NoneAre, back_utf8, cut_at, none_of}
+use Rattle.owl_atom.proofs.Iris.{another, written_iri}
 use Rattle.owl_atom.proofs.LanguageTags.{tag_passes}
+use Rattle.owl_atom.proofs.Words.{own}
 
 -- lists that are cut at the last character that fails are cut alike
 same_last_cut : (p : ℕ → Bool) (xs ys : List ℕ) (c : ℕ) (a b : List ℕ) → AllAre p a → AllAre p b → p c ≡ false → xs ++ c ∷ a ≡ ys ++ c ∷ b → SameCut xs ys c c a b
@@ -54,10 +54,6 @@ parts_of_form form before after e fresh literal = (
 pub no_form : (form : List ℕ) → NoneAre (λ d. d == 64) form → (literal : LiteralParts) → PlainForm form literal → ⊥
 no_form form fresh literal f = found (λ d. not (d == 64)) f.text 64 f.rest form fresh refl f.parts
 
--- an IRI that is written out
-written_iri : (rest : List ℕ) → list_all is_iri_character rest ≡ true → IsIri (codes "http:" ++ rest)
-written_iri rest h = record { scheme = codes "http"; rest = rest; parts = refl; named = (refl, (refl, (refl, (refl, tt)))); allowed = (all_are is_iri_character rest).0 h }
-
 pub string_is_iri : IsIri string
 string_is_iri = written_iri (codes "//www.w3.org/2001/XMLSchema#string") refl
 
@@ -72,16 +68,13 @@ pub string_has_no_tags : FitsTag None string
 string_has_no_tags = (apart string plain_literal refl refl, apart string lang_string refl refl)
 
 pub string_chars : chars string ≡ string
-unfolding chars
-string_chars = refl
+string_chars = own string refl
 
 pub plain_literal_chars : chars plain_literal ≡ plain_literal
-unfolding chars
-plain_literal_chars = refl
+plain_literal_chars = own plain_literal refl
 
 pub lang_string_chars : chars lang_string ≡ lang_string
-unfolding chars
-lang_string_chars = refl
+lang_string_chars = own lang_string refl
 
 -- where a form denotes something, and the call does not refuse it
 pub taken : {T : Type 0} (r : Result T LiteralFault) (D : LiteralParts → Type 0) (literal : LiteralParts) → D literal → (IsErrOf r BadLiteral → ⊥) → IsErrOf r BadLiteral ↔ ((other : LiteralParts) → D other → ⊥)

@@ -18,7 +18,7 @@ abbrev pub has : List (List ℕ) → List ℕ → Bool
 has texts text = list_any (λ other. text_eq other text) texts
 
 -- numbers and times
-abbrev pub ordered_row : DatatypeRow
+unfoldable pub ordered_row : DatatypeRow
 ordered_row = record {
   datatypes =
       owl (codes "real") ∷ owl (codes "rational")
@@ -29,10 +29,10 @@ ordered_row = record {
   facets = map xsd (codes "minInclusive" ∷ codes "maxInclusive" ∷ codes "minExclusive" ∷ codes "maxExclusive" ∷ []);
 }
 
-abbrev pub text_facets : List (List ℕ)
+unfoldable pub text_facets : List (List ℕ)
 text_facets = map xsd (codes "length" ∷ codes "minLength" ∷ codes "maxLength" ∷ codes "pattern" ∷ [])
 
-abbrev pub text_row : DatatypeRow
+unfoldable pub text_row : DatatypeRow
 text_row = record {
   datatypes =
       map xsd (codes "string" ∷ codes "normalizedString" ∷ codes "token" ∷ codes "language" ∷ codes "Name" ∷ codes "NCName"
@@ -40,54 +40,54 @@ text_row = record {
   facets = text_facets;
 }
 
-abbrev pub plain_row : DatatypeRow
+unfoldable pub plain_row : DatatypeRow
 plain_row = record { datatypes = rdf (codes "PlainLiteral") ∷ []; facets = rdf (codes "langRange") ∷ text_facets }
 
-abbrev pub binary_row : DatatypeRow
+unfoldable pub binary_row : DatatypeRow
 binary_row = record {
   datatypes = map xsd (codes "hexBinary" ∷ codes "base64Binary" ∷ []);
   facets = map xsd (codes "length" ∷ codes "minLength" ∷ codes "maxLength" ∷ []);
 }
 
-abbrev pub bare_row : DatatypeRow
+unfoldable pub bare_row : DatatypeRow
 bare_row = record { datatypes = xsd (codes "boolean") ∷ rdf (codes "XMLLiteral") ∷ []; facets = [] }
 
-abbrev pub datatype_map : List DatatypeRow
+unfoldable pub datatype_map : List DatatypeRow
 datatype_map = ordered_row ∷ text_row ∷ plain_row ∷ binary_row ∷ bare_row ∷ []
 
-abbrev pub is_in_map : List ℕ → Bool
+unfoldable pub is_in_map : List ℕ → Bool
 is_in_map datatype = list_any (λ row. has row.datatypes datatype) datatype_map
 
 -- the datatype has the facet
-abbrev pub allows_facet : List ℕ → List ℕ → Bool
+unfoldable pub allows_facet : List ℕ → List ℕ → Bool
 allows_facet datatype facet = list_any (λ row. has row.datatypes datatype && has row.facets facet) datatype_map
 
--- An integer datatype: its local name, and the least and the greatest number, where there are any.
+-- An integer datatype, and the least and the greatest number, where there are any.
 pub record IntegerRow : Type 0 where
-  pub name : List ℕ
+  pub datatype : List ℕ
   pub least : Option ℤ
   pub greatest : Option ℤ
 
 -- so many bits with a sign, and without one
 abbrev pub signed : List ℕ → ℕ → IntegerRow
-signed name bits = record { name = name; least = Some (neg_ℤ (pos (2 ^ (bits - 1)))); greatest = Some (pos (2 ^ (bits - 1) - 1)) }
+signed datatype bits = record { datatype = datatype; least = Some (neg_ℤ (pos (2 ^ (bits - 1)))); greatest = Some (pos (2 ^ (bits - 1) - 1)) }
 
 abbrev pub unsigned : List ℕ → ℕ → IntegerRow
-unsigned name bits = record { name = name; least = Some (pos 0); greatest = Some (pos (2 ^ bits - 1)) }
+unsigned datatype bits = record { datatype = datatype; least = Some (pos 0); greatest = Some (pos (2 ^ bits - 1)) }
 
 abbrev pub bounded : List ℕ → Option ℤ → Option ℤ → IntegerRow
-bounded name least greatest = record { name = name; least = least; greatest = greatest }
+bounded datatype least greatest = record { datatype = datatype; least = least; greatest = greatest }
 
-abbrev pub integer_rows : List IntegerRow
+unfoldable pub integer_rows : List IntegerRow
 integer_rows =
-    bounded (codes "integer") None None
-    ∷ bounded (codes "nonNegativeInteger") (Some (pos 0)) None
-    ∷ bounded (codes "nonPositiveInteger") None (Some (pos 0))
-    ∷ bounded (codes "positiveInteger") (Some (pos 1)) None
-    ∷ bounded (codes "negativeInteger") None (Some (neg_ℤ (pos 1)))
-    ∷ signed (codes "long") 64 ∷ signed (codes "int") 32 ∷ signed (codes "short") 16 ∷ signed (codes "byte") 8
-    ∷ unsigned (codes "unsignedLong") 64 ∷ unsigned (codes "unsignedInt") 32 ∷ unsigned (codes "unsignedShort") 16
-    ∷ unsigned (codes "unsignedByte") 8
+    bounded (xsd (codes "integer")) None None
+    ∷ bounded (xsd (codes "nonNegativeInteger")) (Some (pos 0)) None
+    ∷ bounded (xsd (codes "nonPositiveInteger")) None (Some (pos 0))
+    ∷ bounded (xsd (codes "positiveInteger")) (Some (pos 1)) None
+    ∷ bounded (xsd (codes "negativeInteger")) None (Some (neg_ℤ (pos 1)))
+    ∷ signed (xsd (codes "long")) 64 ∷ signed (xsd (codes "int")) 32 ∷ signed (xsd (codes "short")) 16 ∷ signed (xsd (codes "byte")) 8
+    ∷ unsigned (xsd (codes "unsignedLong")) 64 ∷ unsigned (xsd (codes "unsignedInt")) 32 ∷ unsigned (xsd (codes "unsignedShort")) 16
+    ∷ unsigned (xsd (codes "unsignedByte")) 8
     ∷ []
 
 -- a sign, or none, and one or more digits
@@ -127,4 +127,4 @@ boolean_forms = codes "true" ∷ codes "false" ∷ codes "1" ∷ codes "0" ∷ [
 pub record IsLexicalForm (datatype form : List ℕ) : Type 0 where
   pub boolean : datatype ≡ xsd (codes "boolean") → has boolean_forms form ≡ true
   pub decimal : datatype ≡ xsd (codes "decimal") → IsDecimalForm form
-  pub integer : (row : IntegerRow) → Contains integer_rows row → datatype ≡ xsd row.name → IsIntegerForm row form
+  pub integer : (row : IntegerRow) → Contains integer_rows row → datatype ≡ row.datatype → IsIntegerForm row form

@@ -6,6 +6,7 @@ use Rattle.std.specs.List.{AllByRecursion}
 use Rattle.std.specs.Option.{option_map}
 use Rattle.std.specs.Str.{encode_utf8_all}
 use Rattle.owl_text.specs.Iri.{AllAre, is_among}
+use Rattle.owl_text.specs.Names.{IsPrefixName}
 use Rattle.owl_text.specs.Order.{text_cmp, text_eq}
 use Rattle.owl_atom.specs.Vocabulary.{rdf, rdfs, xsd, owl}
 use Rattle.owl_atom.specs.declared.prefixes.Prefix.{Prefix}
@@ -18,6 +19,11 @@ prefix_in prefixes name = find (λ prefix. text_eq prefix.name name) prefixes
 abbrev pub AreAscending : List Prefix → Type 0
 AreAscending [] = Unit {0}
 AreAscending (prefix ∷ others) = AllByRecursion (λ other. text_cmp prefix.name other.name ≡ Less) others × AreAscending others
+
+-- What every table is: the names ascend, and each is the name of a prefix.
+pub record IsTable (prefixes : List Prefix) : Type 0 where
+  pub ascending : AreAscending prefixes
+  pub names : AllByRecursion (λ prefix. IsPrefixName prefix.name) prefixes
 
 -- a name that was declared, and one that stands for one IRI alone
 abbrev pub is_declared : List Prefix → List ℕ → Bool

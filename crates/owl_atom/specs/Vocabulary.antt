@@ -18,5 +18,5 @@ abbrev pub namespaces : List (List ℕ)
 namespaces = rdf [] ∷ rdfs [] ∷ xsd [] ∷ owl [] ∷ []
 
 -- it begins with the IRI of a namespace
-abbrev pub is_reserved : List ℕ → Bool
+unfoldable pub is_reserved : List ℕ → Bool
 is_reserved iri = list_any (λ namespace. starts_with nat_eq iri namespace) namespaces

@@ -1,18 +1,22 @@
 //! Tables of prefixes.
 
-ghost use Rattle.std.specs.Prelude.{◌≡◌, ◌≢◌, ◌↔◌, ◌<◌, ℕ, List, [], true, false, Bool, length, slice_get, unwrap_or, IfOk, IfSome, IsNone, IsErrOf, OnOk, OnErr, Some, None, Contains};
-ghost use Rattle.std.specs.Str.{chars, encode_utf8_all};
-ghost use Rattle.owl_text.specs.Iri.{AllAre, is_iri_character};
+ghost use Rattle.std.specs.Prelude.{◌≡◌, ◌≢◌, ◌↔◌, ◌<◌, ◌≤◌, ◌||◌, ◌&&◌, not, ℕ, List, [], ◌∷◌, ◌++◌, if◌then◌else◌, true, false, Bool, length, slice_get, insert, is_ok, IsTrue, IfOk, IfErr, IfSome, IsNone, IsErrOf, OnOk, OnErr, Some, None, Contains};
+ghost use Rattle.std.specs.Str.{chars, encode_utf8_all, IsCharBoundary};
+ghost use Rattle.owl_text.specs.Iri.{AllAre, IsIri, is_iri_character};
 ghost use Rattle.owl_text.specs.Names.{IsPrefixName};
+ghost use Rattle.owl_text.specs.Order.{text_cmp, text_eq};
+ghost use Rattle.owl_atom.specs.Characters.{begins_with};
 ghost use Rattle.owl_atom.specs.declared.fault.DeclareFault.{DeclareFault};
 ghost use Rattle.owl_atom.specs.declared.fault.ExpandFault.{ExpandFault};
 ghost use Rattle.owl_atom.specs.declared.prefixes.Prefix.{Prefix};
-ghost use Rattle.owl_atom.specs.Prefixes.{prefix_in, AreAscending, is_declared, is_fixed, fixed_prefixes, iri_of, expansion, Cuts, Shortens};
+ghost use Rattle.owl_atom.specs.Places.{IsPlaceOf, IsGapFor, CutsAt, CutsNowhere, IsBest, longer};
+ghost use Rattle.owl_atom.specs.Prefixes.{prefix_in, AreAscending, IsTable, is_declared, is_fixed, fixed, fixed_prefixes, iri_of, expansion, is_plain_start, is_plain_character, IsPlainLocal, Cuts, Shortens};
 
 use crate::fault::{DeclareFault, ExpandFault};
 use crate::iri::Iri;
+use crate::vocabulary::{OWL, RDF, RDFS, XSD};
 use owl_text::{NoMemory, Text};
-use std::alloc::Global;
+use std::alloc::{AllocError, Global};
 use std::marker::Model;
 
 /// A prefix: its name, the IRI that it stands for, and its marks.
@@ -34,13 +38,13 @@ pub struct Prefixes {
 impl Model for Prefixes {
     ghost use Rattle.std.specs.Prelude.{List};
     ghost use Rattle.owl_atom.specs.declared.prefixes.Prefix.{Prefix};
-    ghost use Rattle.owl_atom.specs.Prefixes.{AreAscending};
+    ghost use Rattle.owl_atom.specs.Prefixes.{IsTable};
 
     ghost Value = { List Prefix };
 
     ghost view = { λ p. p.held.items };
 
-    ghost invariant = { λ p. AreAscending p.held.items };
+    ghost invariant = { λ p. IsTable p.held.items };
 }
 
 impl Prefixes {
@@ -53,11 +57,290 @@ impl Prefixes {
         }
     }
 
+    /// The four prefixes that are declared beforehand: `owl`, `rdf`, `rdfs` and
+    /// `xsd`.
+    pub fn fixed(alloc: Global) -> Result<Prefixes, NoMemory>
+        ensures { IfOk result (λ prefixes. prefixes ≡ fixed_prefixes) }
+    {
+        let mut held = Vec::new(alloc);
+        push(&mut held, fixed(alloc, "owl", OWL)?)?;
+        push(&mut held, fixed(alloc, "rdf", RDF)?)?;
+        push(&mut held, fixed(alloc, "rdfs", RDFS)?)?;
+        push(&mut held, fixed(alloc, "xsd", XSD)?)?;
+        Ok(Prefixes { held })
+    }
+
+    /// An equal table.
+    pub fn copy(&self, alloc: Global) -> Result<Prefixes, NoMemory>
+        ensures { IfOk result (λ prefixes. prefixes ≡ self.now) }
+    {
+        let held = copy_all(alloc, &self.held)?;
+        Ok(Prefixes { held })
+    }
+
     /// How many prefixes there are.
     pub fn len(&self) -> usize
         ensures len { result ≡ length self.now }
-        ensures ascending { AreAscending self.now }
+        ensures table { IsTable self.now }
     {
         self.held.len()
     }
+
+    /// The name and the IRI at this place, in the order of the bytes of the
+    /// names.
+    pub fn at(&self, place: usize) -> (&str, &Iri)
+        requires { place < length self.now }
+        ensures { (prefix : Prefix) × (slice_get self.now place ≡ Some prefix) × (chars result.0.now ≡ prefix.name)
+            × (result.0.now ≡ encode_utf8_all prefix.name) × (result.1.now ≡ prefix.iri) }
+    {
+        let prefix = &self.held[place];
+        (prefix.name.as_str(), &prefix.iri)
+    }
+
+    /// Declares a prefix. `PrefixTwice` exactly where the name was declared
+    /// before, and `PrefixFixed` exactly where it stands for one IRI alone, and
+    /// this is another. Where the call refuses, nothing changes.
+    pub fn declare(&mut self, name: &str, iri: Iri) -> Result<(), DeclareFault>
+        requires { IsPrefixName (chars name.now) }
+        ensures twice { IsErrOf result DeclareFault.PrefixTwice ↔ (is_declared self.old (chars name.now) ≡ true) }
+        ensures fixed { IsErrOf result DeclareFault.PrefixFixed ↔ ((is_declared self.old (chars name.now) ≡ false)
+            × (is_fixed self.old (chars name.now) ≡ true) × (iri_of fixed_prefixes (chars name.now) ≢ Some iri)) }
+        ensures here { OnOk result (prefix_in self.new (chars name.now)
+            ≡ Some (record { name = chars name.now; iri = iri; fixed = is_fixed self.old (chars name.now); declared = true })) }
+        ensures others { (other : List ℕ) → other ≢ chars name.now → prefix_in self.new other ≡ prefix_in self.old other }
+        ensures err { OnErr result (self.new ≡ self.old) }
+    {
+        match place_of(&self.held, name) {
+            Ok(place) => declare_again(&mut self.held[place], iri),
+            Err(place) => Ok(add(&mut self.held, place, name, iri, true)?),
+        }
+    }
+
+    /// Gives the name this IRI, also where it stands for one IRI alone. The
+    /// marks stay as they were.
+    pub fn set(&mut self, name: &str, iri: Iri) -> Result<(), NoMemory>
+        requires { IsPrefixName (chars name.now) }
+        ensures here { OnOk result (prefix_in self.new (chars name.now)
+            ≡ Some (record { name = chars name.now; iri = iri; fixed = is_fixed self.old (chars name.now); declared = is_declared self.old (chars name.now) })) }
+        ensures others { (other : List ℕ) → other ≢ chars name.now → prefix_in self.new other ≡ prefix_in self.old other }
+        ensures err { OnErr result (self.new ≡ self.old) }
+    {
+        match place_of(&self.held, name) {
+            Ok(place) => {
+                self.held[place].iri = iri;
+                Ok(())
+            }
+            Err(place) => add(&mut self.held, place, name, iri, false),
+        }
+    }
+
+    /// The IRI that an abbreviated one stands for. `UnknownPrefix` exactly
+    /// where the table lacks the prefix.
+    pub fn expand(&self, alloc: Global, name: &str, local: &str) -> Result<Iri, ExpandFault>
+        requires { AllAre is_iri_character (chars local.now) }
+        ensures ok { IfOk result (λ iri. expansion self.now (chars name.now) (chars local.now) ≡ Some iri) }
+        ensures unknown { IsErrOf result ExpandFault.UnknownPrefix ↔ (prefix_in self.now (chars name.now) ≡ None) }
+    {
+        match place_of(&self.held, name) {
+            Ok(place) => Ok(self.held[place].iri.followed_by(alloc, local)?),
+            Err(_) => Err(ExpandFault::UnknownPrefix),
+        }
+    }
+
+    /// The shortest form of an IRI: the place of its prefix, and the byte at
+    /// which its local part begins. Takes no memory.
+    pub fn shorten(&self, iri: &Iri) -> Option<(usize, usize)>
+        ensures best { IfSome result (λ r. Shortens self.now iri.now r.0 r.1) }
+        ensures none { IsNone result ↔ ((prefix : Prefix) (local : List ℕ) → Contains self.now prefix → Cuts prefix iri.now local → ⊥) }
+        ensures boundary { IfSome result (λ r. IsCharBoundary (encode_utf8_all iri.now) r.1) }
+    {
+        best_of(&self.held, iri)
+    }
+}
+
+/// Where the prefix of this name stands, or the place where it would stand.
+fn place_of(held: &[Prefix], name: &str) -> Result<usize, usize>
+    requires { AreAscending held.now }
+    ensures bound { (IfOk result (λ place. place < length held.now)) × (IfErr result (λ place. place ≤ length held.now)) }
+    ensures found { IfOk result (λ place. IsPlaceOf held.now (chars name.now) place) }
+    ensures absent { IfErr result (λ place. IsGapFor held.now (chars name.now) place) }
+{
+    held.binary_search_by(|prefix| prefix.name.as_str().cmp(name))
+}
+
+/// Declares a prefix that stands in a table.
+fn declare_again(prefix: &mut Prefix, iri: Iri) -> Result<(), DeclareFault>
+    ensures twice { IsErrOf result DeclareFault.PrefixTwice ↔ (prefix.old.declared ≡ true) }
+    ensures fixed { IsErrOf result DeclareFault.PrefixFixed ↔ ((prefix.old.declared ≡ false)
+        × (prefix.old.fixed ≡ true) × (iri_of fixed_prefixes prefix.old.name ≢ Some iri)) }
+    ensures ok { OnOk result (prefix.new ≡ record prefix.old { iri = iri; declared = true }) }
+    ensures err { OnErr result (prefix.new ≡ prefix.old) }
+{
+    if prefix.declared {
+        return Err(DeclareFault::PrefixTwice);
+    }
+    if prefix.fixed && !is_fixed_to(prefix.name.as_str(), &iri) {
+        return Err(DeclareFault::PrefixFixed);
+    }
+    prefix.iri = iri;
+    prefix.declared = true;
+    Ok(())
+}
+
+/// Whether a prefix of this name stands for this IRI beforehand.
+fn is_fixed_to(name: &str, iri: &Iri) -> bool
+    ensures { IsTrue result ↔ (iri_of fixed_prefixes (chars name.now) ≡ Some iri.now) }
+{
+    match name {
+        "owl" => iri.text() == OWL,
+        "rdf" => iri.text() == RDF,
+        "rdfs" => iri.text() == RDFS,
+        "xsd" => iri.text() == XSD,
+        _ => false,
+    }
+}
+
+/// Puts a new prefix at this place. At want of memory nothing changes.
+fn add(
+    held: &mut Vec<Prefix>,
+    place: usize,
+    name: &str,
+    iri: Iri,
+    declared: bool,
+) -> Result<(), NoMemory>
+    requires { place ≤ length held.old.items }
+    ensures items { held.new.items ≡ (if is_ok result
+        then insert held.old.items place (record { name = chars name.now; iri = iri; fixed = false; declared = declared })
+        else held.old.items) }
+{
+    let name = Text::of(*held.allocator(), name)?;
+    let prefix = Prefix {
+        name,
+        iri,
+        fixed: false,
+        declared,
+    };
+    put(held, place, prefix)?;
+    Ok(())
+}
+
+fn put(held: &mut Vec<Prefix>, place: usize, prefix: Prefix) -> Result<(), AllocError>
+    requires { place ≤ length held.old.items }
+    ensures { held.new.items ≡ (if is_ok result then insert held.old.items place prefix else held.old.items) }
+{
+    Ok(held.insert(place, prefix)?)
+}
+
+fn push(held: &mut Vec<Prefix>, prefix: Prefix) -> Result<(), AllocError>
+    ensures { OnOk result (held.new.items ≡ held.old.items ++ prefix ∷ []) }
+{
+    Ok(held.push(prefix)?)
+}
+
+/// A prefix that is declared beforehand.
+fn fixed(alloc: Global, name: &str, iri: &str) -> Result<Prefix, NoMemory>
+    requires { IsIri (chars iri.now) }
+    ensures { IfOk result (λ prefix. prefix ≡ fixed (chars name.now) (chars iri.now)) }
+{
+    let name = Text::of(alloc, name)?;
+    let iri = Iri::known(alloc, iri)?;
+    Ok(Prefix {
+        name,
+        iri,
+        fixed: true,
+        declared: false,
+    })
+}
+
+fn copy_all(alloc: Global, held: &[Prefix]) -> Result<Vec<Prefix>, NoMemory>
+    ensures { IfOk result (λ copies. copies.items ≡ held.now) }
+{
+    let mut copies = Vec::new(alloc);
+    for prefix in held {
+        push(&mut copies, copy_of(alloc, prefix)?)?;
+    }
+    Ok(copies)
+}
+
+fn copy_of(alloc: Global, prefix: &Prefix) -> Result<Prefix, NoMemory>
+    ensures { IfOk result (λ copy. copy ≡ prefix.now) }
+{
+    let name = Text::of(alloc, prefix.name.as_str())?;
+    let iri = prefix.iri.copy(alloc)?;
+    Ok(Prefix {
+        name,
+        iri,
+        fixed: prefix.fixed,
+        declared: prefix.declared,
+    })
+}
+
+/// The best of the prefixes that cut the IRI, with the byte where it cuts.
+fn best_of(held: &[Prefix], iri: &Iri) -> Option<(usize, usize)>
+    requires { AreAscending held.now }
+    ensures { IsBest held.now (length held.now) iri.now result }
+{
+    let mut best = None;
+    for place in 0..held.len() {
+        best = better(best, place, cut(&held[place], iri));
+    }
+    best
+}
+
+/// The longer cut of two, and the earlier of two that are as long.
+fn better(best: Option<(usize, usize)>, place: usize, cut: Option<usize>) -> Option<(usize, usize)>
+    ensures { result ≡ longer best place cut }
+{
+    match (best, cut) {
+        (_, None) => best,
+        (Some((_, begin)), Some(other)) if other <= begin => best,
+        (_, Some(begin)) => Some((place, begin)),
+    }
+}
+
+/// Where the local part of the IRI begins, where the prefix cuts it.
+fn cut(prefix: &Prefix, iri: &Iri) -> Option<usize>
+    ensures cuts { IfSome result (λ begin. CutsAt prefix.now iri.now begin) }
+    ensures none { IsNone result → CutsNowhere prefix.now iri.now }
+{
+    let front = prefix.iri.text();
+    match iri.text().strip_prefix(front) {
+        Some(local) if is_plain_local(local) => Some(front.len()),
+        _ => None,
+    }
+}
+
+/// Whether a local part is made of letters, digits, `_` and `-` alone, and
+/// begins with a letter or `_`.
+fn is_plain_local(text: &str) -> bool
+    ensures { IsTrue result ↔ IsPlainLocal (chars text.now) }
+{
+    begins_plain(text) && are_plain(text)
+}
+
+fn begins_plain(text: &str) -> bool
+    ensures { result ≡ begins_with is_plain_start (chars text.now) }
+{
+    match text.chars().next() {
+        Some(c) => is_plain_start(c),
+        None => false,
+    }
+}
+
+fn are_plain(text: &str) -> bool
+    ensures { IsTrue result ↔ AllAre is_plain_character (chars text.now) }
+{
+    text.chars().all(is_plain_character)
+}
+
+fn is_plain_start(c: char) -> bool
+    ensures { result ≡ is_plain_start c }
+{
+    c.is_ascii_alphabetic() || c == '_'
+}
+
+fn is_plain_character(c: char) -> bool
+    ensures { result ≡ is_plain_character c }
+{
+    c.is_ascii_alphanumeric() || c == '_' || c == '-'
 }

@@ -1,2 +1,3 @@
+mod datatypes;
 mod prefixes;
 mod values;

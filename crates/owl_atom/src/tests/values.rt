@@ -1,4 +1,5 @@
 use crate::*;
+use std::alloc::Global;
 use std::cmp::Ordering;
 use std::test::Fail;
 
@@ -86,22 +87,43 @@ fn a_plain_literal_is_cut_at_its_last_at(rt: HostRuntime) -> Result<(), Fail> {
     Ok(())
 }
 
+fn tagged(alloc: Global) -> Result<Literal, Fail> {
+    Ok(Literal::of(alloc, "abc", None, Some("en"))?)
+}
+
+fn untyped(alloc: Global) -> Result<Literal, Fail> {
+    Ok(Literal::of(alloc, "abc", None, None)?)
+}
+
+fn typed(alloc: Global, form: &str, datatype: &str) -> Result<Literal, Fail> {
+    let datatype = Iri::of(alloc, datatype)?;
+    Ok(Literal::of(alloc, form, Some(datatype), None)?)
+}
+
 #[test]
 fn literals_are_equal_where_all_parts_are(rt: HostRuntime) -> Result<(), Fail> {
-    let plain = Literal::of(rt.alloc(), "abc", None, None)?;
-    let datatype = Iri::of(rt.alloc(), STRING)?;
-    let string = Literal::of(rt.alloc(), "abc", Some(datatype), None)?;
-    let datatype = Iri::of(rt.alloc(), INTEGER)?;
-    let integer = Literal::of(rt.alloc(), "abc", Some(datatype), None)?;
-    let tagged = Literal::of(rt.alloc(), "abc", None, Some("en"))?;
-    let datatype = Iri::of(rt.alloc(), PLAIN_LITERAL)?;
-    let written = Literal::of(rt.alloc(), "abc@en", Some(datatype), None)?;
-    assert_eq!(rt; plain, string);
-    assert_eq!(rt; tagged, written);
-    assert!(rt; plain != integer && plain != tagged);
-    assert_eq!(rt; tagged.cmp(&integer), Ordering::Less);
-    assert_eq!(rt; integer.cmp(&plain), Ordering::Less);
-    assert_eq!(rt; plain.cmp(&tagged), Ordering::Greater);
+    let plain = untyped(rt.alloc())?;
+    assert_eq!(rt; plain, typed(rt.alloc(), "abc", STRING)?);
+    assert!(rt; plain != typed(rt.alloc(), "abc", INTEGER)?);
+    let tagged = tagged(rt.alloc())?;
+    assert_eq!(rt; tagged, typed(rt.alloc(), "abc@en", PLAIN_LITERAL)?);
+    assert!(rt; tagged != plain);
+    Ok(())
+}
+
+#[test]
+fn literals_are_ordered_by_form_datatype_and_tag(rt: HostRuntime) -> Result<(), Fail> {
+    for (form, datatype, later, its_datatype) in [
+        ("a", STRING, "b", INTEGER),
+        ("a", INTEGER, "a", STRING),
+        ("a@en", PLAIN_LITERAL, "a", INTEGER),
+        ("a@de", PLAIN_LITERAL, "a@en", PLAIN_LITERAL),
+    ] {
+        let first = typed(rt.alloc(), form, datatype)?;
+        let second = typed(rt.alloc(), later, its_datatype)?;
+        assert_eq!(rt; first.cmp(&second), Ordering::Less, "{form}");
+        assert_eq!(rt; second.cmp(&first), Ordering::Greater, "{form}");
+    }
     Ok(())
 }
 

@@ -1,0 +1,220 @@
+-- Look-ups and edits of tables of prefixes, whose names ascend.
+use Rattle.std.proofs.Common.{◌≡◌, ◌≢◌, ◌<◌, ◌≤◌, ℕ, zero, suc, true, false, cond, List, [], ◌∷◌, length, Some, None, Result, Ok, Err, IfOk, IfErr, refl, sym, ap, ◌∙◌, subst, get_or, set, arith}
+use Rattle.std.specs.Prelude.{slice_get, insert}
+use Rattle.std.specs.declared.cmp.Ordering.{Ordering}
+use Rattle.std.specs.declared.cmp.Ordering.TheVariants.{Less, Equal, Greater}
+use Rattle.std.specs.Cmp.{IsTotalOrder}
+use Rattle.std.specs.FinMap.{nat_cmp-IsAntisymmetric, slice_cmp-IsAntisymmetric}
+use Rattle.std.specs.List.{AllByRecursion, HoldsAt}
+use Rattle.std.specs.List.Sorted.{IsBinarySearchResult, IsSearchInRange, IsNonDecreasingBy}
+use Rattle.std.specs.Ordering.{ordering_index, ordering_reverse}
+use Rattle.std.specs.Str.{encode_utf8_all}
+use Rattle.std.proofs.lemmas.Bool.{false_from_ne_true}
+use Rattle.std.proofs.lemmas.Cmp.{tied_itself, nat_list_cmp_total, on_total}
+use Rattle.std.proofs.lemmas.Option.{same_Some, slice_get-get_or}
+use Rattle.std.proofs.lemmas.Slice.Eq.{bytes_eq-Decides}
+use Rattle.std.proofs.lemmas.Str.{encodes_same}
+use Rattle.owl_text.specs.Names.{IsPrefixName}
+use Rattle.owl_text.specs.Order.{text_cmp, text_eq}
+use Rattle.owl_atom.specs.declared.prefixes.Prefix.{Prefix}
+use Rattle.owl_atom.specs.Prefixes.{AreAscending, prefix_in}
+use Rattle.owl_atom.specs.Places.{IsPlaceOf, IsGapFor}
+
+-- the order of names
+
+names_ordered : IsTotalOrder text_cmp
+names_ordered = on_total encode_utf8_all nat_list_cmp_total
+
+same_names : (a b : List ℕ) → text_cmp a b ≡ Equal → a ≡ b
+same_names a b e = encodes_same a b (slice_cmp-IsAntisymmetric nat_cmp-IsAntisymmetric _ _ e)
+
+turned : (a b : List ℕ) → text_cmp a b ≡ Greater → text_cmp b a ≡ Less
+turned a b e = names_ordered.antisymm b a ∙ ap ordering_reverse e
+
+less_differs : (a b : List ℕ) → text_cmp a b ≡ Less → a ≢ b
+less_differs a b e same =
+    let equal : text_cmp a b ≡ Equal = subst (λ n. text_cmp a n ≡ Equal) same (tied_itself names_ordered a) in
+    absurd (cc)
+
+pub unequal : (a b : List ℕ) → a ≢ b → text_eq a b ≡ false
+unequal a b ne = false_from_ne_true (text_eq a b) (λ t. ne ((bytes_eq-Decides a b).0 t))
+
+pub equal : (a b : List ℕ) → a ≡ b → text_eq a b ≡ true
+equal a b e = (bytes_eq-Decides a b).1 e
+
+less_unequal : (a b : List ℕ) → text_cmp a b ≡ Less → text_eq a b ≡ false
+less_unequal a b e = unequal a b (less_differs a b e)
+
+greater_unequal : (a b : List ℕ) → text_cmp b a ≡ Less → text_eq a b ≡ false
+greater_unequal a b e = unequal a b (λ same. less_differs b a e (sym same))
+
+-- looking up past the first prefix, and at it
+
+passed : (prefix : Prefix) (others : List Prefix) (name : List ℕ) → text_eq prefix.name name ≡ false → prefix_in (prefix ∷ others) name ≡ prefix_in others name
+passed prefix others name e = ap (λ b. cond b (Some prefix) (prefix_in others name)) e
+
+met : (prefix : Prefix) (others : List Prefix) (name : List ℕ) → prefix.name ≡ name → prefix_in (prefix ∷ others) name ≡ Some prefix
+met prefix others name e = ap (λ b. cond b (Some prefix) (prefix_in others name)) (equal prefix.name name e)
+
+-- a name that is less than those of these prefixes
+
+abbrev Below : List ℕ → List Prefix → Type 0
+Below name prefixes = AllByRecursion (λ other. text_cmp name other.name ≡ Less) prefixes
+
+below_too : (a b : List ℕ) (prefixes : List Prefix) → text_cmp a b ≡ Less → Below b prefixes → Below a prefixes
+below_too a b [] e h = tt
+below_too a b (x ∷ xs) e h = (names_ordered.trans a b x.name e h.0, below_too a b xs e h.1)
+
+below_none : (name : List ℕ) (prefixes : List Prefix) → Below name prefixes → prefix_in prefixes name ≡ None
+below_none name [] h = refl
+below_none name (x ∷ xs) h = passed x xs name (greater_unequal x.name name h.0) ∙ below_none name xs h.1
+
+below_get : (name : List ℕ) (prefixes : List Prefix) (place : ℕ) (prefix : Prefix) → Below name prefixes → slice_get prefixes place ≡ Some prefix → text_cmp name prefix.name ≡ Less
+below_get name [] place prefix h e = absurd (cc)
+below_get name (x ∷ xs) zero prefix h e = subst (λ (q : Prefix). text_cmp name q.name ≡ Less) (same_Some x prefix e) h.0
+below_get name (x ∷ xs) (suc place) prefix h e = below_get name xs place prefix h.1 e
+
+below_set : (name : List ℕ) (prefixes : List Prefix) (place : ℕ) (new : Prefix) → Below name prefixes → text_cmp name new.name ≡ Less → Below name (set prefixes place new)
+below_set name [] place new h e = tt
+below_set name (x ∷ xs) zero new h e = (e, h.1)
+below_set name (x ∷ xs) (suc place) new h e = (h.0, below_set name xs place new h.1 e)
+
+below_insert : (name : List ℕ) (prefixes : List Prefix) (place : ℕ) (new : Prefix) → Below name prefixes → text_cmp name new.name ≡ Less → Below name (insert prefixes place new)
+below_insert name [] zero new h e = (e, tt)
+below_insert name [] (suc place) new h e = (e, tt)
+below_insert name (x ∷ xs) zero new h e = (e, h)
+below_insert name (x ∷ xs) (suc place) new h e = (h.0, below_insert name xs place new h.1 e)
+
+-- what stands at a place
+
+pub absent : (prefixes : List Prefix) (name : List ℕ) (place : ℕ) → AreAscending prefixes → IsGapFor prefixes name place → prefix_in prefixes name ≡ None
+absent [] name place up gap = refl
+absent (x ∷ xs) name zero up gap = below_none name (x ∷ xs) (gap, below_too name x.name xs gap up.0)
+absent (x ∷ xs) name (suc place) up gap = passed x xs name (less_unequal x.name name gap.0) ∙ absent xs name place up.1 gap.1
+
+-- the prefix at the place of a name has the name, and is the one that is looked up
+pub record IsFound (prefixes : List Prefix) (name : List ℕ) (prefix : Prefix) : Type 0 where
+  pub named : prefix.name ≡ name
+  pub looked_up : prefix_in prefixes name ≡ Some prefix
+
+pub found : (prefixes : List Prefix) (name : List ℕ) (place : ℕ) (prefix : Prefix) → IsPlaceOf prefixes name place → slice_get prefixes place ≡ Some prefix → IsFound prefixes name prefix
+found [] name place prefix h e = absurd h
+found (x ∷ xs) name zero prefix h e = record { named = ap (λ (q : Prefix). q.name) (sym (same_Some x prefix e)) ∙ h; looked_up = met x xs name h ∙ e }
+found (x ∷ xs) name (suc place) prefix h e =
+    let rest = found xs name place prefix h.1 e in
+    record { named = rest.named; looked_up = passed x xs name (less_unequal x.name name h.0) ∙ rest.looked_up }
+
+-- each prefix stands at the place of its name
+pub stands : (prefixes : List Prefix) (place : ℕ) (prefix : Prefix) → AreAscending prefixes → slice_get prefixes place ≡ Some prefix → IsPlaceOf prefixes prefix.name place
+stands [] place prefix up e = absurd (cc)
+stands (x ∷ xs) zero prefix up e = ap (λ (q : Prefix). q.name) (same_Some x prefix e)
+stands (x ∷ xs) (suc place) prefix up e = (below_get x.name xs place prefix up.0 e, stands xs place prefix up.1 e)
+
+-- of two places the earlier has the lesser name
+pub ascends : (prefixes : List Prefix) (i j : ℕ) (a b : Prefix) → AreAscending prefixes → i < j → slice_get prefixes i ≡ Some a → slice_get prefixes j ≡ Some b → text_cmp a.name b.name ≡ Less
+ascends [] i j a b up lt at_i at_j = absurd (cc)
+ascends (x ∷ xs) zero zero a b up lt at_i at_j = absurd (omega arith)
+ascends (x ∷ xs) zero (suc j) a b up lt at_i at_j = subst (λ (q : Prefix). text_cmp q.name b.name ≡ Less) (same_Some x a at_i) (below_get x.name xs j b up.0 at_j)
+ascends (x ∷ xs) (suc i) zero a b up lt at_i at_j = absurd (omega arith)
+ascends (x ∷ xs) (suc i) (suc j) a b up lt at_i at_j = ascends xs i j a b up.1 (omega arith) at_i at_j
+
+-- edits of one name
+
+abbrev pub AreNamed : List Prefix → Type 0
+AreNamed prefixes = AllByRecursion (λ prefix. IsPrefixName prefix.name) prefixes
+
+pub record SetsOnly (old new : List Prefix) (name : List ℕ) (prefix : Prefix) : Type 0 where
+  pub here : prefix_in new name ≡ Some prefix
+  pub others : (other : List ℕ) → other ≢ name → prefix_in new other ≡ prefix_in old other
+  pub ascending : AreAscending new
+  pub names : AreNamed old → IsPrefixName name → AreNamed new
+
+other_name : (prefix : Prefix) (name other : List ℕ) → prefix.name ≡ name → other ≢ name → text_eq prefix.name other ≡ false
+other_name prefix name other e ne = unequal prefix.name other (λ same. ne (sym same ∙ e))
+
+pub set_at : (prefixes : List Prefix) (name : List ℕ) (place : ℕ) (new : Prefix) → AreAscending prefixes → IsPlaceOf prefixes name place → new.name ≡ name → SetsOnly prefixes (set prefixes place new) name new
+set_at [] name place new up h e = absurd h
+set_at (x ∷ xs) name zero new up h e = record {
+  here = met new xs name e;
+  others = λ other ne. passed new xs other (other_name new name other e ne) ∙ sym (passed x xs other (other_name x name other h ne));
+  ascending = (subst (λ n. Below n xs) (h ∙ sym e) up.0, up.1);
+  names = λ all n. (subst IsPrefixName (sym e) n, all.1);
+}
+set_at (x ∷ xs) name (suc place) new up h e =
+    let rest = set_at xs name place new up.1 h.1 e in
+    record {
+      here = passed x (set xs place new) name (less_unequal x.name name h.0) ∙ rest.here;
+      others = λ other ne. ap (λ r. cond (text_eq x.name other) (Some x) r) (rest.others other ne);
+      ascending = (below_set x.name xs place new up.0 (subst (λ n. text_cmp x.name n ≡ Less) (sym e) h.0), rest.ascending);
+      names = λ all n. (all.0, rest.names all.1 n);
+    }
+
+pub insert_at : (prefixes : List Prefix) (name : List ℕ) (place : ℕ) (new : Prefix) → AreAscending prefixes → IsGapFor prefixes name place → new.name ≡ name → SetsOnly prefixes (insert prefixes place new) name new
+insert_at [] name zero new up gap e = record {
+  here = met new [] name e;
+  others = λ other ne. passed new [] other (other_name new name other e ne);
+  ascending = (tt, tt);
+  names = λ all n. (subst IsPrefixName (sym e) n, tt);
+}
+insert_at [] name (suc place) new up gap e = absurd gap
+insert_at (x ∷ xs) name zero new up gap e =
+    let less : text_cmp new.name x.name ≡ Less = subst (λ n. text_cmp n x.name ≡ Less) (sym e) gap in
+    record {
+      here = met new (x ∷ xs) name e;
+      others = λ other ne. passed new (x ∷ xs) other (other_name new name other e ne);
+      ascending = ((less, below_too new.name x.name xs less up.0), up);
+      names = λ all n. (subst IsPrefixName (sym e) n, all);
+    }
+insert_at (x ∷ xs) name (suc place) new up gap e =
+    let rest = insert_at xs name place new up.1 gap.1 e in
+    record {
+      here = passed x (insert xs place new) name (less_unequal x.name name gap.0) ∙ rest.here;
+      others = λ other ne. ap (λ r. cond (text_eq x.name other) (Some x) r) (rest.others other ne);
+      ascending = (below_insert x.name xs place new up.0 (subst (λ n. text_cmp x.name n ≡ Less) (sym e) gap.0), rest.ascending);
+      names = λ all n. (all.0, rest.names all.1 n);
+    }
+
+-- what a binary search for a name answers
+
+at_most_two : (o : Ordering) → ordering_index o ≤ 2
+at_most_two Less = omega arith
+at_most_two Equal = omega arith
+at_most_two Greater = omega arith
+
+ranks_rise : (a b c : List ℕ) → text_cmp a b ≡ Less → (o : Ordering) → text_cmp b c ≡ o → ordering_index (text_cmp a c) ≤ ordering_index o
+ranks_rise a b c e Less is = let less : text_cmp a c ≡ Less = names_ordered.trans a b c e is in rw less (omega arith)
+ranks_rise a b c e Equal is = let less : text_cmp a c ≡ Less = subst (λ n. text_cmp a n ≡ Less) (same_names b c is) e in rw less (omega arith)
+ranks_rise a b c e Greater is = at_most_two (text_cmp a c)
+
+rising : (prefixes : List Prefix) (name : List ℕ) → AreAscending prefixes → IsNonDecreasingBy (λ y. ordering_index (text_cmp y.name name)) prefixes
+rising [] name up i j d le lt = absurd (omega arith)
+rising (x ∷ xs) name up zero zero d le lt = omega arith
+rising (x ∷ xs) name up zero (suc j) d le lt =
+    let less = below_get x.name xs j (get_or xs j d) up.0 (slice_get-get_or xs j d (omega arith)) in
+    ranks_rise x.name (get_or xs j d).name name less _ refl
+rising (x ∷ xs) name up (suc i) zero d le lt = absurd (omega arith)
+rising (x ∷ xs) name up (suc i) (suc j) d le lt = rising xs name up.1 i j d (omega arith) (omega arith)
+
+place : (prefixes : List Prefix) (name : List ℕ) (i : ℕ) → AreAscending prefixes → i < length prefixes → HoldsAt (λ y. text_cmp y.name name ≡ Equal) prefixes i → IsPlaceOf prefixes name i
+place [] name i up lt h = absurd (omega arith)
+place (x ∷ xs) name zero up lt h = same_names x.name name (h x)
+place (x ∷ xs) name (suc i) up lt h =
+    let less = below_get x.name xs i (get_or xs i x) up.0 (slice_get-get_or xs i x (omega arith)) in
+    (subst (λ n. text_cmp x.name n ≡ Less) (same_names (get_or xs i x).name name (h x)) less, place xs name i up.1 (omega arith) h)
+
+gap : (prefixes : List Prefix) (name : List ℕ) (i : ℕ) → i ≤ length prefixes → ((k : ℕ) (d : Prefix) → 0 ≤ k → k < i → text_cmp (get_or prefixes k d).name name ≡ Less) → ((k : ℕ) (d : Prefix) → i ≤ k → k < length prefixes → text_cmp (get_or prefixes k d).name name ≡ Greater) → IsGapFor prefixes name i
+gap [] name zero le before behind = tt
+gap [] name (suc i) le before behind = absurd (omega arith)
+gap (x ∷ xs) name zero le before behind = turned x.name name (behind 0 x (omega arith) (omega arith))
+gap (x ∷ xs) name (suc i) le before behind = (
+  before 0 x (omega arith) (omega arith),
+  gap xs name i (omega arith) (λ k d low lt. before (suc k) d (omega arith) (omega arith)) (λ k d low lt. behind (suc k) d (omega arith) (omega arith)),
+)
+
+pub searched_found : (prefixes : List Prefix) (name : List ℕ) (r : Result ℕ ℕ) → AreAscending prefixes → IsSearchInRange r (length prefixes) → IsBinarySearchResult (λ y. text_cmp y.name name) prefixes r → IfOk r (λ i. IsPlaceOf prefixes name i)
+searched_found prefixes name (Ok i) up within h = place prefixes name i up within h
+searched_found prefixes name (Err i) up within h = tt
+
+pub searched_absent : (prefixes : List Prefix) (name : List ℕ) (r : Result ℕ ℕ) → AreAscending prefixes → IsSearchInRange r (length prefixes) → IsBinarySearchResult (λ y. text_cmp y.name name) prefixes r → IfErr r (λ i. IsGapFor prefixes name i)
+searched_absent prefixes name (Ok i) up within h = tt
+searched_absent prefixes name (Err i) up within h = let parts = h (rising prefixes name up) in gap prefixes name i within parts.0 parts.1
