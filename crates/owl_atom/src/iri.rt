@@ -5,8 +5,8 @@ ghost use Rattle.std.specs.Str.{chars, encode_utf8_all, all_scalars};
 ghost use Rattle.std.specs.Char.{is_ascii_alphabetic};
 ghost use Rattle.owl_text.specs.Iri.{AllAre, IsIri, IsScheme, is_iri_character};
 ghost use Rattle.owl_atom.specs.Characters.{begins_with};
-ghost use Rattle.owl_text.specs.Order.{text_cmp, text_eq};
-ghost use Rattle.std.specs.Cmp.Rules.{comparing, hashing};
+ghost use Rattle.owl_text.specs.Order.{text_eq};
+ghost use Rattle.std.specs.Cmp.Rules.{comparing};
 ghost use Rattle.std.proofs.Common.{rules};
 ghost use Rattle.owl_atom.specs.declared.fault.IriFault.{IriFault};
 
@@ -78,7 +78,7 @@ impl Iri {
     }
 
     /// This IRI, and then characters that an IRI may have.
-    pub fn followed_by(&self, alloc: Global, more: &str) -> Result<Iri, NoMemory>
+    pub(crate) fn followed_by(&self, alloc: Global, more: &str) -> Result<Iri, NoMemory>
         requires { AllAre is_iri_character (chars more.now) }
         ensures { IfOk result (λ iri. iri ≡ self.now ++ chars more.now) }
     {
