@@ -51,6 +51,25 @@ parts_of_form form before after e fresh literal = (
       subst (λ x. PlainParts x after literal) (sym same.front) (subst (λ y. PlainParts f.text y literal) (sym same.rest) f.denotes),
 )
 
+-- a form denotes one literal at most
+one_of_parts : (text rest : List ℕ) (a b : LiteralParts) → PlainParts text rest a → PlainParts text rest b → a ≡ b
+one_of_parts text [] a b h k = h ∙ sym k
+one_of_parts text (c ∷ cs) a b h k = h.1 ∙ sym k.1
+
+one_of_form : (form : List ℕ) (a b : LiteralParts) → PlainForm form a → PlainForm form b → a ≡ b
+one_of_form form a b f g =
+    one_of_parts g.text g.rest a b ((parts_of_form form g.text g.rest g.parts (rest_has_none g.text g.rest b g.denotes) a).1 f) g.denotes
+
+pub one_typed : (form datatype : List ℕ) (a b : LiteralParts) → DenotesTyped form datatype a → DenotesTyped form datatype b → a ≡ b
+one_typed form datatype a b (inl h) (inl k) = one_of_form form a b h.1 k.1
+one_typed form datatype a b (inl h) (inr k) = absurd (k.0 h.0)
+one_typed form datatype a b (inr h) (inl k) = absurd (h.0 k.0)
+one_typed form datatype a b (inr h) (inr k) = h.2 ∙ sym k.2
+
+pub one_untyped : (form : List ℕ) (tag : Option (List ℕ)) (a b : LiteralParts) → Denotes form None tag a → Denotes form None tag b → a ≡ b
+one_untyped form None a b h k = h ∙ sym k
+one_untyped form (Some tag) a b h k = h ∙ sym k
+
 pub no_form : (form : List ℕ) → NoneAre (λ d. d == 64) form → (literal : LiteralParts) → PlainForm form literal → ⊥
 no_form form fresh literal f = found (λ d. not (d == 64)) f.text 64 f.rest form fresh refl f.parts
 

@@ -63,6 +63,8 @@ impl Literal {
         requires tag { IfSome tag (λ tag. IsLanguageTag (chars tag.now)) }
         ensures ok { IfOk result (λ literal.
             Denotes (chars lexical.now) datatype (option_map (λ tag. chars tag.now) tag.entry) literal) }
+        ensures only { IfOk result (λ literal. (other : LiteralParts) →
+            Denotes (chars lexical.now) datatype (option_map (λ tag. chars tag.now) tag.entry) other → other ≡ literal) }
         ensures bad { IsErrOf result LiteralFault.BadLiteral ↔ ((literal : LiteralParts) →
             Denotes (chars lexical.now) datatype (option_map (λ tag. chars tag.now) tag.entry) literal → ⊥) }
     {
