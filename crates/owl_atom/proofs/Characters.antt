@@ -1,11 +1,12 @@
 -- What tests of a text tell of its characters.
-use Rattle.std.proofs.Common.{◌≡◌, ℕ, ◌<◌, ◌+◌, ◌↔◌, Bool, true, not, List, [], ◌∷◌, ◌++◌, refl, sym, ap, ◌∙◌, subst, take, drop, length, length-drop, take-append-drop, arith}
+use Rattle.std.proofs.Common.{◌≡◌, ℕ, ◌<◌, ◌+◌, ◌↔◌, Bool, true, false, not, List, [], ◌∷◌, ◌++◌, refl, sym, ap, ◌∙◌, subst, take, drop, length, length-drop, take-append-drop, arith}
+use Rattle.std.specs.Prelude.{◌==◌}
 use Rattle.std.specs.Char.{len_utf8}
 use Rattle.std.specs.List.{list_all}
-use Rattle.std.specs.Str.{IsUtf8, NoCharPasses, IsCharBoundary, NonePass, chars}
+use Rattle.std.specs.Str.{IsUtf8, NoCharPasses, IsCharBoundary, NonePass, chars, encode_utf8_all}
 use Rattle.std.specs.Str.Pattern.{HasCharAt}
-use Rattle.std.proofs.lemmas.Bool.{and_parts, and_from, not_from_false}
-use Rattle.std.proofs.lemmas.Str.{chars-append, chars_past_char, encodes-chars, encodes_same, IsCharBoundary-before_ascii, IsUtf8-take, IsUtf8-drop}
+use Rattle.std.proofs.lemmas.Bool.{both_ways, eqb-true, and_parts, and_from, not_from_false}
+use Rattle.std.proofs.lemmas.Str.{chars-append, chars-nil, chars_past_char, encodes-chars, encodes_same, IsCharBoundary-before_ascii, IsUtf8-take, IsUtf8-drop}
 use Rattle.std.proofs.lemmas.Str.Pattern.{drop_at_char}
 use Rattle.owl_text.specs.Iri.{AllAre}
 
@@ -50,3 +51,18 @@ cut_at c bs i j u h small =
     sym (ap chars (take-append-drop i bs))
     ∙ chars-append (take i bs) (drop i bs) (front_utf8 c bs i j u h small)
     ∙ ap (λ x. chars (take i bs) ++ x) (chars_past_char (drop i bs) (drop j bs) c (IsUtf8-drop bs i u (boundary_at c bs i j h small)) h.split)
+
+-- the test of an empty text
+some_by : (bs cs : List ℕ) → encode_utf8_all cs ≡ bs → (length bs == 0) ≡ false → 0 < length cs
+some_by bs [] e t = absurd (both_ways (length bs == 0) t (sym (ap (λ (x : List ℕ). length x == 0) e)))
+some_by bs (c ∷ cs) e t = omega arith
+
+pub some_chars : (b : Bool) (bs : List ℕ) → IsUtf8 bs → b ≡ (length bs == 0) → b ≡ false → 0 < length (chars bs)
+some_chars b bs u e t = some_by bs (chars bs) (encodes-chars bs u) (sym e ∙ t)
+
+empty_by : (bs : List ℕ) → length bs ≡ 0 → bs ≡ []
+empty_by [] e = refl
+empty_by (c ∷ bs) e = absurd (omega arith)
+
+pub empty_chars : (b : Bool) (bs : List ℕ) → b ≡ (length bs == 0) → b ≡ true → chars bs ≡ []
+empty_chars b bs e t = ap chars (empty_by bs (eqb-true (length bs) 0 (sym e ∙ t))) ∙ chars-nil

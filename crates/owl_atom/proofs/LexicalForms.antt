@@ -48,21 +48,6 @@ digits_numeral (d ∷ ds) h = (digit_below d h.0, digits_numeral ds h.1)
 pub run_numeral : (ds : List ℕ) → IsRunOf is_ascii_digit ds → IsNumeral 10 ds
 run_numeral ds h = (run_some is_ascii_digit ds h, digits_numeral ds (run_all is_ascii_digit ds h))
 
--- the test of an empty text
-some_by : (bs cs : List ℕ) → encode_utf8_all cs ≡ bs → (length bs == 0) ≡ false → 0 < length cs
-some_by bs [] e t = absurd (both_ways (length bs == 0) t (sym (ap (λ (x : List ℕ). length x == 0) e)))
-some_by bs (c ∷ cs) e t = omega arith
-
-pub some_chars : (b : Bool) (bs : List ℕ) → IsUtf8 bs → b ≡ (length bs == 0) → b ≡ false → 0 < length (chars bs)
-some_chars b bs u e t = some_by bs (chars bs) (encodes-chars bs u) (sym e ∙ t)
-
-empty_by : (bs : List ℕ) → length bs ≡ 0 → bs ≡ []
-empty_by [] e = refl
-empty_by (c ∷ bs) e = absurd (omega arith)
-
-pub empty_chars : (b : Bool) (bs : List ℕ) → b ≡ (length bs == 0) → b ≡ true → chars bs ≡ []
-empty_chars b bs e t = ap chars (empty_by bs (eqb-true (length bs) 0 (sym e ∙ t))) ∙ chars-nil
-
 -- Signs.
 
 -- a text without a sign before it

@@ -2,11 +2,10 @@
 use Rattle.std.proofs.Common.{Result, Ok, Err, IfOk, IsErrOf, IsNone, ◌⊎◌, Option, length, inl, inr, arith, ◌≡◌, ◌≢◌, ℕ, ◌<◌, ◌↔◌, Bool, true, false, not, List, [], ◌∷◌, ◌++◌, get_or, take, drop, Some, None, refl, sym, ap, ◌∙◌, subst}
 use Rattle.std.specs.Prelude.{codes, ◌==◌}
 use Rattle.std.specs.Char.{is_ascii_alphanumeric}
-use Rattle.std.specs.Str.{IsUtf8, chars, encode_utf8_all}
+use Rattle.std.specs.Str.{IsUtf8, chars}
 use Rattle.std.specs.Str.Pattern.{RFindsChar}
 use denote.Ref.{Bor}
-use Rattle.std.proofs.lemmas.Bool.{both_ways, false≢true, ne_eqb}
-use Rattle.std.proofs.lemmas.Str.{chars-nil, encodes-chars}
+use Rattle.std.proofs.lemmas.Bool.{false≢true}
 use Rattle.std.specs.Option.{option_map}
 use Rattle.owl_atom.specs.declared.fault.LiteralFault.{LiteralFault}
 use Rattle.owl_atom.specs.declared.fault.LiteralFault.TheVariants.{BadLiteral}
@@ -111,20 +110,12 @@ pub given : {E : Type 0} (r : Result LiteralParts E) (C D : LiteralParts → Typ
 given (Ok literal) C D to h = to literal h
 given (Err e) C D to h = tt
 
--- a text of no bytes has no characters, and no other has none
-pub none_when_empty : (bs : List ℕ) → (length bs == 0) ≡ true → chars bs ≡ []
-none_when_empty [] h = chars-nil
-none_when_empty (b ∷ bs) h = absurd (both_ways (length (b ∷ bs) == 0) (ne_eqb _ 0 (λ e. omega (arith, e))) h)
-
-pub some_when_not : (bs : List ℕ) → IsUtf8 bs → (length bs == 0) ≡ false → chars bs ≡ [] → ⊥
-some_when_not bs u h e = both_ways (length bs == 0) h (ap (λ x. length x == 0) (sym (encodes-chars bs u) ∙ ap encode_utf8_all e))
-
 pub parts_of_tag : (text tag : List ℕ) → IsLanguageTag tag → PlainParts text tag (with_tag text tag)
 parts_of_tag text [] h = absurd h.0
 parts_of_tag text (c ∷ cs) h = (h, refl)
 
-pub no_parts : (text rest : List ℕ) → (rest ≡ [] → ⊥) → (IsLanguageTag rest → ⊥) → (literal : LiteralParts) → PlainParts text rest literal → ⊥
-no_parts text [] some no_tag literal h = some refl
+pub no_parts : (text rest : List ℕ) → 0 < length rest → (IsLanguageTag rest → ⊥) → (literal : LiteralParts) → PlainParts text rest literal → ⊥
+no_parts text [] some no_tag literal h = omega arith
 no_parts text (c ∷ cs) some no_tag literal h = no_tag h.0
 
 -- a form of rdf:PlainLiteral, and one of any other datatype that has forms

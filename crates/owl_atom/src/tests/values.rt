@@ -1,3 +1,6 @@
+ghost use Rattle.std.specs.Prelude.{◌≡◌};
+ghost use Rattle.owl_text.specs.Order.{text_cmp};
+
 use crate::*;
 use std::alloc::Global;
 use std::cmp::Ordering;
@@ -98,6 +101,35 @@ fn untyped(alloc: Global) -> Result<Literal, Fail> {
 fn typed(alloc: Global, form: &str, datatype: &str) -> Result<Literal, Fail> {
     let datatype = Iri::of(alloc, datatype)?;
     Ok(Literal::of(alloc, form, Some(datatype), None)?)
+}
+
+/// The derived order of IRIs is that of their bytes.
+fn order_of_iris(first: &Iri, second: &Iri) -> Ordering
+    ensures { result ≡ text_cmp first.now second.now }
+{
+    first.cmp(second)
+}
+
+/// The derived order of labels is that of their bytes.
+fn order_of_labels(first: &Label, second: &Label) -> Ordering
+    ensures { result ≡ text_cmp first.now second.now }
+{
+    first.cmp(second)
+}
+
+#[test]
+fn names_are_ordered_by_bytes(rt: HostRuntime) -> Result<(), Fail> {
+    for (first, second) in [("a:", "a:a"), ("a:z", "a:é"), ("a:\u{FFFD}", "a:\u{10000}")] {
+        let first = Iri::of(rt.alloc(), first)?;
+        let second = Iri::of(rt.alloc(), second)?;
+        assert_eq!(rt; order_of_iris(&first, &second), Ordering::Less);
+    }
+    for (first, second) in [("a", "b"), ("a", "a-"), ("z", "é")] {
+        let first = Label::of(rt.alloc(), first)?;
+        let second = Label::of(rt.alloc(), second)?;
+        assert_eq!(rt; order_of_labels(&first, &second), Ordering::Less);
+    }
+    Ok(())
 }
 
 #[test]

@@ -2,7 +2,8 @@ use Rattle.std.proofs.Common.{not, subst}
 use Rattle.std.specs.Char.{is_ascii_digit}
 use Rattle.owl_text.specs.Names.{IsRunOf}
 use Rattle.std.proofs.lemmas.Bool.{both_ways, not_from_true}
-use Rattle.owl_atom.proofs.LexicalForms.{all_run, empty_chars, run_all, some_chars}
+use Rattle.owl_atom.proofs.Characters.{empty_chars, some_chars}
+use Rattle.owl_atom.proofs.LexicalForms.{all_run, run_all}
 use Rattle.owl_atom.proofs.lexical.is_digits.Goals as goal
 
 pub returns-then-not-is_empty : goal.returns-then-not-is_empty

@@ -4,7 +4,8 @@ use Rattle.std.proofs.lemmas.Bool.{both_ways}
 use Rattle.owl_atom.specs.Datatypes.{fraction, pointed, whole}
 use Rattle.owl_atom.proofs.Characters.{none_of}
 use Rattle.owl_atom.proofs.Iris.{first_cut}
-use Rattle.owl_atom.proofs.LexicalForms.{Around, around, around_nothing, around_something, empty_chars, first_utf8, pointless, some_chars}
+use Rattle.owl_atom.proofs.Characters.{empty_chars, some_chars}
+use Rattle.owl_atom.proofs.LexicalForms.{Around, around, around_nothing, around_something, first_utf8, pointless}
 use Rattle.owl_atom.proofs.lexical.is_unsigned_decimal.Goals as goal
 
 pub returns-then-is_empty : goal.returns-then-is_empty
