@@ -1,5 +1,5 @@
 -- The prefixes that are declared beforehand.
-use Rattle.std.proofs.Common.{◌≡◌, ℕ, ◌↔◌, Bool, true, false, IsTrue, List, [], ◌∷◌, ◌++◌, Some, None, refl, sym, ap, ◌∙◌, subst}
+use Rattle.std.proofs.Common.{◌≡◌, ℕ, ◌↔◌, Bool, true, false, IsTrue, List, [], ◌∷◌, ◌++◌, Some, None, refl, sym, ap, ◌∙◌}
 use Rattle.std.specs.Prelude.{codes}
 use Rattle.std.specs.List.{list_all}
 use Rattle.std.specs.Str.{IsUtf8, bytes_eq, chars, encode_utf8_all}
@@ -7,33 +7,23 @@ use Rattle.std.proofs.lemmas.Bool.{false≢true}
 use Rattle.std.proofs.lemmas.Option.{same_Some}
 use Rattle.std.proofs.lemmas.Slice.Eq.{bytes_eq-Decides}
 use Rattle.std.proofs.lemmas.Str.{encodes-chars}
-use Rattle.owl_text.specs.Iri.{IsIri, is_ascii, is_iri_character}
-use Rattle.owl_text.specs.Names.{IsPrefixName, ends_in_dot, is_base, is_inner}
+use Rattle.owl_text.specs.Iri.{is_ascii}
 use Rattle.owl_text.specs.Order.{text_eq}
 use Rattle.owl_atom.specs.Prefixes.{AreAscending, IsTable, iri_of, fixed, fixed_prefixes}
 use Rattle.owl_atom.specs.Vocabulary.{owl, rdf, rdfs, xsd}
 use Rattle.owl_atom.specs.declared.prefixes.Prefix.{Prefix}
-use Rattle.owl_atom.proofs.Characters.{all_are}
-use Rattle.owl_atom.proofs.Iris.{written_iri}
 use Rattle.owl_atom.proofs.PrefixTables.{unequal}
-use Rattle.owl_atom.proofs.Words.{own, own_bytes}
+use Rattle.owl_atom.proofs.Words.{own, own_bytes, written_name}
 
 ascending : AreAscending fixed_prefixes
 unfolding lib.Utf8.encode
 ascending = ((refl, (refl, (refl, tt))), ((refl, (refl, tt)), ((refl, tt), (tt, tt))))
 
--- a name of ASCII letters alone
-letters : (c : ℕ) (cs : List ℕ) → is_base c ≡ true → list_all is_inner cs ≡ true → ends_in_dot (c ∷ cs) ≡ false → IsPrefixName (c ∷ cs)
-letters c cs first h last = (first, (all_are is_inner cs).0 h, last)
-
 pub fixed_table : IsTable fixed_prefixes
 fixed_table = record {
   ascending = ascending;
-  names = (letters 111 (codes "wl") refl refl refl, (letters 114 (codes "df") refl refl refl, (letters 114 (codes "dfs") refl refl refl, (letters 120 (codes "sd") refl refl refl, tt))));
+  names = (written_name 111 (codes "wl") refl refl refl, (written_name 114 (codes "df") refl refl refl, (written_name 114 (codes "dfs") refl refl refl, (written_name 120 (codes "sd") refl refl refl, tt))));
 }
-
-pub http_iri : (rest : List ℕ) → list_all is_iri_character rest ≡ true → list_all is_ascii (codes "http:" ++ rest) ≡ true → IsIri (chars (codes "http:" ++ rest))
-http_iri rest h ascii = subst IsIri (sym (own (codes "http:" ++ rest) ascii)) (written_iri rest h)
 
 -- the table that is pushed together
 pub four : (h0 h1 h2 h3 h4 : List Prefix) (a b c d : Prefix) → h0 ≡ [] → h1 ≡ h0 ++ a ∷ [] → h2 ≡ h1 ++ b ∷ [] → h3 ≡ h2 ++ c ∷ [] → h4 ≡ h3 ++ d ∷ []

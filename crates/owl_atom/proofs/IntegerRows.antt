@@ -11,8 +11,8 @@ use Rattle.owl_atom.specs.Datatypes.{IntegerRow, IsIntegerForm}
 use Rattle.owl_atom.specs.Tables.{FitsRows, range}
 use Rattle.owl_atom.proofs.AsciiTexts.{from_bytes, from_characters, is_ascii_text}
 
-abbrev pub is_plain_row : RowOfName → Bool
-is_plain_row row = is_ascii_text row.datatype.now
+abbrev pub is_ascii_row : RowOfName → Bool
+is_ascii_row row = is_ascii_text row.datatype.now
 
 -- the form is one of each integer datatype that has the name
 abbrev pub FitsRanges : List IntegerRow → List ℕ → List ℕ → Type 0
@@ -30,16 +30,16 @@ Contains-from_map f (first ∷ rows) row k =
       sym (get_or-map f (first ∷ rows) k.0 first row within) ∙ k.2,
     )
 
-plain_at : (rows : List RowOfName) (row : RowOfName) → list_all is_plain_row rows ≡ true → Contains rows row → is_plain_row row ≡ true
-plain_at rows row h k = All-contains (λ x. is_plain_row x ≡ true) rows row (AllPass-from_list_all is_plain_row rows h) k
+plain_at : (rows : List RowOfName) (row : RowOfName) → list_all is_ascii_row rows ≡ true → Contains rows row → is_ascii_row row ≡ true
+plain_at rows row h k = All-contains (λ x. is_ascii_row x ≡ true) rows row (AllPass-from_list_all is_ascii_row rows h) k
 
-pub fit_ranges : (rows : List RowOfName) (datatype form : List ℕ) → list_all is_plain_row rows ≡ true → FitsRows rows (encode_utf8_all datatype) form → FitsRanges (map range rows) datatype form
+pub fit_ranges : (rows : List RowOfName) (datatype form : List ℕ) → list_all is_ascii_row rows ≡ true → FitsRows rows (encode_utf8_all datatype) form → FitsRanges (map range rows) datatype form
 fit_ranges rows datatype form plain h row k e =
     let from = Contains-from_map range rows row k in
     let name : datatype ≡ from.0.datatype.now = e ∙ ap (λ (x : IntegerRow). x.datatype) (sym from.2) in
     subst (λ x. IsIntegerForm x form) from.2 (h.fits from.0 from.1 (from_characters from.0.datatype.now datatype (plain_at rows from.0 plain from.1) name))
 
-pub fit_rows : (rows : List RowOfName) (datatype form : List ℕ) → list_all is_plain_row rows ≡ true → FitsRanges (map range rows) datatype form → FitsRows rows (encode_utf8_all datatype) form
+pub fit_rows : (rows : List RowOfName) (datatype form : List ℕ) → list_all is_ascii_row rows ≡ true → FitsRanges (map range rows) datatype form → FitsRows rows (encode_utf8_all datatype) form
 fit_rows rows datatype form plain h = record {
   fits = λ row k e. h (range row) (Contains-map range rows row k) (from_bytes row.datatype.now datatype (plain_at rows row plain k) e);
 }

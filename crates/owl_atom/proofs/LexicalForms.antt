@@ -7,7 +7,7 @@ use Rattle.std.specs.Str.{IsUtf8, chars, encode_utf8_all}
 use Rattle.std.specs.Str.Parse.{AllDigits, IsNumeral, starts_with_minus, without_leading_sign}
 use Rattle.std.specs.Str.Pattern.{HasCharAt}
 use denote.Ref.{Bor}
-use Rattle.std.proofs.lemmas.Bool.{both_ways, eqb-true, false_from_ne_true}
+use Rattle.std.proofs.lemmas.Bool.{eqb-true, false_from_ne_true, not-true}
 use Rattle.std.proofs.lemmas.Bool.Decides.{nat_tests}
 use Rattle.std.proofs.lemmas.Str.{chars-nil, digit_value_digit, encodes-chars}
 use Rattle.std.proofs.lemmas.Str.Pattern.{IsSplitOnceResult}
@@ -16,7 +16,7 @@ use Rattle.owl_text.specs.Names.{IsRunOf}
 use Rattle.owl_text.proofs.Spans.{found, same_cut}
 use Rattle.owl_atom.specs.Datatypes.{IsDecimalForm, UnsignedDecimal, whole, pointed, fraction}
 use Rattle.owl_atom.proofs.Characters.{NoneAre, cut_at, front_utf8}
-use Rattle.owl_atom.proofs.Iris.{without}
+use Rattle.owl_atom.proofs.Iris.{another, without}
 
 -- Runs of digits.
 
@@ -34,7 +34,7 @@ run_some test (c ∷ cs) h = omega arith
 
 -- no mark is a digit
 pub no_digit : (x c : ℕ) → is_ascii_digit x ≡ false → is_ascii_digit c ≡ true → (c == x) ≡ false
-no_digit x c f t = false_from_ne_true (c == x) (λ same. both_ways (is_ascii_digit c) (ap is_ascii_digit (eqb-true c x same) ∙ f) t)
+no_digit x c f t = not-true (c == x) (another is_ascii_digit x c f t)
 
 digit_below : (c : ℕ) → is_ascii_digit c ≡ true → digit_value c < 10
 digit_below c h =

@@ -1,6 +1,6 @@
 -- What the forms of literals denote.
 use Rattle.std.proofs.Common.{Result, Ok, Err, IfOk, IsErrOf, IsNone, ◌⊎◌, Option, length, inl, inr, arith, ◌≡◌, ◌≢◌, ℕ, ◌<◌, ◌↔◌, Bool, true, false, not, List, [], ◌∷◌, ◌++◌, get_or, take, drop, Some, None, refl, sym, ap, ◌∙◌, subst}
-use Rattle.std.specs.Prelude.{codes, ◌==◌}
+use Rattle.std.specs.Prelude.{◌==◌}
 use Rattle.std.specs.Char.{is_ascii_alphanumeric}
 use Rattle.std.specs.Str.{IsUtf8, chars}
 use Rattle.std.specs.Str.Pattern.{RFindsChar}
@@ -9,12 +9,12 @@ use Rattle.std.proofs.lemmas.Bool.{false≢true}
 use Rattle.std.specs.Option.{option_map}
 use Rattle.owl_atom.specs.declared.fault.LiteralFault.{LiteralFault}
 use Rattle.owl_atom.specs.declared.fault.LiteralFault.TheVariants.{BadLiteral}
-use Rattle.owl_text.specs.Iri.{AllAre, IsIri}
+use Rattle.owl_text.specs.Iri.{AllAre}
 use Rattle.owl_text.specs.Names.{IsLanguageTag}
 use Rattle.owl_text.proofs.Spans.{SameCut, found}
 use Rattle.owl_atom.specs.Literals.{Denotes, DenotesTyped, FitsTag, LiteralParts, PlainForm, PlainParts, lang_string, of_datatype, plain_literal, string, with_tag}
 use Rattle.owl_atom.proofs.Characters.{NoneAre, back_utf8, cut_at, none_of}
-use Rattle.owl_atom.proofs.Iris.{another, written_iri}
+use Rattle.owl_atom.proofs.Iris.{another}
 use Rattle.owl_atom.proofs.LanguageTags.{tag_passes}
 use Rattle.owl_atom.proofs.Words.{own}
 
@@ -71,12 +71,6 @@ one_untyped form (Some tag) a b h k = h ∙ sym k
 
 pub no_form : (form : List ℕ) → NoneAre (λ d. d == 64) form → (literal : LiteralParts) → PlainForm form literal → ⊥
 no_form form fresh literal f = found (λ d. not (d == 64)) f.text 64 f.rest form fresh refl f.parts
-
-pub string_is_iri : IsIri string
-string_is_iri = written_iri (codes "//www.w3.org/2001/XMLSchema#string") refl
-
-pub plain_literal_is_iri : IsIri plain_literal
-plain_literal_is_iri = written_iri (codes "//www.w3.org/1999/02/22-rdf-syntax-ns#PlainLiteral") refl
 
 -- texts that differ at the place 18
 apart : (a b : List ℕ) → (get_or a 18 0 == 50) ≡ true → (get_or b 18 0 == 50) ≡ false → a ≢ b

@@ -3,37 +3,33 @@ use Rattle.std.proofs.Common.{◌≡◌, ◌≢◌, ◌<◌, ◌≤◌, ℕ, zer
 use Rattle.std.specs.Prelude.{slice_get, insert}
 use Rattle.std.specs.declared.cmp.Ordering.{Ordering}
 use Rattle.std.specs.declared.cmp.Ordering.TheVariants.{Less, Equal, Greater}
-use Rattle.std.specs.Cmp.{IsTotalOrder}
 use Rattle.std.specs.FinMap.{nat_cmp-IsAntisymmetric, slice_cmp-IsAntisymmetric}
 use Rattle.std.specs.List.{AllByRecursion, HoldsAt}
 use Rattle.std.specs.List.Sorted.{IsBinarySearchResult, IsSearchInRange, IsNonDecreasingBy}
 use Rattle.std.specs.Ordering.{ordering_index, ordering_reverse}
-use Rattle.std.specs.Str.{encode_utf8_all}
 use Rattle.std.proofs.lemmas.Bool.{false_from_ne_true}
-use Rattle.std.proofs.lemmas.Cmp.{tied_itself, nat_list_cmp_total, on_total}
+use Rattle.std.proofs.lemmas.Cmp.{tied_itself}
 use Rattle.std.proofs.lemmas.Option.{same_Some, slice_get-get_or}
 use Rattle.std.proofs.lemmas.Slice.Eq.{bytes_eq-Decides}
 use Rattle.std.proofs.lemmas.Str.{encodes_same}
 use Rattle.owl_text.specs.Names.{IsPrefixName}
 use Rattle.owl_text.specs.Order.{text_cmp, text_eq}
 use Rattle.owl_atom.specs.declared.prefixes.Prefix.{Prefix}
+use Rattle.owl_atom.specs.LiteralLaws.{texts_total}
 use Rattle.owl_atom.specs.Prefixes.{AreAscending, prefix_in}
 use Rattle.owl_atom.specs.Places.{IsPlaceOf, IsGapFor}
 
 -- the order of names
 
-names_ordered : IsTotalOrder text_cmp
-names_ordered = on_total encode_utf8_all nat_list_cmp_total
-
 same_names : (a b : List ℕ) → text_cmp a b ≡ Equal → a ≡ b
 same_names a b e = encodes_same a b (slice_cmp-IsAntisymmetric nat_cmp-IsAntisymmetric _ _ e)
 
 turned : (a b : List ℕ) → text_cmp a b ≡ Greater → text_cmp b a ≡ Less
-turned a b e = names_ordered.antisymm b a ∙ ap ordering_reverse e
+turned a b e = texts_total.antisymm b a ∙ ap ordering_reverse e
 
 less_differs : (a b : List ℕ) → text_cmp a b ≡ Less → a ≢ b
 less_differs a b e same =
-    let equal : text_cmp a b ≡ Equal = subst (λ n. text_cmp a n ≡ Equal) same (tied_itself names_ordered a) in
+    let equal : text_cmp a b ≡ Equal = subst (λ n. text_cmp a n ≡ Equal) same (tied_itself texts_total a) in
     absurd (cc)
 
 pub unequal : (a b : List ℕ) → a ≢ b → text_eq a b ≡ false
@@ -63,7 +59,7 @@ Below name prefixes = AllByRecursion (λ other. text_cmp name other.name ≡ Les
 
 below_too : (a b : List ℕ) (prefixes : List Prefix) → text_cmp a b ≡ Less → Below b prefixes → Below a prefixes
 below_too a b [] e h = tt
-below_too a b (x ∷ xs) e h = (names_ordered.trans a b x.name e h.0, below_too a b xs e h.1)
+below_too a b (x ∷ xs) e h = (texts_total.trans a b x.name e h.0, below_too a b xs e h.1)
 
 below_none : (name : List ℕ) (prefixes : List Prefix) → Below name prefixes → prefix_in prefixes name ≡ None
 below_none name [] h = refl
@@ -182,7 +178,7 @@ at_most_two Equal = omega arith
 at_most_two Greater = omega arith
 
 ranks_rise : (a b c : List ℕ) → text_cmp a b ≡ Less → (o : Ordering) → text_cmp b c ≡ o → ordering_index (text_cmp a c) ≤ ordering_index o
-ranks_rise a b c e Less is = let less : text_cmp a c ≡ Less = names_ordered.trans a b c e is in rw less (omega arith)
+ranks_rise a b c e Less is = let less : text_cmp a c ≡ Less = texts_total.trans a b c e is in rw less (omega arith)
 ranks_rise a b c e Equal is = let less : text_cmp a c ≡ Less = subst (λ n. text_cmp a n ≡ Less) (same_names b c is) e in rw less (omega arith)
 ranks_rise a b c e Greater is = at_most_two (text_cmp a c)
 

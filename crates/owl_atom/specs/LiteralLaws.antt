@@ -19,7 +19,7 @@ equivalence =
 pub partial_equivalence : IsPartialEquivalence literal_eq
 partial_equivalence = partial_equiv_from_equiv equivalence
 
-texts_total : IsTotalOrder text_cmp
+pub texts_total : IsTotalOrder text_cmp
 texts_total = on_total encode_utf8_all nat_list_cmp_total
 
 pub total_order : IsTotalOrder literal_cmp

@@ -69,8 +69,8 @@ abbrev pub IsBetter : Prefix → Prefix → Type 0
 IsBetter best other =
     (length other.iri < length best.iri) ⊎ ((length other.iri ≡ length best.iri) × (text_cmp best.name other.name ≡ Less))
 
--- The shortest form of an IRI: the prefix at this place, and the local part that begins at this byte. Every other prefix
--- that cuts the IRI is worse.
+-- How an IRI is abbreviated: by the prefix at this place, with the local part that begins at this byte. Every other
+-- prefix that cuts the IRI is worse.
 pub record Shortens (prefixes : List Prefix) (iri : List ℕ) (place begin : ℕ) : Type 0 where
   pub prefix : Prefix
   pub local : List ℕ

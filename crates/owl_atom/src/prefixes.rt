@@ -147,8 +147,10 @@ impl Prefixes {
         }
     }
 
-    /// The shortest form of an IRI: the place of its prefix, and the byte at
-    /// which its local part begins. Takes no memory.
+    /// How an IRI is abbreviated: the place of a prefix, and the byte at which
+    /// the local part begins. Of the prefixes that leave a plain local part it
+    /// is the one with the longest IRI, at a tie the one with the least name.
+    /// Takes no memory.
     pub fn shorten(&self, iri: &Iri) -> Option<(usize, usize)>
         ensures best { IfSome result (λ r. Shortens self.now iri.now r.0 r.1) }
         ensures none { IsNone result ↔ ((prefix : Prefix) (local : List ℕ) → Contains self.now prefix → Cuts prefix iri.now local → ⊥) }
