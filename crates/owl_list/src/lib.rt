@@ -1,0 +1,2 @@
+//! Lists in order.
+#![tactic(auto)]

@@ -1,0 +1,9 @@
+pub mod Tags
+pub mod Rows
+pub mod Trees
+pub mod Equivalence
+pub mod Shape
+pub mod Order
+pub mod Canonical
+pub mod Ontologies
+pub mod Kinds

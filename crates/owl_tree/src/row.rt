@@ -1,0 +1,224 @@
+//! What each tag has below it: one table, by which shape is tested here and
+//! Functional-Style Syntax is read and written above.
+
+ghost use Rattle.std.specs.Prelude.{◌≡◌};
+ghost use Rattle.owl_tree.specs.Rows.{row_of, row_seen};
+
+use crate::tag::Tag;
+
+/// A sort of atoms.
+#[derive(Clone, Copy, Debug, PartialEq, Eq)]
+pub enum AtomSort {
+    Iri,
+    Label,
+    Literal,
+    Number,
+}
+
+/// A sort of trees, by the tags that it takes.
+#[derive(Clone, Copy, Debug)]
+pub enum Sort {
+    Notes,
+    Annotation,
+    AnnotationProperty,
+    AnnotationSubject,
+    AnnotationValue,
+    Iri,
+    ClassExpression,
+    Class,
+    DataRange,
+    Datatype,
+    ObjectPropertyExpression,
+    ObjectProperty,
+    SubObjectPropertyExpression,
+    DataPropertyExpression,
+    Individual,
+    Literal,
+    Number,
+    Facet,
+    FacetPair,
+    ObjectKeys,
+    DataKeys,
+    Entity,
+}
+
+use Sort::{
+    Annotation, AnnotationProperty, AnnotationSubject, AnnotationValue, Class, ClassExpression,
+    DataKeys, DataPropertyExpression, DataRange, Datatype, Entity, Facet, FacetPair, Individual,
+    Iri, Literal, Notes, Number, ObjectKeys, ObjectProperty, ObjectPropertyExpression,
+    SubObjectPropertyExpression,
+};
+
+/// What stands behind the front of a node.
+#[derive(Clone, Copy, Debug)]
+pub enum Rest {
+    /// No more.
+    Nothing,
+    /// One tree of the sort, or none.
+    Optional(Sort),
+    /// At least so many trees of the sort, in order.
+    AtLeast(Sort, usize),
+    /// One or more trees of the first sort, in order, and one of the second.
+    SomeThen(Sort, Sort),
+    /// A set of trees of the sort, of which at least so many are written.
+    Set(Sort, usize),
+}
+
+/// What a tag has below it.
+#[derive(Clone, Copy, Debug)]
+pub enum Row {
+    /// The tag is of leaves, and this is the sort of their atoms.
+    Leaf(AtomSort),
+    /// The tag is of nodes, which have a tree of each of these sorts in front,
+    /// in order, and then the rest.
+    Node(&'static [Sort], Rest),
+}
+
+impl Tag {
+    /// What the tag has below it (Structural Specification, sections 5 to 10).
+    #[tactic(auto, unfolding(crate::specs::Rows::row_of))]
+    pub fn row(self) -> Row
+        ensures { row_seen result ≡ row_of self }
+    {
+        match self {
+            Tag::Class
+            | Tag::Datatype
+            | Tag::ObjectProperty
+            | Tag::DataProperty
+            | Tag::AnnotationProperty
+            | Tag::NamedIndividual => Row::Leaf(AtomSort::Iri),
+            Tag::Anonymous => Row::Leaf(AtomSort::Label),
+            Tag::PlainIri => Row::Leaf(AtomSort::Iri),
+            Tag::Literal => Row::Leaf(AtomSort::Literal),
+            Tag::Number => Row::Leaf(AtomSort::Number),
+            Tag::Facet => Row::Leaf(AtomSort::Iri),
+            Tag::ObjectInverseOf => Row::Node(&[ObjectProperty], Rest::Nothing),
+            Tag::ObjectPropertyChain => Row::Node(&[], Rest::AtLeast(ObjectPropertyExpression, 2)),
+            Tag::ObjectIntersectionOf | Tag::ObjectUnionOf => Row::Node(
+                &[],
+                Rest::Set(ClassExpression, 2),
+            ),
+            Tag::ObjectComplementOf => Row::Node(&[ClassExpression], Rest::Nothing),
+            Tag::ObjectOneOf => Row::Node(&[], Rest::Set(Individual, 1)),
+            Tag::ObjectSomeValuesFrom | Tag::ObjectAllValuesFrom => Row::Node(
+                &[ObjectPropertyExpression, ClassExpression],
+                Rest::Nothing,
+            ),
+            Tag::ObjectHasValue => Row::Node(
+                &[ObjectPropertyExpression, Individual],
+                Rest::Nothing,
+            ),
+            Tag::ObjectHasSelf => Row::Node(&[ObjectPropertyExpression], Rest::Nothing),
+            Tag::ObjectMinCardinality | Tag::ObjectMaxCardinality | Tag::ObjectExactCardinality =>
+                Row::Node(
+                    &[Number, ObjectPropertyExpression],
+                    Rest::Optional(ClassExpression),
+                ),
+            Tag::DataSomeValuesFrom | Tag::DataAllValuesFrom => Row::Node(
+                &[],
+                Rest::SomeThen(DataPropertyExpression, DataRange),
+            ),
+            Tag::DataHasValue => Row::Node(&[DataPropertyExpression, Literal], Rest::Nothing),
+            Tag::DataMinCardinality | Tag::DataMaxCardinality | Tag::DataExactCardinality =>
+                Row::Node(&[Number, DataPropertyExpression], Rest::Optional(DataRange)),
+            Tag::DataIntersectionOf | Tag::DataUnionOf => Row::Node(&[], Rest::Set(DataRange, 2)),
+            Tag::DataComplementOf => Row::Node(&[DataRange], Rest::Nothing),
+            Tag::DataOneOf => Row::Node(&[], Rest::Set(Literal, 1)),
+            Tag::DatatypeRestriction => Row::Node(&[Datatype], Rest::Set(FacetPair, 1)),
+            Tag::FacetPair => Row::Node(&[Facet, Literal], Rest::Nothing),
+            Tag::ObjectKeys => Row::Node(&[], Rest::Set(ObjectPropertyExpression, 0)),
+            Tag::DataKeys => Row::Node(&[], Rest::Set(DataPropertyExpression, 0)),
+            Tag::Annotation => Row::Node(
+                &[Notes, AnnotationProperty, AnnotationValue],
+                Rest::Nothing,
+            ),
+            Tag::Notes => Row::Node(&[], Rest::Set(Annotation, 0)),
+            Tag::Declaration => Row::Node(&[Notes, Entity], Rest::Nothing),
+            Tag::SubClassOf => Row::Node(&[Notes, ClassExpression, ClassExpression], Rest::Nothing),
+            Tag::EquivalentClasses | Tag::DisjointClasses => Row::Node(
+                &[Notes],
+                Rest::Set(ClassExpression, 2),
+            ),
+            Tag::DisjointUnion => Row::Node(&[Notes, Class], Rest::Set(ClassExpression, 2)),
+            Tag::SubObjectPropertyOf => Row::Node(
+                &[Notes, SubObjectPropertyExpression, ObjectPropertyExpression],
+                Rest::Nothing,
+            ),
+            Tag::EquivalentObjectProperties
+            | Tag::DisjointObjectProperties
+            | Tag::InverseObjectProperties => Row::Node(
+                &[Notes],
+                Rest::Set(ObjectPropertyExpression, 2),
+            ),
+            Tag::ObjectPropertyDomain | Tag::ObjectPropertyRange => Row::Node(
+                &[Notes, ObjectPropertyExpression, ClassExpression],
+                Rest::Nothing,
+            ),
+            Tag::FunctionalObjectProperty
+            | Tag::InverseFunctionalObjectProperty
+            | Tag::ReflexiveObjectProperty
+            | Tag::IrreflexiveObjectProperty
+            | Tag::SymmetricObjectProperty
+            | Tag::AsymmetricObjectProperty
+            | Tag::TransitiveObjectProperty => Row::Node(
+                &[Notes, ObjectPropertyExpression],
+                Rest::Nothing,
+            ),
+            Tag::SubDataPropertyOf => Row::Node(
+                &[Notes, DataPropertyExpression, DataPropertyExpression],
+                Rest::Nothing,
+            ),
+            Tag::EquivalentDataProperties | Tag::DisjointDataProperties => Row::Node(
+                &[Notes],
+                Rest::Set(DataPropertyExpression, 2),
+            ),
+            Tag::DataPropertyDomain => Row::Node(
+                &[Notes, DataPropertyExpression, ClassExpression],
+                Rest::Nothing,
+            ),
+            Tag::DataPropertyRange => Row::Node(
+                &[Notes, DataPropertyExpression, DataRange],
+                Rest::Nothing,
+            ),
+            Tag::FunctionalDataProperty => Row::Node(
+                &[Notes, DataPropertyExpression],
+                Rest::Nothing,
+            ),
+            Tag::DatatypeDefinition => Row::Node(&[Notes, Datatype, DataRange], Rest::Nothing),
+            Tag::HasKey => Row::Node(
+                &[Notes, ClassExpression, ObjectKeys, DataKeys],
+                Rest::Nothing,
+            ),
+            Tag::SameIndividual | Tag::DifferentIndividuals => Row::Node(
+                &[Notes],
+                Rest::Set(Individual, 2),
+            ),
+            Tag::ClassAssertion => Row::Node(&[Notes, ClassExpression, Individual], Rest::Nothing),
+            Tag::ObjectPropertyAssertion | Tag::NegativeObjectPropertyAssertion => Row::Node(
+                &[Notes, ObjectPropertyExpression, Individual, Individual],
+                Rest::Nothing,
+            ),
+            Tag::DataPropertyAssertion | Tag::NegativeDataPropertyAssertion => Row::Node(
+                &[Notes, DataPropertyExpression, Individual, Literal],
+                Rest::Nothing,
+            ),
+            Tag::AnnotationAssertion => Row::Node(
+                &[
+                    Notes,
+                    AnnotationProperty,
+                    AnnotationSubject,
+                    AnnotationValue,
+                ],
+                Rest::Nothing,
+            ),
+            Tag::SubAnnotationPropertyOf => Row::Node(
+                &[Notes, AnnotationProperty, AnnotationProperty],
+                Rest::Nothing,
+            ),
+            Tag::AnnotationPropertyDomain | Tag::AnnotationPropertyRange => Row::Node(
+                &[Notes, AnnotationProperty, Iri],
+                Rest::Nothing,
+            ),
+        }
+    }
+}

@@ -1,0 +1,249 @@
+//! The tags of trees.
+
+ghost use Rattle.std.specs.Prelude.{◌≡◌, ◌≤◌, nat_le, ◌==◌};
+ghost use Rattle.std.specs.Cmp.Rules.{comparing, hashing};
+ghost use Rattle.std.specs.Cmp.{partial_order_from_own_ties, unsigned_tied};
+ghost use Rattle.std.specs.Hash as fed;
+ghost use Rattle.std.specs.Ordering.{as_partial_cmp, nat_cmp, on};
+ghost use Rattle.std.proofs.Common.{rules, sym};
+ghost use Rattle.owl_tree.specs.Tags.{is_axiom, keyword_of, number_of};
+
+use std::cmp::Ordering;
+use std::hash::{Hash, Hasher};
+
+/// What a tree is: a leaf, an expression, an annotation or an axiom, by its
+/// name in the Structural Specification (sections 5 to 10).
+///
+/// Tags are equal, ordered and hashed by their numbers.
+#[derive(Clone, Copy, Debug)]
+pub enum Tag {
+    Class,
+    Datatype,
+    ObjectProperty,
+    DataProperty,
+    AnnotationProperty,
+    NamedIndividual,
+    Anonymous,
+    PlainIri,
+    Literal,
+    Number,
+    Facet,
+    ObjectInverseOf,
+    ObjectPropertyChain,
+    ObjectIntersectionOf,
+    ObjectUnionOf,
+    ObjectComplementOf,
+    ObjectOneOf,
+    ObjectSomeValuesFrom,
+    ObjectAllValuesFrom,
+    ObjectHasValue,
+    ObjectHasSelf,
+    ObjectMinCardinality,
+    ObjectMaxCardinality,
+    ObjectExactCardinality,
+    DataSomeValuesFrom,
+    DataAllValuesFrom,
+    DataHasValue,
+    DataMinCardinality,
+    DataMaxCardinality,
+    DataExactCardinality,
+    DataIntersectionOf,
+    DataUnionOf,
+    DataComplementOf,
+    DataOneOf,
+    DatatypeRestriction,
+    FacetPair,
+    ObjectKeys,
+    DataKeys,
+    Annotation,
+    Notes,
+    Declaration,
+    SubClassOf,
+    EquivalentClasses,
+    DisjointClasses,
+    DisjointUnion,
+    SubObjectPropertyOf,
+    EquivalentObjectProperties,
+    DisjointObjectProperties,
+    InverseObjectProperties,
+    ObjectPropertyDomain,
+    ObjectPropertyRange,
+    FunctionalObjectProperty,
+    InverseFunctionalObjectProperty,
+    ReflexiveObjectProperty,
+    IrreflexiveObjectProperty,
+    SymmetricObjectProperty,
+    AsymmetricObjectProperty,
+    TransitiveObjectProperty,
+    SubDataPropertyOf,
+    EquivalentDataProperties,
+    DisjointDataProperties,
+    DataPropertyDomain,
+    DataPropertyRange,
+    FunctionalDataProperty,
+    DatatypeDefinition,
+    HasKey,
+    SameIndividual,
+    DifferentIndividuals,
+    ClassAssertion,
+    ObjectPropertyAssertion,
+    NegativeObjectPropertyAssertion,
+    DataPropertyAssertion,
+    NegativeDataPropertyAssertion,
+    AnnotationAssertion,
+    SubAnnotationPropertyOf,
+    AnnotationPropertyDomain,
+    AnnotationPropertyRange,
+}
+
+impl Tag {
+    /// The number of the tag, from 1 to 77.
+    #[tactic(auto, unfolding(crate::specs::Tags::number_of))]
+    pub fn number(self) -> u8
+        ensures { result ≡ number_of self }
+    {
+        self as u8 + 1
+    }
+
+    /// The name of the tag, which is its keyword in Functional-Style Syntax.
+    #[tactic(auto, unfolding(crate::specs::Tags::keyword_of))]
+    pub fn keyword(self) -> &'static str
+        ensures { result.now ≡ keyword_of self }
+    {
+        match self {
+            Tag::Class => "Class",
+            Tag::Datatype => "Datatype",
+            Tag::ObjectProperty => "ObjectProperty",
+            Tag::DataProperty => "DataProperty",
+            Tag::AnnotationProperty => "AnnotationProperty",
+            Tag::NamedIndividual => "NamedIndividual",
+            Tag::Anonymous => "Anonymous",
+            Tag::PlainIri => "PlainIri",
+            Tag::Literal => "Literal",
+            Tag::Number => "Number",
+            Tag::Facet => "Facet",
+            Tag::ObjectInverseOf => "ObjectInverseOf",
+            Tag::ObjectPropertyChain => "ObjectPropertyChain",
+            Tag::ObjectIntersectionOf => "ObjectIntersectionOf",
+            Tag::ObjectUnionOf => "ObjectUnionOf",
+            Tag::ObjectComplementOf => "ObjectComplementOf",
+            Tag::ObjectOneOf => "ObjectOneOf",
+            Tag::ObjectSomeValuesFrom => "ObjectSomeValuesFrom",
+            Tag::ObjectAllValuesFrom => "ObjectAllValuesFrom",
+            Tag::ObjectHasValue => "ObjectHasValue",
+            Tag::ObjectHasSelf => "ObjectHasSelf",
+            Tag::ObjectMinCardinality => "ObjectMinCardinality",
+            Tag::ObjectMaxCardinality => "ObjectMaxCardinality",
+            Tag::ObjectExactCardinality => "ObjectExactCardinality",
+            Tag::DataSomeValuesFrom => "DataSomeValuesFrom",
+            Tag::DataAllValuesFrom => "DataAllValuesFrom",
+            Tag::DataHasValue => "DataHasValue",
+            Tag::DataMinCardinality => "DataMinCardinality",
+            Tag::DataMaxCardinality => "DataMaxCardinality",
+            Tag::DataExactCardinality => "DataExactCardinality",
+            Tag::DataIntersectionOf => "DataIntersectionOf",
+            Tag::DataUnionOf => "DataUnionOf",
+            Tag::DataComplementOf => "DataComplementOf",
+            Tag::DataOneOf => "DataOneOf",
+            Tag::DatatypeRestriction => "DatatypeRestriction",
+            Tag::FacetPair => "FacetPair",
+            Tag::ObjectKeys => "ObjectKeys",
+            Tag::DataKeys => "DataKeys",
+            Tag::Annotation => "Annotation",
+            Tag::Notes => "Notes",
+            Tag::Declaration => "Declaration",
+            Tag::SubClassOf => "SubClassOf",
+            Tag::EquivalentClasses => "EquivalentClasses",
+            Tag::DisjointClasses => "DisjointClasses",
+            Tag::DisjointUnion => "DisjointUnion",
+            Tag::SubObjectPropertyOf => "SubObjectPropertyOf",
+            Tag::EquivalentObjectProperties => "EquivalentObjectProperties",
+            Tag::DisjointObjectProperties => "DisjointObjectProperties",
+            Tag::InverseObjectProperties => "InverseObjectProperties",
+            Tag::ObjectPropertyDomain => "ObjectPropertyDomain",
+            Tag::ObjectPropertyRange => "ObjectPropertyRange",
+            Tag::FunctionalObjectProperty => "FunctionalObjectProperty",
+            Tag::InverseFunctionalObjectProperty => "InverseFunctionalObjectProperty",
+            Tag::ReflexiveObjectProperty => "ReflexiveObjectProperty",
+            Tag::IrreflexiveObjectProperty => "IrreflexiveObjectProperty",
+            Tag::SymmetricObjectProperty => "SymmetricObjectProperty",
+            Tag::AsymmetricObjectProperty => "AsymmetricObjectProperty",
+            Tag::TransitiveObjectProperty => "TransitiveObjectProperty",
+            Tag::SubDataPropertyOf => "SubDataPropertyOf",
+            Tag::EquivalentDataProperties => "EquivalentDataProperties",
+            Tag::DisjointDataProperties => "DisjointDataProperties",
+            Tag::DataPropertyDomain => "DataPropertyDomain",
+            Tag::DataPropertyRange => "DataPropertyRange",
+            Tag::FunctionalDataProperty => "FunctionalDataProperty",
+            Tag::DatatypeDefinition => "DatatypeDefinition",
+            Tag::HasKey => "HasKey",
+            Tag::SameIndividual => "SameIndividual",
+            Tag::DifferentIndividuals => "DifferentIndividuals",
+            Tag::ClassAssertion => "ClassAssertion",
+            Tag::ObjectPropertyAssertion => "ObjectPropertyAssertion",
+            Tag::NegativeObjectPropertyAssertion => "NegativeObjectPropertyAssertion",
+            Tag::DataPropertyAssertion => "DataPropertyAssertion",
+            Tag::NegativeDataPropertyAssertion => "NegativeDataPropertyAssertion",
+            Tag::AnnotationAssertion => "AnnotationAssertion",
+            Tag::SubAnnotationPropertyOf => "SubAnnotationPropertyOf",
+            Tag::AnnotationPropertyDomain => "AnnotationPropertyDomain",
+            Tag::AnnotationPropertyRange => "AnnotationPropertyRange",
+        }
+    }
+
+    /// Whether trees with this tag are axioms (Structural Specification,
+    /// section 9).
+    pub fn is_axiom(self) -> bool
+        ensures { result ≡ is_axiom self }
+    {
+        Tag::Declaration.number() <= self.number()
+    }
+}
+
+impl PartialEq for Tag {
+    ghost eq = { on number_of ◌==◌ };
+
+    ghost laws = { Prim.search (comparing, rules) };
+
+    fn eq(&self, other: &Tag) -> bool {
+        self.number() == other.number()
+    }
+}
+
+impl Eq for Tag {
+    ghost laws = { Prim.search (comparing, rules) };
+}
+
+impl PartialOrd for Tag {
+    ghost partial_cmp = { as_partial_cmp (on number_of nat_cmp) };
+
+    ghost laws = { partial_order_from_own_ties (Prim.search (comparing, rules)) (λ x y. sym (unsigned_tied (number_of x) (number_of y))) };
+
+    fn partial_cmp(&self, other: &Tag) -> Option<Ordering> {
+        Some(self.cmp(other))
+    }
+}
+
+impl Ord for Tag {
+    ghost cmp = { on number_of nat_cmp };
+
+    ghost total = { Prim.search (comparing, rules) };
+
+    ghost matches_partial_cmp = { Prim.search (comparing, rules) };
+
+    ghost matches_eq = { λ x y. sym (unsigned_tied (number_of x) (number_of y)) };
+
+    fn cmp(&self, other: &Tag) -> Ordering {
+        self.number().cmp(&other.number())
+    }
+}
+
+impl Hash for Tag {
+    ghost hash_input = { λ tag. fed.u8 (number_of tag) };
+
+    ghost respects_eq = { Prim.search (hashing, rules) };
+
+    fn hash<H: Hasher>(&self, state: &mut H) {
+        self.number().hash(state);
+    }
+}
