@@ -1,9 +1,15 @@
 pub mod Tags
 pub mod Rows
 pub mod Trees
+pub mod TreeLaws
 pub mod Equivalence
 pub mod Shape
 pub mod Order
+pub mod OrderLaws
 pub mod Canonical
+pub mod EquivalenceLaws
+pub mod CanonicalLaws
+pub mod ShapeLaws
 pub mod Ontologies
+pub mod OntologyLaws
 pub mod Kinds

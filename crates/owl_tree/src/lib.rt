@@ -4,10 +4,15 @@
 
 mod atom;
 mod kind;
+mod laws;
 mod row;
 mod tag;
 
 pub use atom::Atom;
 pub use kind::Kind;
+pub use laws::{
+    canonical_forms, equivalence_is_equal_forms, ontologies_are_same_by_equal_forms,
+    trees_are_ordered,
+};
 pub use row::{AtomSort, Rest, Row, Sort};
 pub use tag::Tag;
