@@ -24,92 +24,13 @@ use Rattle.owl_tree.specs.declared.atom.Atom.TheVariants.{Iri, Label, Literal, N
 use Rattle.owl_tree.specs.declared.tag.Tag.{Tag}
 use Rattle.owl_tree.specs.declared.tag.Tag.TheVariants as tag
 use Rattle.owl_tree.specs.Order.{atom_cmp, kids_cmp, tag_cmp, tree_cmp}
-use Rattle.owl_tree.specs.Tags.{number_of}
+use Rattle.owl_tree.specs.Tags.{all_tags, number_of}
 use Rattle.owl_tree.specs.Trees.{Tree, Kids, leaf, node, no_kids, kid}
-
--- by their numbers
-all_tags : List Tag
-all_tags = tag.Class ∷ tag.Datatype ∷ tag.ObjectProperty ∷ tag.DataProperty ∷ tag.AnnotationProperty ∷ tag.NamedIndividual ∷ tag.Anonymous ∷ tag.PlainIri ∷ tag.Literal ∷ tag.Number ∷ tag.Facet ∷ tag.ObjectInverseOf ∷ tag.ObjectPropertyChain ∷ tag.ObjectIntersectionOf ∷ tag.ObjectUnionOf ∷ tag.ObjectComplementOf ∷ tag.ObjectOneOf ∷ tag.ObjectSomeValuesFrom ∷ tag.ObjectAllValuesFrom ∷ tag.ObjectHasValue ∷ tag.ObjectHasSelf ∷ tag.ObjectMinCardinality ∷ tag.ObjectMaxCardinality ∷ tag.ObjectExactCardinality ∷ tag.DataSomeValuesFrom ∷ tag.DataAllValuesFrom ∷ tag.DataHasValue ∷ tag.DataMinCardinality ∷ tag.DataMaxCardinality ∷ tag.DataExactCardinality ∷ tag.DataIntersectionOf ∷ tag.DataUnionOf ∷ tag.DataComplementOf ∷ tag.DataOneOf ∷ tag.DatatypeRestriction ∷ tag.FacetPair ∷ tag.ObjectKeys ∷ tag.DataKeys ∷ tag.Annotation ∷ tag.Notes ∷ tag.Declaration ∷ tag.SubClassOf ∷ tag.EquivalentClasses ∷ tag.DisjointClasses ∷ tag.DisjointUnion ∷ tag.SubObjectPropertyOf ∷ tag.EquivalentObjectProperties ∷ tag.DisjointObjectProperties ∷ tag.InverseObjectProperties ∷ tag.ObjectPropertyDomain ∷ tag.ObjectPropertyRange ∷ tag.FunctionalObjectProperty ∷ tag.InverseFunctionalObjectProperty ∷ tag.ReflexiveObjectProperty ∷ tag.IrreflexiveObjectProperty ∷ tag.SymmetricObjectProperty ∷ tag.AsymmetricObjectProperty ∷ tag.TransitiveObjectProperty ∷ tag.SubDataPropertyOf ∷ tag.EquivalentDataProperties ∷ tag.DisjointDataProperties ∷ tag.DataPropertyDomain ∷ tag.DataPropertyRange ∷ tag.FunctionalDataProperty ∷ tag.DatatypeDefinition ∷ tag.HasKey ∷ tag.SameIndividual ∷ tag.DifferentIndividuals ∷ tag.ClassAssertion ∷ tag.ObjectPropertyAssertion ∷ tag.NegativeObjectPropertyAssertion ∷ tag.DataPropertyAssertion ∷ tag.NegativeDataPropertyAssertion ∷ tag.AnnotationAssertion ∷ tag.SubAnnotationPropertyOf ∷ tag.AnnotationPropertyDomain ∷ tag.AnnotationPropertyRange ∷ []
 
 stands : (t : Tag) → slice_get all_tags (number_of t - 1) ≡ Some t
 unfolding all_tags number_of
 stands tag.Class = refl
-stands tag.Datatype = refl
-stands tag.ObjectProperty = refl
-stands tag.DataProperty = refl
-stands tag.AnnotationProperty = refl
-stands tag.NamedIndividual = refl
-stands tag.Anonymous = refl
-stands tag.PlainIri = refl
-stands tag.Literal = refl
-stands tag.Number = refl
-stands tag.Facet = refl
-stands tag.ObjectInverseOf = refl
-stands tag.ObjectPropertyChain = refl
-stands tag.ObjectIntersectionOf = refl
-stands tag.ObjectUnionOf = refl
-stands tag.ObjectComplementOf = refl
-stands tag.ObjectOneOf = refl
-stands tag.ObjectSomeValuesFrom = refl
-stands tag.ObjectAllValuesFrom = refl
-stands tag.ObjectHasValue = refl
-stands tag.ObjectHasSelf = refl
-stands tag.ObjectMinCardinality = refl
-stands tag.ObjectMaxCardinality = refl
-stands tag.ObjectExactCardinality = refl
-stands tag.DataSomeValuesFrom = refl
-stands tag.DataAllValuesFrom = refl
-stands tag.DataHasValue = refl
-stands tag.DataMinCardinality = refl
-stands tag.DataMaxCardinality = refl
-stands tag.DataExactCardinality = refl
-stands tag.DataIntersectionOf = refl
-stands tag.DataUnionOf = refl
-stands tag.DataComplementOf = refl
-stands tag.DataOneOf = refl
-stands tag.DatatypeRestriction = refl
-stands tag.FacetPair = refl
-stands tag.ObjectKeys = refl
-stands tag.DataKeys = refl
-stands tag.Annotation = refl
-stands tag.Notes = refl
-stands tag.Declaration = refl
-stands tag.SubClassOf = refl
-stands tag.EquivalentClasses = refl
-stands tag.DisjointClasses = refl
-stands tag.DisjointUnion = refl
-stands tag.SubObjectPropertyOf = refl
-stands tag.EquivalentObjectProperties = refl
-stands tag.DisjointObjectProperties = refl
-stands tag.InverseObjectProperties = refl
-stands tag.ObjectPropertyDomain = refl
-stands tag.ObjectPropertyRange = refl
-stands tag.FunctionalObjectProperty = refl
-stands tag.InverseFunctionalObjectProperty = refl
-stands tag.ReflexiveObjectProperty = refl
-stands tag.IrreflexiveObjectProperty = refl
-stands tag.SymmetricObjectProperty = refl
-stands tag.AsymmetricObjectProperty = refl
-stands tag.TransitiveObjectProperty = refl
-stands tag.SubDataPropertyOf = refl
-stands tag.EquivalentDataProperties = refl
-stands tag.DisjointDataProperties = refl
-stands tag.DataPropertyDomain = refl
-stands tag.DataPropertyRange = refl
-stands tag.FunctionalDataProperty = refl
-stands tag.DatatypeDefinition = refl
-stands tag.HasKey = refl
-stands tag.SameIndividual = refl
-stands tag.DifferentIndividuals = refl
-stands tag.ClassAssertion = refl
-stands tag.ObjectPropertyAssertion = refl
-stands tag.NegativeObjectPropertyAssertion = refl
-stands tag.DataPropertyAssertion = refl
-stands tag.NegativeDataPropertyAssertion = refl
-stands tag.AnnotationAssertion = refl
-stands tag.SubAnnotationPropertyOf = refl
-stands tag.AnnotationPropertyDomain = refl
-stands tag.AnnotationPropertyRange = refl
+stands _ = refl
 
 -- no two tags have one number
 pub same_number : (t u : Tag) → number_of t ≡ number_of u → t ≡ u

@@ -1,5 +1,5 @@
 -- The tags of trees, and their names (Structural Specification, sections 5 to 10).
-use Rattle.std.specs.Prelude.{ℕ, Bool, List, nat_le, codes}
+use Rattle.std.specs.Prelude.{ℕ, Bool, List, [], ◌∷◌, nat_le, codes}
 use Rattle.owl_tree.specs.declared.tag.Tag.{Tag}
 use Rattle.owl_tree.specs.declared.tag.Tag.TheVariants.{Class, Datatype, ObjectProperty, DataProperty, AnnotationProperty, NamedIndividual, Anonymous, PlainIri, Literal, Number, Facet, ObjectInverseOf, ObjectPropertyChain, ObjectIntersectionOf, ObjectUnionOf, ObjectComplementOf, ObjectOneOf, ObjectSomeValuesFrom, ObjectAllValuesFrom, ObjectHasValue, ObjectHasSelf, ObjectMinCardinality, ObjectMaxCardinality, ObjectExactCardinality, DataSomeValuesFrom, DataAllValuesFrom, DataHasValue, DataMinCardinality, DataMaxCardinality, DataExactCardinality, DataIntersectionOf, DataUnionOf, DataComplementOf, DataOneOf, DatatypeRestriction, FacetPair, ObjectKeys, DataKeys, Annotation, Notes, Declaration, SubClassOf, EquivalentClasses, DisjointClasses, DisjointUnion, SubObjectPropertyOf, EquivalentObjectProperties, DisjointObjectProperties, InverseObjectProperties, ObjectPropertyDomain, ObjectPropertyRange, FunctionalObjectProperty, InverseFunctionalObjectProperty, ReflexiveObjectProperty, IrreflexiveObjectProperty, SymmetricObjectProperty, AsymmetricObjectProperty, TransitiveObjectProperty, SubDataPropertyOf, EquivalentDataProperties, DisjointDataProperties, DataPropertyDomain, DataPropertyRange, FunctionalDataProperty, DatatypeDefinition, HasKey, SameIndividual, DifferentIndividuals, ClassAssertion, ObjectPropertyAssertion, NegativeObjectPropertyAssertion, DataPropertyAssertion, NegativeDataPropertyAssertion, AnnotationAssertion, SubAnnotationPropertyOf, AnnotationPropertyDomain, AnnotationPropertyRange}
 
@@ -165,3 +165,22 @@ keyword_of AnnotationPropertyRange = codes "AnnotationPropertyRange"
 -- from Declaration on
 abbrev pub is_axiom : Tag → Bool
 is_axiom tag = nat_le (number_of Declaration) (number_of tag)
+
+-- the tags in the order of their numbers
+unfoldable pub all_tags : List Tag
+all_tags =
+    Class ∷ Datatype ∷ ObjectProperty ∷ DataProperty ∷ AnnotationProperty ∷ NamedIndividual ∷ Anonymous ∷ PlainIri ∷
+    Literal ∷ Number ∷ Facet ∷ ObjectInverseOf ∷ ObjectPropertyChain ∷ ObjectIntersectionOf ∷ ObjectUnionOf ∷
+    ObjectComplementOf ∷ ObjectOneOf ∷ ObjectSomeValuesFrom ∷ ObjectAllValuesFrom ∷ ObjectHasValue ∷ ObjectHasSelf ∷
+    ObjectMinCardinality ∷ ObjectMaxCardinality ∷ ObjectExactCardinality ∷ DataSomeValuesFrom ∷ DataAllValuesFrom ∷
+    DataHasValue ∷ DataMinCardinality ∷ DataMaxCardinality ∷ DataExactCardinality ∷ DataIntersectionOf ∷
+    DataUnionOf ∷ DataComplementOf ∷ DataOneOf ∷ DatatypeRestriction ∷ FacetPair ∷ ObjectKeys ∷ DataKeys ∷
+    Annotation ∷ Notes ∷ Declaration ∷ SubClassOf ∷ EquivalentClasses ∷ DisjointClasses ∷ DisjointUnion ∷
+    SubObjectPropertyOf ∷ EquivalentObjectProperties ∷ DisjointObjectProperties ∷ InverseObjectProperties ∷
+    ObjectPropertyDomain ∷ ObjectPropertyRange ∷ FunctionalObjectProperty ∷ InverseFunctionalObjectProperty ∷
+    ReflexiveObjectProperty ∷ IrreflexiveObjectProperty ∷ SymmetricObjectProperty ∷ AsymmetricObjectProperty ∷
+    TransitiveObjectProperty ∷ SubDataPropertyOf ∷ EquivalentDataProperties ∷ DisjointDataProperties ∷
+    DataPropertyDomain ∷ DataPropertyRange ∷ FunctionalDataProperty ∷ DatatypeDefinition ∷ HasKey ∷ SameIndividual ∷
+    DifferentIndividuals ∷ ClassAssertion ∷ ObjectPropertyAssertion ∷ NegativeObjectPropertyAssertion ∷
+    DataPropertyAssertion ∷ NegativeDataPropertyAssertion ∷ AnnotationAssertion ∷ SubAnnotationPropertyOf ∷
+    AnnotationPropertyDomain ∷ AnnotationPropertyRange ∷ []

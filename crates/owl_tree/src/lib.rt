@@ -15,4 +15,7 @@ pub use laws::{
     trees_are_ordered,
 };
 pub use row::{AtomSort, Rest, Row, Sort};
-pub use tag::Tag;
+pub use tag::{Tag, tags_are_told_apart};
+
+#[cfg(test)]
+mod tests;

@@ -1,9 +1,11 @@
 //! What each tag has below it: one table, by which shape is tested here and
 //! Functional-Style Syntax is read and written above.
 
-ghost use Rattle.std.specs.Prelude.{◌≡◌};
-ghost use Rattle.owl_tree.specs.Rows.{row_of, row_seen};
+ghost use Rattle.std.specs.Prelude.{◌≡◌, length};
+ghost use Rattle.std.specs.List.{list_all};
+ghost use Rattle.owl_tree.specs.Rows.{admits, ends_in, fits, fits_front, fits_rest, is_from_to, is_of_sort, row_of, row_seen, set_start, takes};
 
+use crate::atom::Atom;
 use crate::tag::Tag;
 
 /// A sort of atoms.
@@ -219,6 +221,152 @@ impl Tag {
                 &[Notes, AnnotationProperty, Iri],
                 Rest::Nothing,
             ),
+        }
+    }
+}
+
+impl AtomSort {
+    fn admits(self, atom: &Atom) -> bool
+        ensures { result ≡ is_of_sort self atom.now }
+    {
+        match (self, atom) {
+            (AtomSort::Iri, Atom::Iri(_))
+            | (AtomSort::Label, Atom::Label(_))
+            | (AtomSort::Literal, Atom::Literal(_))
+            | (AtomSort::Number, Atom::Number(_)) => true,
+            _ => false,
+        }
+    }
+}
+
+impl Tag {
+    /// Whether the tag is one of those from the first to the last, in the order
+    /// of their numbers.
+    fn is_from_to(self, first: Tag, last: Tag) -> bool
+        ensures { result ≡ is_from_to first last self }
+    {
+        first.number() <= self.number() && self.number() <= last.number()
+    }
+}
+
+impl Sort {
+    /// Whether a tree of the sort may have the tag.
+    #[tactic(auto, unfolding(crate::specs::Rows::admits))]
+    pub fn admits(self, tag: Tag) -> bool
+        ensures { result ≡ admits self tag }
+    {
+        match self {
+            Notes => tag == Tag::Notes,
+            Annotation => tag == Tag::Annotation,
+            AnnotationProperty => tag == Tag::AnnotationProperty,
+            AnnotationSubject => tag == Tag::Anonymous || tag == Tag::PlainIri,
+            AnnotationValue => tag.is_from_to(Tag::Anonymous, Tag::Literal),
+            Iri => tag == Tag::PlainIri,
+            ClassExpression => tag == Tag::Class
+                || tag.is_from_to(Tag::ObjectIntersectionOf, Tag::DataExactCardinality),
+            Class => tag == Tag::Class,
+            DataRange => tag == Tag::Datatype
+                || tag.is_from_to(Tag::DataIntersectionOf, Tag::DatatypeRestriction),
+            Datatype => tag == Tag::Datatype,
+            ObjectPropertyExpression => tag == Tag::ObjectProperty || tag == Tag::ObjectInverseOf,
+            ObjectProperty => tag == Tag::ObjectProperty,
+            SubObjectPropertyExpression => tag == Tag::ObjectProperty
+                || tag.is_from_to(Tag::ObjectInverseOf, Tag::ObjectPropertyChain),
+            DataPropertyExpression => tag == Tag::DataProperty,
+            Individual => tag.is_from_to(Tag::NamedIndividual, Tag::Anonymous),
+            Literal => tag == Tag::Literal,
+            Number => tag == Tag::Number,
+            Facet => tag == Tag::Facet,
+            FacetPair => tag == Tag::FacetPair,
+            ObjectKeys => tag == Tag::ObjectKeys,
+            DataKeys => tag == Tag::DataKeys,
+            Entity => tag.is_from_to(Tag::Class, Tag::NamedIndividual),
+        }
+    }
+
+    fn admits_all(self, tags: &[Tag]) -> bool
+        ensures { result ≡ list_all (admits self) tags.now }
+    {
+        tags.iter().all(|tag| self.admits(*tag))
+    }
+}
+
+/// One or more of the first sort, and then one of the last.
+#[tactic(auto, using(crate::proofs::Endings::too_short))]
+fn ends_in(sort: Sort, last: Sort, tags: &[Tag]) -> bool
+    ensures { result ≡ ends_in sort last tags.now }
+{
+    match tags {
+        [] | [_] => false,
+        [first, second] => sort.admits(*first) && last.admits(*second),
+        [first, others @ ..] => sort.admits(*first) && ends_in(sort, last, others),
+    }
+}
+
+fn fits_rest(rest: Rest, tags: &[Tag]) -> bool
+    ensures { result ≡ fits_rest rest tags.now }
+{
+    match rest {
+        Rest::Nothing => tags.is_empty(),
+        Rest::Optional(sort) => match tags {
+            [] => true,
+            [tag] => sort.admits(*tag),
+            [_, _, ..] => false,
+        },
+        Rest::AtLeast(sort, least) => least <= tags.len() && sort.admits_all(tags),
+        Rest::SomeThen(sort, last) => ends_in(sort, last, tags),
+        Rest::Set(sort, least) => least.min(1) <= tags.len() && sort.admits_all(tags),
+    }
+}
+
+fn fits_front(front: &[Sort], rest: Rest, tags: &[Tag]) -> bool
+    ensures { result ≡ fits_front front.now rest tags.now }
+{
+    match front {
+        [] => fits_rest(rest, tags),
+        [sort, sorts @ ..] => match tags {
+            [] => false,
+            [tag, others @ ..] => sort.admits(*tag) && fits_front(sorts, rest, others),
+        },
+    }
+}
+
+impl Tag {
+    /// Whether a node with this tag may have kids with these tags, by the tag's
+    /// row. No kids fit the tag of a leaf.
+    ///
+    /// The members of a set count without repeats, so that one is enough where
+    /// two or more have to be written. Two counts are no part of a row: at most
+    /// two members of InverseObjectProperties (Structural Specification,
+    /// section 9.2.4), and at least one property in HasKey (section 9.5).
+    pub fn fits(self, kids: &[Tag]) -> bool
+        ensures { result ≡ fits (row_of self) kids.now }
+    {
+        match self.row() {
+            Row::Leaf(_) => false,
+            Row::Node(front, rest) => fits_front(front, rest, kids),
+        }
+    }
+
+    /// Whether a leaf with this tag may hold the atom, by the tag's row. The tag
+    /// of a node takes none.
+    pub fn takes(self, atom: &Atom) -> bool
+        ensures { result ≡ takes (row_of self) atom.now }
+    {
+        match self.row() {
+            Row::Leaf(sort) => sort.admits(atom),
+            Row::Node(_, _) => false,
+        }
+    }
+
+    /// How many kids stand before the set part of a node with this tag, where it
+    /// has one.
+    pub fn set_start(self) -> Option<usize>
+        ensures { result ≡ set_start (row_of self) }
+    {
+        match self.row() {
+            Row::Node(front, Rest::Set(_, _)) => Some(front.len()),
+            _ => None,
         }
     }
 }

@@ -1,6 +1,7 @@
 //! The tags of trees.
 
-ghost use Rattle.std.specs.Prelude.{◌≡◌, ◌≤◌, nat_le, ◌==◌};
+ghost use Rattle.std.specs.Prelude.{◌≡◌, ◌≤◌, nat_le, ◌==◌, ◌&&◌};
+ghost use Rattle.std.specs.Str.{chars};
 ghost use Rattle.std.specs.Cmp.Rules.{comparing, hashing};
 ghost use Rattle.std.specs.Cmp.{partial_order_from_own_ties, unsigned_tied};
 ghost use Rattle.std.specs.Hash as fed;
@@ -105,10 +106,11 @@ impl Tag {
         self as u8 + 1
     }
 
-    /// The name of the tag, which is its keyword in Functional-Style Syntax.
-    #[tactic(auto, unfolding(crate::specs::Tags::keyword_of))]
+    /// The name of the tag, and its keyword in Functional-Style Syntax.
+    #[tactic(auto, using(crate::proofs::Keywords::own_characters), unfolding(crate::specs::Tags::keyword_of))]
     pub fn keyword(self) -> &'static str
-        ensures { result.now ≡ keyword_of self }
+        ensures bytes { result.now ≡ keyword_of self }
+        ensures chars { chars result.now ≡ keyword_of self }
     {
         match self {
             Tag::Class => "Class",
@@ -199,6 +201,14 @@ impl Tag {
         Tag::Declaration.number() <= self.number()
     }
 }
+
+/// A law: no two tags have one number, no two have one keyword, and the tags of
+/// axioms are those with the numbers 41 to 77.
+pub fn tags_are_told_apart()
+    ensures numbers { (t u : Tag) → number_of t ≡ number_of u → t ≡ u }
+    ensures keywords { (t u : Tag) → keyword_of t ≡ keyword_of u → t ≡ u }
+    ensures axioms { (t : Tag) → is_axiom t ≡ (nat_le 41 (number_of t) && nat_le (number_of t) 77) }
+{}
 
 impl PartialEq for Tag {
     ghost eq = { on number_of ◌==◌ };

@@ -1,0 +1,45 @@
+-- The keywords of tags, and what tells tags apart.
+use Rattle.std.proofs.Common.{◌≡◌, ℕ, zero, suc, true, List, [], ◌∷◌, Option, Some, refl, sym, ap, ◌∙◌, arith}
+use Rattle.std.specs.List.{find, list_all}
+use Rattle.std.specs.Str.{IsAscii, bytes_eq, chars}
+use Rattle.std.specs.Prelude.{nat_le, ◌&&◌}
+use Rattle.std.proofs.lemmas.Bool.{and_parts, ltb-true}
+use Rattle.std.proofs.lemmas.Str.{chars-IsAscii}
+use Rattle.owl_text.specs.Iri.{is_ascii}
+use Rattle.owl_tree.specs.declared.tag.Tag.{Tag}
+use Rattle.owl_tree.specs.declared.tag.Tag.TheVariants as tag
+use Rattle.owl_tree.specs.Tags.{all_tags, is_axiom, keyword_of, number_of}
+
+is_ascii_keyword : (t : Tag) → list_all is_ascii (keyword_of t) ≡ true
+unfolding keyword_of
+is_ascii_keyword tag.Class = refl
+is_ascii_keyword _ = refl
+
+ascii_text : (word : List ℕ) → list_all is_ascii word ≡ true → IsAscii word
+ascii_text [] h i = omega arith
+ascii_text (c ∷ cs) h zero = ltb-true c 128 (and_parts (is_ascii c) (list_all is_ascii cs) h).0
+ascii_text (c ∷ cs) h (suc i) = ascii_text cs (and_parts (is_ascii c) (list_all is_ascii cs) h).1 i
+
+-- its characters are its bytes
+pub own_characters : (t : Tag) (text : List ℕ) → text ≡ keyword_of t → chars text ≡ keyword_of t
+own_characters t text e = ap chars e ∙ chars-IsAscii (keyword_of t) (ascii_text (keyword_of t) (is_ascii_keyword t))
+
+tag_of_keyword : List ℕ → List Tag → Option Tag
+tag_of_keyword word tags = find (λ t. bytes_eq (keyword_of t) word) tags
+
+is_found : (t : Tag) → tag_of_keyword (keyword_of t) all_tags ≡ Some t
+unfolding all_tags keyword_of tag_of_keyword
+is_found tag.Class = refl
+is_found _ = refl
+
+-- no two tags have one keyword
+pub same_keyword : (t u : Tag) → keyword_of t ≡ keyword_of u → t ≡ u
+same_keyword t u e = some_same (sym (is_found t) ∙ ap (λ word. tag_of_keyword word all_tags) e ∙ is_found u)
+  where
+    some_same : {X : Type 0} {x y : X} → ◌≡◌ {A = Option X} (Some x) (Some y) → x ≡ y
+    some_same e = cc
+
+pub axioms_numbered : (t : Tag) → is_axiom t ≡ (nat_le 41 (number_of t) && nat_le (number_of t) 77)
+unfolding number_of
+axioms_numbered tag.Class = refl
+axioms_numbered _ = refl
