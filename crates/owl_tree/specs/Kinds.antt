@@ -16,7 +16,7 @@ annotation_properties =
 -- The IRI needs no declaration as this kind. So it is for every IRI of XML Schema, and for rdf:langString, as datatypes.
 unfoldable pub is_built_in : Kind → List ℕ → Bool
 is_built_in Class iri = has (map owl (codes "Thing" ∷ codes "Nothing" ∷ [])) iri
-is_built_in Datatype iri = has (rdfs (codes "Literal") ∷ rdf (codes "langString") ∷ []) iri || is_in_map iri || starts_with nat_eq (xsd []) iri
+is_built_in Datatype iri = has (rdfs (codes "Literal") ∷ rdf (codes "langString") ∷ []) iri || is_in_map iri || starts_with nat_eq iri (xsd [])
 is_built_in ObjectProperty iri = has (map owl (codes "topObjectProperty" ∷ codes "bottomObjectProperty" ∷ [])) iri
 is_built_in DataProperty iri = has (map owl (codes "topDataProperty" ∷ codes "bottomDataProperty" ∷ [])) iri
 is_built_in AnnotationProperty iri = has annotation_properties iri

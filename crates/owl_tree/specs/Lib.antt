@@ -13,3 +13,5 @@ pub mod ShapeLaws
 pub mod Ontologies
 pub mod OntologyLaws
 pub mod Kinds
+pub mod Names
+pub mod Marks

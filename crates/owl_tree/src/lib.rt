@@ -4,12 +4,15 @@
 
 mod atom;
 mod kind;
+mod kinds;
 mod laws;
+mod marks;
 mod row;
 mod tag;
 
 pub use atom::Atom;
-pub use kind::Kind;
+pub use kind::{Kind, built_in};
+pub use kinds::Kinds;
 pub use laws::{
     canonical_forms, equivalence_is_equal_forms, ontologies_are_same_by_equal_forms,
     trees_are_ordered,

@@ -1,1 +1,2 @@
+mod kinds;
 mod rows;
