@@ -5,3 +5,5 @@ pub mod AsciiNames
 pub mod Found
 pub mod Declarations
 pub mod Clashes
+pub mod Agreement
+pub mod Shapes

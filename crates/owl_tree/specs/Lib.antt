@@ -15,3 +15,5 @@ pub mod OntologyLaws
 pub mod Kinds
 pub mod Names
 pub mod Marks
+pub mod OwnedForms
+pub mod OwnedFalls

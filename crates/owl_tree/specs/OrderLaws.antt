@@ -84,7 +84,7 @@ only_equal_literals_tie a b e =
     λ i. record { lexical = lexical i; datatype = datatype i; tag = tag i }
 
 -- atoms by their kind and then by what they hold
-abbrev pub kind_of : Atom → ℕ
+abbrev kind_of : Atom → ℕ
 kind_of (Iri iri) = 0
 kind_of (Label label) = 1
 kind_of (Literal literal) = 2

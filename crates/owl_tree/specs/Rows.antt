@@ -173,6 +173,12 @@ set_start (Node front (AtLeast sort least)) = None
 set_start (Node front (SomeThen sort last)) = None
 set_start (Node front (Set sort least)) = Some (length front)
 
+abbrev pub sort_of : Atom → AtomSort
+sort_of (held_atom.Iri iri) = atom.Iri
+sort_of (held_atom.Label label) = atom.Label
+sort_of (held_atom.Literal literal) = atom.Literal
+sort_of (held_atom.Number number) = atom.Number
+
 -- the atom is of the sort
 abbrev pub is_of_sort : AtomSort → Atom → Bool
 is_of_sort atom.Iri (held_atom.Iri iri) = true

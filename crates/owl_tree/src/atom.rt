@@ -1,17 +1,25 @@
 //! What the leaves of trees hold.
 
 ghost use Rattle.std.specs.Prelude.{◌≡◌, IfOk};
+ghost use Rattle.std.specs.Cmp.{partial_order_from_own_ties, partial_order_from_total};
+ghost use Rattle.std.specs.Ordering.{as_partial_cmp};
+ghost use Rattle.std.proofs.Common.{refl};
+ghost use Rattle.owl_tree.specs.Order.{atom_cmp};
+ghost use Rattle.owl_tree.specs.Rows.{sort_of};
+ghost use Rattle.owl_tree.specs.OrderLaws.{atoms_total, only_equals_tie};
 
+use crate::row::AtomSort;
 use owl_atom::{Iri, Label, Literal};
 use owl_text::NoMemory;
 use std::alloc::Global;
+use std::cmp::Ordering;
 
 /// What a leaf of a tree holds: an IRI, the label of an anonymous individual, a
 /// literal, or a number (Structural Specification, sections 2.4, 5.6, 5.7 and
 /// 8.3).
 ///
 /// Atoms are ordered in this order, and those of one kind by their own order.
-#[derive(Debug, Drop, PartialEq, Eq, PartialOrd, Ord, Hash)]
+#[derive(Debug, Drop, PartialEq, Eq, Hash)]
 pub enum Atom {
     Iri(Iri),
     Label(Label),
@@ -29,6 +37,47 @@ impl Atom {
             Atom::Label(label) => Ok(Atom::Label(label.copy(alloc)?)),
             Atom::Literal(literal) => Ok(Atom::Literal(literal.copy(alloc)?)),
             Atom::Number(number) => Ok(Atom::Number(*number)),
+        }
+    }
+
+    fn sort(&self) -> AtomSort
+        ensures { result ≡ sort_of self.now }
+    {
+        match self {
+            Atom::Iri(_) => AtomSort::Iri,
+            Atom::Label(_) => AtomSort::Label,
+            Atom::Literal(_) => AtomSort::Literal,
+            Atom::Number(_) => AtomSort::Number,
+        }
+    }
+}
+
+impl PartialOrd for Atom {
+    ghost partial_cmp = { as_partial_cmp atom_cmp };
+
+    ghost laws = { partial_order_from_own_ties (partial_order_from_total atoms_total) only_equals_tie };
+
+    fn partial_cmp(&self, other: &Atom) -> Option<Ordering> {
+        Some(self.cmp(other))
+    }
+}
+
+impl Ord for Atom {
+    ghost cmp = { atom_cmp };
+
+    ghost total = { atoms_total };
+
+    ghost matches_partial_cmp = { λ a b. refl };
+
+    ghost matches_eq = { only_equals_tie };
+
+    fn cmp(&self, other: &Atom) -> Ordering {
+        match (self, other) {
+            (Atom::Iri(iri), Atom::Iri(other)) => iri.cmp(other),
+            (Atom::Label(label), Atom::Label(other)) => label.cmp(other),
+            (Atom::Literal(literal), Atom::Literal(other)) => literal.cmp(other),
+            (Atom::Number(number), Atom::Number(other)) => number.cmp(other),
+            _ => self.sort().cmp(&other.sort()),
         }
     }
 }

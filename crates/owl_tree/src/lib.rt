@@ -7,6 +7,7 @@ mod kind;
 mod kinds;
 mod laws;
 mod marks;
+mod owned;
 mod row;
 mod tag;
 
@@ -17,6 +18,7 @@ pub use laws::{
     canonical_forms, equivalence_is_equal_forms, ontologies_are_same_by_equal_forms,
     trees_are_ordered,
 };
+pub use owned::OwnedTree;
 pub use row::{AtomSort, Rest, Row, Sort};
 pub use tag::{Tag, tags_are_told_apart};
 

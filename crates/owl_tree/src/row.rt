@@ -9,7 +9,7 @@ use crate::atom::Atom;
 use crate::tag::Tag;
 
 /// A sort of atoms.
-#[derive(Clone, Copy, Debug, PartialEq, Eq)]
+#[derive(Clone, Copy, Debug, PartialEq, Eq, PartialOrd, Ord)]
 pub enum AtomSort {
     Iri,
     Label,

@@ -1,2 +1,4 @@
 mod kinds;
+mod order;
+mod owned;
 mod rows;
