@@ -1,7 +1,6 @@
 -- The tree that an owned tree is.
 use Rattle.std.specs.Prelude.{◌≡◌, ◌⊎◌, ℕ, List, Option, None, Some, Contains}
 use Rattle.std.specs.List.{AllByRecursion, insert}
-use Rattle.owl_tree.specs.declared.atom.Atom.{Atom}
 use Rattle.owl_tree.specs.declared.owned.Form.{Form}
 use Rattle.owl_tree.specs.declared.owned.Form.TheVariants as form
 use Rattle.owl_tree.specs.declared.tag.Tag.TheVariants as tag
@@ -11,11 +10,6 @@ use Rattle.owl_tree.specs.Trees.{Tree, kids_in, kids_of, leaf, node, tag_of}
 abbrev pub tree_seen : Form → Tree
 tree_seen (form.Leaf tag atom) = leaf tag atom
 tree_seen (form.Node tag kids) = node tag (kids_of kids.items)
-
--- the atom of a leaf
-abbrev pub atom_in : Tree → Option Atom
-atom_in (leaf t a) = Some a
-atom_in (node t ks) = None
 
 -- with one more at the place, where there is one
 abbrev pub placed_at : Option ℕ → Tree → List Tree → List Tree

@@ -1,5 +1,5 @@
 -- Trees: axioms, expressions, annotations and their parts (Structural Specification, sections 5 to 10).
-use Rattle.std.specs.Prelude.{ℕ, ◌+◌, List, [], ◌∷◌, max}
+use Rattle.std.specs.Prelude.{ℕ, ◌+◌, List, [], ◌∷◌, max, Option, None, Some}
 use Rattle.owl_tree.specs.declared.atom.Atom.{Atom}
 use Rattle.owl_tree.specs.declared.tag.Tag.{Tag}
 
@@ -24,6 +24,11 @@ kids_of (t ∷ ts) = kid t (kids_of ts)
 abbrev pub tag_of : Tree → Tag
 tag_of (leaf t a) = t
 tag_of (node t ks) = t
+
+-- the atom of a leaf
+abbrev pub atom_in : Tree → Option Atom
+atom_in (leaf t a) = Some a
+atom_in (node t ks) = None
 
 -- the kids of a tree
 abbrev pub kids_in : Tree → List Tree

@@ -7,8 +7,8 @@ ghost use Rattle.owl_list.specs.Ascending.{put};
 ghost use Rattle.owl_tree.specs.Canonical.{arranged, arranged_from, canonical, canonicals};
 ghost use Rattle.owl_tree.specs.Equivalence.{Agree, AgreeAsSetFrom, AgreeByPlace, EachHoldsOfSome, HoldsOfSome, IsEquivalent, SomeHolds, SomeHoldsOfEach, equivalents};
 ghost use Rattle.owl_tree.specs.Order.{kids_cmp, tree_cmp};
-ghost use Rattle.owl_tree.specs.OwnedForms.{atom_in, placed_at};
-ghost use Rattle.owl_tree.specs.Trees.{kids_in, kids_of, leaf, node, tag_of};
+ghost use Rattle.owl_tree.specs.OwnedForms.{placed_at};
+ghost use Rattle.owl_tree.specs.Trees.{atom_in, kids_in, kids_of, leaf, node, tag_of};
 
 mod shape;
 
