@@ -1,11 +1,11 @@
 -- What the definitions say of some trees, worked out by hand.
 use lib.Utf8.{encode}
 use lib.Pointwise.{pointwise}
-use Rattle.std.specs.Prelude.{◌≡◌, ◌⊎◌, ℕ, List, [], ◌∷◌, None, codes, IsTrue, Bool, true, false, nat_eq, map, Contains}
+use Rattle.std.specs.Prelude.{◌≡◌, ◌⊎◌, ℕ, List, [], ◌∷◌, ◌++◌, None, codes, IsTrue, Bool, true, false, nat_eq, map, Contains}
 use Rattle.std.proofs.Common.{◌∙◌, ap, arith, inl, inr, refl, subst, sym}
 use Rattle.std.specs.Cmp.{unsigned_Decides}
 use Rattle.owl_list.specs.AscendingLaws.{all_in, in_none}
-use Rattle.owl_atom.specs.Literals.{of_datatype, string}
+use Rattle.owl_text.specs.Iri.{IsIri, is_iri_character}
 use Rattle.owl_tree.specs.declared.atom.Atom.{Atom}
 use Rattle.owl_tree.specs.declared.atom.Atom.TheVariants as atom
 use Rattle.owl_tree.specs.declared.tag.Tag.{Tag}
@@ -30,21 +30,18 @@ property = named tag.ObjectProperty
 abbrev over : Tag → List Tree → Tree
 over t kids = node t (kids_of kids)
 
-abbrev text : List ℕ → Tree
-text cs = leaf tag.Literal (atom.Literal (of_datatype cs string))
-
 abbrev no_notes : Tree
 no_notes = over tag.Notes []
 
 abbrev noted : Tree → List ℕ → List ℕ → Tree
-noted notes property value = over tag.Annotation (notes ∷ named tag.AnnotationProperty property ∷ text value ∷ [])
+noted notes property value = over tag.Annotation (notes ∷ named tag.AnnotationProperty property ∷ named tag.PlainIri value ∷ [])
 
--- SubClassOf(Annotation(Annotation(rdfs:comment "in") rdfs:label "out") A B)
+-- SubClassOf(Annotation(Annotation(<e:c> <e:i>) <e:l> <e:o>) <e:A> <e:B>)
 abbrev nested : Tree
 nested =
     over tag.SubClassOf (
-    over tag.Notes (noted (over tag.Notes (noted no_notes (codes "rdfs:comment") (codes "in") ∷ [])) (codes "rdfs:label") (codes "out") ∷ [])
-    ∷ class (codes "A") ∷ class (codes "B") ∷ [])
+    over tag.Notes (noted (over tag.Notes (noted no_notes (codes "e:c") (codes "e:i") ∷ [])) (codes "e:l") (codes "e:o") ∷ [])
+    ∷ class (codes "e:A") ∷ class (codes "e:B") ∷ [])
 
 nested_depth : depth nested ≡ 6
 nested_depth = refl
@@ -61,8 +58,8 @@ small = record {
   head = record { name = None; imports = [] };
   annotations = [];
   axioms =
-      declared (codes "A") ∷ declared (codes "B") ∷ over tag.SubClassOf (no_notes ∷ class (codes "A") ∷ class (codes "B") ∷ [])
-      ∷ over tag.SubClassOf (over tag.Notes (noted no_notes (codes "rdfs:comment") (codes "x") ∷ []) ∷ class (codes "A") ∷ class (codes "B") ∷ []) ∷ [];
+      declared (codes "e:A") ∷ declared (codes "e:B") ∷ over tag.SubClassOf (no_notes ∷ class (codes "e:A") ∷ class (codes "e:B") ∷ [])
+      ∷ over tag.SubClassOf (over tag.Notes (noted no_notes (codes "e:c") (codes "e:x") ∷ []) ∷ class (codes "e:A") ∷ class (codes "e:B") ∷ []) ∷ [];
 }
 
 small_weight : ontology_weight small ≡ 18
@@ -70,10 +67,10 @@ unfolding number_of row_of encode
 small_weight = refl
 
 abbrev A : Tree
-A = class (codes "A")
+A = class (codes "e:A")
 
 abbrev B : Tree
-B = class (codes "B")
+B = class (codes "e:B")
 
 -- members in another order, and a repeat
 abbrev union : List Tree → Tree
@@ -92,7 +89,7 @@ abbrev repeated : Ontology
 repeated = record {
   head = record { name = None; imports = [] };
   annotations = [];
-  axioms = declared (codes "A") ∷ declared (codes "A") ∷ [];
+  axioms = declared (codes "e:A") ∷ declared (codes "e:A") ∷ [];
 }
 
 repeated_weight : ontology_weight repeated ≡ 3
@@ -101,7 +98,7 @@ repeated_weight = refl
 
 -- the first of a DisjointUnion is no member, and stays in front
 abbrev C : Tree
-C = class (codes "C")
+C = class (codes "e:C")
 
 disjoint_form : canonical (over tag.DisjointUnion (no_notes ∷ C ∷ B ∷ C ∷ A ∷ B ∷ [])) ≡ over tag.DisjointUnion (no_notes ∷ C ∷ A ∷ B ∷ C ∷ [])
 unfolding number_of row_of encode
@@ -114,17 +111,17 @@ is_of name _ = false
 
 -- a chain is no set
 abbrev p : Tree
-p = property (codes "p")
+p = property (codes "e:p")
 
 abbrev chain : List Tree → Tree
 chain = over tag.ObjectPropertyChain
 
 abbrev q : Tree
-q = property (codes "q")
+q = property (codes "e:q")
 
 chains_differ : IsEquivalent (chain (p ∷ q ∷ [])) (chain (q ∷ p ∷ [])) → ⊥
 unfolding row_of is_of
-chains_differ h = let told : false ≡ true = ap (λ (a : Atom). is_of (codes "q") (leaf tag.ObjectProperty a)) h.1.0.1 in cc
+chains_differ h = let told : false ≡ true = ap (λ (a : Atom). is_of (codes "e:q") (leaf tag.ObjectProperty a)) h.1.0.1 in cc
 
 -- two tags with other numbers are others
 other_tag : (t u : Tag) → nat_eq (number_of t) (number_of u) ≡ false → t ≡ u → ⊥
@@ -138,6 +135,10 @@ plain t ts row no_inverses no_key = record {
   keys = λ same. absurd (other_tag t tag.HasKey no_key same);
 }
 
+-- an IRI of three characters
+short : (c : ℕ) → is_iri_character c ≡ true → IsIri (codes "e:" ++ c ∷ [])
+short c allowed = record { scheme = codes "e"; rest = c ∷ []; parts = refl; named = (refl, tt); allowed = (allowed, tt) }
+
 abbrev inverses : List Tree → Tree
 inverses members = over tag.InverseObjectProperties (no_notes ∷ members)
 
@@ -150,11 +151,11 @@ inverses_of_one = (
     inverses = λ _. record { one = p; other = p; each = (inl (refl, refl), (inl (refl, refl), tt)) };
     keys = λ same. absurd (other_tag tag.InverseObjectProperties tag.HasKey refl same);
   },
-  ((plain tag.Notes [] refl refl refl, tt), (refl, (refl, tt))),
+  ((plain tag.Notes [] refl refl refl, tt), ((refl, short 112 refl), ((refl, short 112 refl), tt))),
 )
 
 abbrev r : Tree
-r = property (codes "r")
+r = property (codes "e:r")
 
 abbrev inverses_of_three : Tree
 inverses_of_three = inverses (p ∷ q ∷ r ∷ [])
@@ -184,15 +185,15 @@ either_leaf iri x y (inr h) = inr (leaf_alone _ _ y h)
 
 p_is_not_q : p ≡ q → ⊥
 unfolding is_of
-p_is_not_q same = let told : false ≡ true = ap (is_of (codes "q")) same in cc
+p_is_not_q same = let told : false ≡ true = ap (is_of (codes "e:q")) same in cc
 
 p_is_not_r : p ≡ r → ⊥
 unfolding is_of
-p_is_not_r same = let told : false ≡ true = ap (is_of (codes "r")) same in cc
+p_is_not_r same = let told : false ≡ true = ap (is_of (codes "e:r")) same in cc
 
 q_is_not_r : q ≡ r → ⊥
 unfolding is_of
-q_is_not_r same = let told : false ≡ true = ap (is_of (codes "r")) same in cc
+q_is_not_r same = let told : false ≡ true = ap (is_of (codes "e:r")) same in cc
 
 three_are_misshapen : IsShaped inverses_of_three → ⊥
 three_are_misshapen h =
@@ -213,7 +214,7 @@ key_of_one = (
     inverses = λ same. absurd (other_tag tag.HasKey tag.InverseObjectProperties refl same);
     keys = λ _. record { group = over tag.ObjectKeys (p ∷ []); inside = (2, omega arith, refl); is_group = inl refl; property = p; member = (0, omega arith, refl) };
   },
-  ((plain tag.Notes [] refl refl refl, tt), (refl, ((plain tag.ObjectKeys (p ∷ []) refl refl refl, (refl, tt)), ((plain tag.DataKeys [] refl refl refl, tt), tt)))),
+  ((plain tag.Notes [] refl refl refl, tt), ((refl, short 65 refl), ((plain tag.ObjectKeys (p ∷ []) refl refl refl, ((refl, short 112 refl), tt)), ((plain tag.DataKeys [] refl refl refl, tt), tt)))),
 )
 
 -- none of its kids has kids
@@ -224,10 +225,10 @@ key_of_none h =
     in_none keys.property (subst (λ ts. Contains ts keys.property) none keys.member)
 
 -- annotations of an annotation of an axiom
-noted_is_shaped : (notes : Tree) (name value : List ℕ) → tag_of notes ≡ tag.Notes → IsShaped notes → IsShaped (noted notes name value)
+noted_is_shaped : (notes : Tree) (name value : List ℕ) → tag_of notes ≡ tag.Notes → IsShaped notes → IsIri name → IsIri value → IsShaped (noted notes name value)
 unfolding number_of row_of admits
-noted_is_shaped notes name value is_notes shaped =
-    (plain tag.Annotation _ (ap (λ t. fits (row_of tag.Annotation) (t ∷ tag.AnnotationProperty ∷ tag.Literal ∷ [])) is_notes) refl refl, (shaped, (refl, (refl, tt))))
+noted_is_shaped notes name value is_notes shaped named valued =
+    (plain tag.Annotation _ (ap (λ t. fits (row_of tag.Annotation) (t ∷ tag.AnnotationProperty ∷ tag.PlainIri ∷ [])) is_notes) refl refl, (shaped, ((refl, named), ((refl, valued), tt))))
 
 notes_are_shaped : (annotation : Tree) → tag_of annotation ≡ tag.Annotation → IsShaped annotation → IsShaped (over tag.Notes (annotation ∷ []))
 unfolding number_of row_of admits
@@ -236,7 +237,7 @@ notes_are_shaped annotation is_annotation shaped =
 
 nested_is_shaped : IsShaped nested
 unfolding number_of row_of admits
-nested_is_shaped = (
-  plain tag.SubClassOf _ refl refl refl,
-  (notes_are_shaped _ refl (noted_is_shaped _ _ _ refl (notes_are_shaped _ refl (noted_is_shaped no_notes _ _ refl (plain tag.Notes [] refl refl refl, tt)))), (refl, (refl, tt))),
-)
+nested_is_shaped =
+    let inner = noted_is_shaped no_notes (codes "e:c") (codes "e:i") refl (plain tag.Notes [] refl refl refl, tt) (short 99 refl) (short 105 refl) in
+    let outer = noted_is_shaped _ (codes "e:l") (codes "e:o") refl (notes_are_shaped _ refl inner) (short 108 refl) (short 111 refl) in
+    (plain tag.SubClassOf _ refl refl refl, (notes_are_shaped _ refl outer, ((refl, short 65 refl), ((refl, short 66 refl), tt))))

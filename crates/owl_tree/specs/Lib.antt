@@ -1,5 +1,6 @@
 pub mod Tags
 pub mod Rows
+pub mod Atoms
 pub mod Trees
 pub mod TreeLaws
 pub mod Equivalence

@@ -1,7 +1,8 @@
 -- Ontologies (Structural Specification, section 3).
-use Rattle.std.specs.Prelude.{◌≡◌, ℕ, ◌+◌, IsTrue, List, map, Contains, Option}
+use Rattle.std.specs.Prelude.{◌≡◌, ℕ, ◌+◌, IfSome, IsTrue, List, map, Contains, Option}
 use Rattle.std.specs.List.{AllByRecursion, sum_by}
 use Rattle.owl_list.specs.Ascending.{ascending, HoldSame}
+use Rattle.owl_text.specs.Iri.{IsIri}
 use Rattle.owl_text.specs.Order.{text_cmp}
 use Rattle.owl_tree.specs.declared.tag.Tag.TheVariants as tag
 use Rattle.owl_tree.specs.Canonical.{canonical}
@@ -27,6 +28,14 @@ pub record Ontology : Type 0 where
   pub annotations : List Tree
   pub axioms : List Tree
 
+pub record IsName (name : OntologyName) : Type 0 where
+  pub iri : IsIri name.iri
+  pub version : IfSome name.version IsIri
+
+pub record IsHead (h : Head) : Type 0 where
+  pub name : IfSome h.name IsName
+  pub imports : AllByRecursion IsIri h.imports
+
 pub record IsAnnotation (t : Tree) : Type 0 where
   pub tag : tag_of t ≡ tag.Annotation
   pub shaped : IsShaped t
@@ -36,6 +45,7 @@ pub record IsAxiom (t : Tree) : Type 0 where
   pub shaped : IsShaped t
 
 pub record IsOntology (o : Ontology) : Type 0 where
+  pub head : IsHead o.head
   pub annotations : AllByRecursion IsAnnotation o.annotations
   pub axioms : AllByRecursion IsAxiom o.axioms
 

@@ -4,12 +4,13 @@ use Rattle.std.specs.Prelude.{◌≡◌, ◌↔◌, ◌+◌, List, map, Contains
 use Rattle.std.specs.List.{AllByRecursion, sum_by}
 use Rattle.owl_list.specs.Ascending.{ascending, HoldSame}
 use Rattle.owl_list.specs.AscendingLaws.{all_same, all_map, all_before_map, all_later, same_sym, same_trans, same_from_equal, same_map, in_map, from_map, ascending_ascends, ascending_holds, ascending_again, ascending_same, same_ascending}
+use Rattle.owl_text.specs.Iri.{IsIri}
 use Rattle.owl_text.specs.Order.{text_cmp}
 use Rattle.owl_atom.specs.LiteralLaws.{texts_total}
 use Rattle.owl_tree.specs.Canonical.{canonical}
 use Rattle.owl_tree.specs.CanonicalLaws.{canonical_tag, forms_again}
 use Rattle.owl_tree.specs.EquivalenceLaws.{equivalent_is_equal_form}
-use Rattle.owl_tree.specs.Ontologies.{Head, Ontology, IsAnnotation, IsAxiom, IsOntology, AreAmong, HoldEquivalent, IsSameHead, IsSameOntology, canonical_list, canonical_head, canonical_ontology, ontology_weight}
+use Rattle.owl_tree.specs.Ontologies.{Head, Ontology, IsAnnotation, IsAxiom, IsHead, IsOntology, AreAmong, HoldEquivalent, IsSameHead, IsSameOntology, canonical_list, canonical_head, canonical_ontology, ontology_weight}
 use Rattle.owl_tree.specs.Order.{tree_cmp}
 use Rattle.owl_tree.specs.OrderLaws.{only_equal_texts_tie, only_equal_trees_tie, trees_total}
 use Rattle.owl_tree.specs.ShapeLaws.{canonical_shape}
@@ -124,12 +125,21 @@ canonical_axiom t = (
   λ h. record { tag = sym (ap is_axiom (canonical_tag t)) ∙ h.tag; shaped = (canonical_shape t).1 h.shaped },
 )
 
+-- imports that hold the same are all IRIs, or not
+canonical_is_head : (h : Head) → IsHead h ↔ IsHead (canonical_head h)
+canonical_is_head h =
+    let holds = ascending_holds text_cmp texts_total only_equal_texts_tie h.imports in (
+      λ i. record { name = i.name; imports = all_same IsIri h.imports (ascending text_cmp h.imports) (same_sym (ascending text_cmp h.imports) h.imports holds) i.imports },
+      λ i. record { name = i.name; imports = all_same IsIri (ascending text_cmp h.imports) h.imports holds i.imports },
+    )
+
 pub canonical_is_ontology : (o : Ontology) → IsOntology o ↔ IsOntology (canonical_ontology o)
 canonical_is_ontology o =
+    let head = canonical_is_head o.head in
     let annotations = all_canonical IsAnnotation canonical_annotation o.annotations in
     let axioms = all_canonical IsAxiom canonical_axiom o.axioms in (
-      λ h. record { annotations = annotations.0 h.annotations; axioms = axioms.0 h.axioms },
-      λ h. record { annotations = annotations.1 h.annotations; axioms = axioms.1 h.axioms },
+      λ h. record { head = head.0 h.head; annotations = annotations.0 h.annotations; axioms = axioms.0 h.axioms },
+      λ h. record { head = head.1 h.head; annotations = annotations.1 h.annotations; axioms = axioms.1 h.axioms },
     )
 
 pub same_ontology_shape : (o p : Ontology) → IsSameOntology o p → IsOntology o → IsOntology p

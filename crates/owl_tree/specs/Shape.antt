@@ -3,6 +3,7 @@ use Rattle.std.specs.Prelude.{◌≡◌, ◌⊎◌, IsTrue, List, drop, map, Con
 use Rattle.std.specs.List.{AllByRecursion}
 use Rattle.owl_tree.specs.declared.tag.Tag.{Tag}
 use Rattle.owl_tree.specs.declared.tag.Tag.TheVariants as tag
+use Rattle.owl_tree.specs.Atoms.{IsAtom}
 use Rattle.owl_tree.specs.Equivalence.{IsEquivalent}
 use Rattle.owl_tree.specs.Rows.{fits, row_of, takes}
 use Rattle.owl_tree.specs.Trees.{Tree, Kids, leaf, node, no_kids, kid, kids_in, list_of, tag_of}
@@ -29,9 +30,10 @@ pub record FitsRow (t : Tag) (ts : List Tree) : Type 0 where
   -- one or more properties that are the key (section 9.5)
   pub keys : t ≡ tag.HasKey → HasKeyProperty ts
 
+-- A leaf has an atom of its row's sort, and a node fits its row, with kids that are shaped.
 abbrev mutual
   pub IsShaped : Tree → Type 0
-  IsShaped (leaf t a) = IsTrue (takes (row_of t) a)
+  IsShaped (leaf t a) = IsTrue (takes (row_of t) a) × IsAtom a
   IsShaped (node t ks) = FitsRow t (list_of ks) × AreShaped ks
 
   pub AreShaped : Kids → Type 0

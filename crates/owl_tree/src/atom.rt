@@ -1,9 +1,10 @@
 //! What the leaves of trees hold.
 
-ghost use Rattle.std.specs.Prelude.{◌≡◌, IfOk};
+ghost use Rattle.std.specs.Prelude.{◌≡◌, ◌<◌, ◌^◌, IfOk};
 ghost use Rattle.std.specs.Cmp.{partial_order_from_own_ties, partial_order_from_total};
 ghost use Rattle.std.specs.Ordering.{as_partial_cmp};
 ghost use Rattle.std.proofs.Common.{refl};
+ghost use Rattle.owl_tree.specs.Atoms.{IsAtom};
 ghost use Rattle.owl_tree.specs.Order.{atom_cmp};
 ghost use Rattle.owl_tree.specs.Rows.{sort_of};
 ghost use Rattle.owl_tree.specs.OrderLaws.{atoms_total, only_equals_tie};
@@ -37,6 +38,26 @@ impl Atom {
             Atom::Label(label) => Ok(Atom::Label(label.copy(alloc)?)),
             Atom::Literal(literal) => Ok(Atom::Literal(literal.copy(alloc)?)),
             Atom::Number(number) => Ok(Atom::Number(*number)),
+        }
+    }
+
+    /// Law: what an atom holds is an IRI, a label, a literal or a number of the
+    /// Structural Specification (sections 2.4, 5.6.2, 5.7 and 8.3), since no
+    /// other can be made. It does nothing.
+    pub fn made(&self)
+        ensures { IsAtom self.now }
+    {
+        match self {
+            Atom::Iri(iri) => {
+                iri.text();
+            }
+            Atom::Label(label) => {
+                label.text();
+            }
+            Atom::Literal(literal) => {
+                literal.datatype();
+            }
+            Atom::Number(number) => fits_word(*number),
         }
     }
 
@@ -81,3 +102,8 @@ impl Ord for Atom {
         }
     }
 }
+
+/// Law: a number has 64 bits.
+fn fits_word(number: u64)
+    ensures { number < 2 ^ 64 }
+{}

@@ -19,7 +19,10 @@ impl OwnedTree {
         ensures { IfOk result (λ shaped. IsTrue shaped ↔ IsShaped self.now) }
     {
         match &self.form {
-            Form::Leaf(tag, atom) => Ok(tag.takes(atom)),
+            Form::Leaf(tag, atom) => {
+                atom.made();
+                Ok(tag.takes(atom))
+            }
             Form::Node(tag, kids) => {
                 let tags = tags_of(alloc, kids)?;
                 if fits_row(*tag, &tags, kids) {
