@@ -1,6 +1,5 @@
 pub mod Asking
 pub mod Ordered
-pub mod Arranged
 pub mod ReadsBack
 pub mod Joins
 pub mod Fed

@@ -1,6 +1,6 @@
 -- The text of a document reads back to its IRI and the set of its axioms.
 use Rattle.std.proofs.Common.{◌≡◌, ◌<◌, ℕ, ◌+◌, zero, suc, true, Option, Some, None, List, [], ◌∷◌, ◌++◌, length, get_or, codes, refl, sym, ap, ◌∙◌, subst, arith, rules}
-use Rattle.std.specs.List.{Contains, AllByRecursion, flat_map}
+use Rattle.std.specs.List.{AllByRecursion, flat_map}
 use Rattle.std.specs.Str.{encode_utf8_all}
 use Rattle.std.proofs.lemmas.List.{append_assoc}
 use Rattle.std.proofs.lemmas.Str.{encodes-IsAscii}
@@ -19,7 +19,8 @@ use Rattle.fss_read.specs.declared.document.FirstAxiom.{FirstAxiom}
 use Rattle.fss_read.specs.declared.document.FirstAxiom.TheVariants.{Declares, Sub}
 use Rattle.owl_top.specs.Canonical.{canonical}
 use Rattle.owl_top.specs.Text.{bracketed, header_line, axiom_line, text_of, arranged_document}
-use Rattle.owl_top.proofs.Ordered.{in_head, in_tail, all_in, canonical_holds}
+use Rattle.owl_list.specs.AscendingLaws.{all_from, all_in}
+use Rattle.owl_top.proofs.Ordered.{canonical_holds}
 
 -- the bytes are cut into these tokens, wherever they stand
 abbrev Cuts : List ℕ → List Token → Type 0
@@ -122,11 +123,6 @@ axioms_hold (x ∷ xs) h = (axiom_holds x (front_holds (axiom_tokens x) (flat_ma
 iri_holds : (iri : Option (List ℕ)) (more : List Token) → AllByRecursion IsToken (iri_tokens iri ++ more) → IsNamed iri
 iri_holds None more h = tt
 iri_holds (Some iri) more h = h.0
-
--- what holds of each of one list holds of each of another that holds the same
-all_from : (P : FirstAxiom → Type 0) (xs : List FirstAxiom) → ((x : FirstAxiom) → Contains xs x → P x) → AllByRecursion P xs
-all_from P [] f = tt
-all_from P (x ∷ xs) f = (f x (in_head x xs), all_from P xs (λ y m. f y (in_tail x xs y m)))
 
 -- The text of a document that was read reads back to its IRI and its axioms, in order.
 pub reads_back : (bytes : List ℕ) (document : Document) → Reads bytes document → Reads (text_of document) (arranged_document document)

@@ -4,11 +4,11 @@ ghost use Rattle.std.specs.Prelude.{◌≡◌};
 ghost use Rattle.owl_top.specs.Canonical.{canonical};
 
 use fss_read::FirstAxiom;
+use owl_list::arrange;
 
-/// Puts the axioms in order, each once.
-pub fn arrange(axioms: &mut Vec<FirstAxiom>)
+/// Puts the axioms in order, each once. Takes no memory.
+pub fn arrange_axioms(axioms: &mut Vec<FirstAxiom>)
     ensures { axioms.new.items ≡ canonical axioms.old.items }
 {
-    axioms.sort_unstable();
-    axioms.dedup();
+    arrange(axioms);
 }

@@ -5,7 +5,7 @@ ghost use Rattle.std.specs.List.{flat_map};
 ghost use Rattle.owl_top.specs.Canonical.{canonical};
 ghost use Rattle.owl_top.specs.Text.{axiom_line, text_of};
 
-use crate::canonical::arrange;
+use crate::canonical::arrange_axioms;
 use crate::draft::{Draft, WriteFault};
 use fss_read::{FirstAxiom, FirstDoc};
 use std::alloc::Global;
@@ -37,7 +37,7 @@ pub fn write(alloc: Global, document: FirstDoc) -> Result<Translation, WriteFaul
     ensures too_long { IsErrOf result WriteFault.TooLong → 2 ^ 27 < length (text_of document) }
 {
     let FirstDoc { iri, mut axioms } = document;
-    arrange(&mut axioms);
+    arrange_axioms(&mut axioms);
     let mut draft = Draft::new(alloc);
     draft.add_header(&iri)?;
     add_axioms(&mut draft, &axioms)?;
