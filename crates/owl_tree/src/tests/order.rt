@@ -54,15 +54,23 @@ fn other_atoms_stand_by_their_own_order(rt: HostRuntime) -> Result<(), Fail> {
     Ok(())
 }
 
+fn iri_and_label(alloc: Global) -> Result<Ordering, Fail> {
+    Ok(iri(alloc, "z")?.cmp(&label(alloc, "a")?))
+}
+
+fn label_and_string(alloc: Global) -> Result<Ordering, Fail> {
+    Ok(label(alloc, "z")?.cmp(&string(alloc, "a")?))
+}
+
+fn string_and_number(alloc: Global) -> Result<Ordering, Fail> {
+    Ok(string(alloc, "z")?.cmp(&Atom::Number(0)))
+}
+
 #[test]
 fn iris_come_before_labels_literals_and_numbers(rt: HostRuntime) -> Result<(), Fail> {
-    let alloc = rt.alloc();
-    assert_eq!(rt; iri(alloc, "z")?.cmp(&label(alloc, "a")?), Ordering::Less);
-    assert_eq!(rt;
-        label(alloc, "z")?.cmp(&string(alloc, "a")?),
-        Ordering::Less
-    );
-    assert_eq!(rt; string(alloc, "z")?.cmp(&Atom::Number(0)), Ordering::Less);
+    assert_eq!(rt; iri_and_label(rt.alloc())?, Ordering::Less);
+    assert_eq!(rt; label_and_string(rt.alloc())?, Ordering::Less);
+    assert_eq!(rt; string_and_number(rt.alloc())?, Ordering::Less);
     Ok(())
 }
 
@@ -101,14 +109,19 @@ fn kids_stand_as_words(rt: HostRuntime) -> Result<(), Fail> {
     Ok(())
 }
 
+fn intersection_and_union(alloc: Global) -> Result<Ordering, Fail> {
+    let intersection = node(alloc, Tag::ObjectIntersectionOf, &["z"])?;
+    Ok(intersection.compare(&node(alloc, Tag::ObjectUnionOf, &["a"])?))
+}
+
+fn class_and_datatype(alloc: Global) -> Result<Ordering, Fail> {
+    let class = OwnedTree::leaf(Tag::Class, iri(alloc, "z")?);
+    Ok(class.compare(&OwnedTree::leaf(Tag::Datatype, iri(alloc, "a")?)))
+}
+
 #[test]
 fn the_tag_decides_before_kids_and_atoms(rt: HostRuntime) -> Result<(), Fail> {
-    let alloc = rt.alloc();
-    let intersection = node(alloc, Tag::ObjectIntersectionOf, &["z"])?;
-    let union = node(alloc, Tag::ObjectUnionOf, &["a"])?;
-    assert_eq!(rt; intersection.compare(&union), Ordering::Less);
-    let class = OwnedTree::leaf(Tag::Class, iri(alloc, "z")?);
-    let datatype = OwnedTree::leaf(Tag::Datatype, iri(alloc, "a")?);
-    assert_eq!(rt; class.compare(&datatype), Ordering::Less);
+    assert_eq!(rt; intersection_and_union(rt.alloc())?, Ordering::Less);
+    assert_eq!(rt; class_and_datatype(rt.alloc())?, Ordering::Less);
     Ok(())
 }
