@@ -194,7 +194,7 @@ impl Tag {
     }
 
     /// Whether trees with this tag are axioms (Structural Specification,
-    /// section 9).
+    /// sections 9 and 10.2).
     pub fn is_axiom(self) -> bool
         ensures { result ≡ is_axiom self }
     {
