@@ -13,8 +13,3 @@ pub mod CanonicalLaws
 pub mod ShapeLaws
 pub mod Ontologies
 pub mod OntologyLaws
-pub mod Kinds
-pub mod Names
-pub mod Marks
-pub mod OwnedForms
-pub mod OwnedFalls

@@ -3,22 +3,15 @@
 #![tactic(auto)]
 
 mod atom;
-mod kind;
-mod kinds;
 mod laws;
-mod marks;
-mod owned;
 mod row;
 mod tag;
 
 pub use atom::Atom;
-pub use kind::{Kind, built_in};
-pub use kinds::Kinds;
 pub use laws::{
     canonical_forms, equivalence_is_equal_forms, ontologies_are_same_by_equal_forms,
     trees_are_ordered,
 };
-pub use owned::OwnedTree;
 pub use row::{AtomSort, Rest, Row, Sort};
 pub use tag::{Tag, tags_are_told_apart};
 

@@ -1,4 +1,2 @@
-mod kinds;
-mod order;
-mod owned;
+mod atoms;
 mod rows;

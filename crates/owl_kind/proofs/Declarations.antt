@@ -1,0 +1,194 @@
+-- What a table of marks declares.
+use Rattle.std.proofs.Common.{◌≡◌, ◌↔◌, ℕ, ◌⊎◌, inl, inr, true, cond, List, [], ◌∷◌, Option, Some, None, refl, sym, ap, ◌∙◌, subst, unwrap_or, arith}
+use Rattle.std.specs.Prelude.{Contains}
+use Rattle.std.specs.BTreeMap.{BTreeMap, IsOrdered, get, insert_entry, is_at}
+use Rattle.std.specs.Cmp.{IsTotalOrder}
+use Rattle.std.specs.List.{All, flat_map}
+use Rattle.std.specs.Map.{values_of}
+use Rattle.std.specs.Ordering.{is_eq}
+use Rattle.std.specs.Str.{encode_utf8_all}
+use Rattle.std.proofs.lemmas.Bool.{both_ways, cases_Bool, cond-false, cond-true, or_cases, or_left, or_right, false≢true}
+use Rattle.std.proofs.lemmas.Cmp.{nat_list_cmp_total, on_total, tied_itself}
+use Rattle.std.proofs.lemmas.Map.Lookups.{CmpEqualImpliesEq, exact_bytes}
+use Rattle.std.proofs.lemmas.Map.Views.{All-values-insert_entry, btree_map_get_iff, tells_apart}
+use Rattle.std.proofs.lemmas.Str.{encodes_same}
+use Rattle.owl_text.specs.Order.{text_cmp}
+use Rattle.owl_kind.specs.declared.kind.Kind.{Kind}
+use Rattle.owl_kind.specs.declared.kind.Kind.TheVariants.{Class, Datatype, ObjectProperty, DataProperty, AnnotationProperty, Individual}
+use Rattle.owl_kind.specs.declared.marks.Marks.{Marks}
+use Rattle.owl_kind.specs.Kinds.{Declared, HasKind, IsDeclared, is_built_in}
+use Rattle.owl_kind.specs.Marks.{Entry, HasMark, IsTable, all_kinds, declared_as, declared_by, is_marked, is_of, marked, no_marks}
+use Rattle.owl_kind.proofs.Found.{from_joined, here, joined_from, none_in, only}
+
+pub text_total : IsTotalOrder text_cmp
+text_total = on_total encode_utf8_all nat_list_cmp_total
+
+-- texts that tie are one
+exact_texts : CmpEqualImpliesEq text_cmp
+exact_texts a b h = encodes_same a b (exact_bytes (encode_utf8_all a) (encode_utf8_all b) h)
+
+one_of_all : (kind : Kind) → Contains all_kinds kind
+one_of_all Class = (0, omega arith, refl)
+one_of_all Datatype = (1, omega arith, refl)
+one_of_all ObjectProperty = (2, omega arith, refl)
+one_of_all DataProperty = (3, omega arith, refl)
+one_of_all AnnotationProperty = (4, omega arith, refl)
+one_of_all Individual = (5, omega arith, refl)
+
+-- one kind of an entry
+declared_is : (e : Entry) (k kind : Kind) (iri : List ℕ) → Contains (declared_as e k) (record { kind = kind; iri = iri }) → (is_marked e.1 k ≡ true) × (k ≡ kind) × (e.0 ≡ iri)
+declared_is e k kind iri h =
+    let d : Declared = record { kind = kind; iri = iri } in
+    elim (cases_Bool (is_marked e.1 k)) [
+      | inl t ↦
+          let same : record { kind = k; iri = e.0 } ≡ d = only _ d (subst (λ ds. Contains ds d) (cond-true (is_marked e.1 k) _ _ t) h) in
+          (t, ap (λ (x : Declared). x.kind) same, ap (λ (x : Declared). x.iri) same)
+      | inr f ↦ absurd (none_in d (subst (λ ds. Contains ds d) (cond-false (is_marked e.1 k) _ _ f) h))
+    ]
+
+is_declared_as : (e : Entry) (kind : Kind) → is_marked e.1 kind ≡ true → Contains (declared_as e kind) (record { kind = kind; iri = e.0 })
+is_declared_as e kind t =
+    let d : Declared = record { kind = kind; iri = e.0 } in
+    subst (λ ds. Contains ds d) (sym (cond-true (is_marked e.1 kind) (d ∷ []) [] t)) (here d [])
+
+pub marks_of_declared : (es : List Entry) (kind : Kind) (iri : List ℕ) → IsDeclared (declared_by es) kind iri → (marks : Marks) × Contains es (iri, marks) × (is_marked marks kind ≡ true)
+unfolding declared_by
+marks_of_declared es kind iri h =
+    let outer = from_joined (λ e. flat_map (declared_as e) all_kinds) es (record { kind = kind; iri = iri }) h in
+    let inner = from_joined (declared_as outer.0) all_kinds (record { kind = kind; iri = iri }) outer.2 in
+    let r = declared_is outer.0 inner.0 kind iri inner.2 in
+    let e : Entry = outer.0 in
+    (e.1, subst (λ i. Contains es (i, e.1)) r.2 outer.1, subst (λ k. is_marked e.1 k ≡ true) r.1 r.0)
+
+pub declared_of_marks : (es : List Entry) (kind : Kind) (e : Entry) → Contains es e → is_marked e.1 kind ≡ true → IsDeclared (declared_by es) kind e.0
+unfolding declared_by
+declared_of_marks es kind e h t =
+    let d : Declared = record { kind = kind; iri = e.0 } in
+    joined_from (λ e. flat_map (declared_as e) all_kinds) es d e h
+    (joined_from (declared_as e) all_kinds d kind (one_of_all kind) (is_declared_as e kind t))
+
+pub none_declared : (es : List Entry) → es ≡ [] → (kind : Kind) (iri : List ℕ) → IsDeclared (declared_by es) kind iri → ⊥
+none_declared es e kind iri h =
+    let r = marks_of_declared es kind iri h in
+    none_in (iri, r.0) (subst (λ xs. Contains xs (iri, r.0)) e r.1)
+
+-- the marks of an IRI in a table
+abbrev pub marks_at : BTreeMap (List ℕ) Marks → List ℕ → Marks
+marks_at table iri = unwrap_or (get text_cmp table iri) no_marks
+
+not_marked : (kind : Kind) → is_marked no_marks kind ≡ true → ⊥
+not_marked Class h = false≢true h
+not_marked Datatype h = false≢true h
+not_marked ObjectProperty h = false≢true h
+not_marked DataProperty h = false≢true h
+not_marked AnnotationProperty h = false≢true h
+not_marked Individual h = false≢true h
+
+-- an entry of the table has its marks
+pub marks_of_entry : (table : BTreeMap (List ℕ) Marks) → IsTable table → (e : Entry) → Contains table.entries e → marks_at table e.0 ≡ e.1
+marks_of_entry table t e h = ap (λ o. unwrap_or o no_marks) ((btree_map_get_iff text_total exact_texts table t.ordered e.0 e.1).1 h)
+
+-- what is marked has an entry
+entry_by : (table : BTreeMap (List ℕ) Marks) → IsTable table → (iri : List ℕ) (kind : Kind) (o : Option Marks) → get text_cmp table iri ≡ o → is_marked (unwrap_or o no_marks) kind ≡ true → Contains table.entries (iri, unwrap_or o no_marks)
+entry_by table t iri kind None e h = absurd (not_marked kind h)
+entry_by table t iri kind (Some marks) e h = (btree_map_get_iff text_total exact_texts table t.ordered iri marks).0 e
+
+pub marked_entry : (table : BTreeMap (List ℕ) Marks) → IsTable table → (iri : List ℕ) (kind : Kind) → is_marked (marks_at table iri) kind ≡ true → Contains table.entries (iri, marks_at table iri)
+marked_entry table t iri kind h = entry_by table t iri kind (get text_cmp table iri) refl h
+
+pub declared_at : (table : BTreeMap (List ℕ) Marks) → IsTable table → (kind : Kind) (iri : List ℕ) → IsDeclared (declared_by table.entries) kind iri ↔ (is_marked (marks_at table iri) kind ≡ true)
+declared_at table t kind iri = (
+  (λ d.
+      let r = marks_of_declared table.entries kind iri d in
+      subst (λ marks. is_marked marks kind ≡ true) (sym (marks_of_entry table t (iri, r.0) r.1)) r.2),
+  (λ h. declared_of_marks table.entries kind (iri, marks_at table iri) (marked_entry table t iri kind h) h),
+)
+
+pub marked_here : (marks : Marks) (kind : Kind) → is_marked (marked marks kind) kind ≡ true
+marked_here marks Class = refl
+marked_here marks Datatype = refl
+marked_here marks ObjectProperty = refl
+marked_here marks DataProperty = refl
+marked_here marks AnnotationProperty = refl
+marked_here marks Individual = refl
+
+marked_kept : (marks : Marks) (kind k : Kind) → is_marked marks k ≡ true → is_marked (marked marks kind) k ≡ true
+marked_kept marks Class Class h = refl
+marked_kept marks Datatype Datatype h = refl
+marked_kept marks ObjectProperty ObjectProperty h = refl
+marked_kept marks DataProperty DataProperty h = refl
+marked_kept marks AnnotationProperty AnnotationProperty h = refl
+marked_kept marks Individual Individual h = refl
+marked_kept marks kind k h = h
+
+marked_only : (marks : Marks) (kind k : Kind) → is_marked (marked marks kind) k ≡ true → (is_marked marks k ≡ true) ⊎ (k ≡ kind)
+marked_only marks Class Class h = inr refl
+marked_only marks Datatype Datatype h = inr refl
+marked_only marks ObjectProperty ObjectProperty h = inr refl
+marked_only marks DataProperty DataProperty h = inr refl
+marked_only marks AnnotationProperty AnnotationProperty h = inr refl
+marked_only marks Individual Individual h = inr refl
+marked_only marks kind k h = inl h
+
+-- one more mark declares one thing more
+pub declared_after : (old new : BTreeMap (List ℕ) Marks) → IsTable old → IsTable new → (kind : Kind) (iri : List ℕ) → ((q : List ℕ) → get text_cmp new q ≡ cond (is_at (text_cmp iri) q) (Some (marked (marks_at old iri) kind)) (get text_cmp old q)) → (k : Kind) (i : List ℕ) → IsDeclared (declared_by new.entries) k i ↔ (IsDeclared (declared_by old.entries) k i ⊎ ((k ≡ kind) × (i ≡ iri)))
+declared_after old new t u kind iri update k i =
+    let before = declared_at old t k i in
+    let after = declared_at new u k i in
+    elim (cases_Bool (is_at (text_cmp iri) i)) [
+      | inl b ↦
+          let e : iri ≡ i = tells_apart exact_texts iri i b in
+          let w : marks_at new i ≡ marked (marks_at old i) kind =
+          ap (λ o. unwrap_or o no_marks) (update i ∙ cond-true (is_at (text_cmp iri) i) (Some (marked (marks_at old iri) kind)) (get text_cmp old i) b)
+          ∙ ap (λ q. marked (marks_at old q) kind) e in (
+            (λ d.
+                elim (marked_only (marks_at old i) kind k (subst (λ marks. is_marked marks k ≡ true) w (after.0 d))) [
+                  | inl h ↦ inl (before.1 h)
+                  | inr s ↦ inr (s, sym e)
+                ]),
+            (λ d.
+                after.1
+                (subst (λ marks. is_marked marks k ≡ true) (sym w)
+                (elim d as (λ _. is_marked (marked (marks_at old i) kind) k ≡ true) [
+                  | inl h ↦ marked_kept (marks_at old i) kind k (before.0 h)
+                  | inr s ↦ subst (λ x. is_marked (marked (marks_at old i) kind) x ≡ true) (sym s.0) (marked_here (marks_at old i) kind)
+                ]))),
+          )
+      | inr f ↦
+          let w : marks_at new i ≡ marks_at old i =
+          ap (λ o. unwrap_or o no_marks) (update i ∙ cond-false (is_at (text_cmp iri) i) (Some (marked (marks_at old iri) kind)) (get text_cmp old i) f) in (
+            (λ d. inl (before.1 (subst (λ marks. is_marked marks k ≡ true) w (after.0 d)))),
+            (λ d.
+                elim d [
+                  | inl h ↦ after.1 (subst (λ marks. is_marked marks k ≡ true) (sym w) (before.0 h))
+                  | inr s ↦ absurd (both_ways (is_at (text_cmp iri) i) f (subst (λ q. is_at (text_cmp iri) q ≡ true) (sym s.1) (ap is_eq (tied_itself text_total iri))))
+                ]),
+          )
+    ]
+
+pub table_after : (old new : BTreeMap (List ℕ) Marks) → IsTable old → IsOrdered text_cmp new → (kind : Kind) (iri : List ℕ) → new.entries ≡ insert_entry text_cmp old.entries iri (marked (marks_at old iri) kind) → IsTable new
+table_after old new t o kind iri e = record {
+  ordered = o;
+  marked =
+      subst (λ es. All HasMark (values_of es)) (sym e)
+      (All-values-insert_entry text_cmp iri (marked (marks_at old iri) kind) HasMark old.entries t.marked (kind, marked_here (marks_at old iri) kind));
+}
+
+pub same_table : (old new : BTreeMap (List ℕ) Marks) → IsTable old → IsOrdered text_cmp new → new.entries ≡ old.entries → IsTable new
+same_table old new t o e = record { ordered = o; marked = subst (λ es. All HasMark (values_of es)) (sym e) t.marked }
+
+-- declared or built in, as the marks tell
+pub has_kind : (table : BTreeMap (List ℕ) Marks) → IsTable table → (iri : List ℕ) (kind : Kind) → (is_of (iri, marks_at table iri) kind ≡ true) ↔ HasKind (declared_by table.entries) kind iri
+has_kind table t iri kind =
+    let declared = declared_at table t kind iri in (
+      (λ h.
+          elim (or_cases (is_marked (marks_at table iri) kind) (is_built_in kind iri) h) [
+            | inl m ↦ inl (declared.1 m)
+            | inr b ↦ inr b
+          ]),
+      (λ h.
+          elim h [
+            | inl d ↦ or_left (is_marked (marks_at table iri) kind) (is_built_in kind iri) (declared.0 d)
+            | inr b ↦ or_right (is_marked (marks_at table iri) kind) (is_built_in kind iri) b
+          ]),
+    )

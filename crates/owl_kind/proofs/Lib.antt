@@ -1,0 +1,4 @@
+pub mod AsciiNames
+pub mod Found
+pub mod Declarations
+pub mod Clashes

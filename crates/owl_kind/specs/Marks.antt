@@ -1,0 +1,78 @@
+-- How the declarations of IRIs are kept: each IRI once, with a mark for each kind as which it is declared.
+use Rattle.std.specs.Prelude.{◌≡◌, ℕ, Bool, false, true, ◌&&◌, ◌||◌, cond, List, [], ◌∷◌, Option, option_map}
+use Rattle.std.specs.BTreeMap.{BTreeMap, IsOrdered, values}
+use Rattle.std.specs.List.{All, find, flat_map}
+use Rattle.owl_text.specs.Order.{text_cmp}
+use Rattle.owl_kind.specs.declared.kind.Kind.{Kind}
+use Rattle.owl_kind.specs.declared.kind.Kind.TheVariants.{Class, Datatype, ObjectProperty, DataProperty, AnnotationProperty, Individual}
+use Rattle.owl_kind.specs.declared.marks.Marks.{Marks}
+use Rattle.owl_kind.specs.Kinds.{Declared, is_built_in}
+
+abbrev pub no_marks : Marks
+no_marks = record {
+  class = false;
+  datatype = false;
+  object_property = false;
+  data_property = false;
+  annotation_property = false;
+  individual = false;
+}
+
+abbrev pub is_marked : Marks → Kind → Bool
+is_marked marks Class = marks.class
+is_marked marks Datatype = marks.datatype
+is_marked marks ObjectProperty = marks.object_property
+is_marked marks DataProperty = marks.data_property
+is_marked marks AnnotationProperty = marks.annotation_property
+is_marked marks Individual = marks.individual
+
+-- the marks, and this one
+abbrev pub marked : Marks → Kind → Marks
+marked marks Class = record marks { class = true }
+marked marks Datatype = record marks { datatype = true }
+marked marks ObjectProperty = record marks { object_property = true }
+marked marks DataProperty = record marks { data_property = true }
+marked marks AnnotationProperty = record marks { annotation_property = true }
+marked marks Individual = record marks { individual = true }
+
+-- an IRI with its marks
+abbrev pub Entry : Type 0
+Entry = List ℕ × Marks
+
+abbrev pub all_kinds : List Kind
+all_kinds = Class ∷ Datatype ∷ ObjectProperty ∷ DataProperty ∷ AnnotationProperty ∷ Individual ∷ []
+
+-- the IRI as this kind, where it is marked so
+abbrev pub declared_as : Entry → Kind → List Declared
+declared_as entry kind = cond (is_marked entry.1 kind) (record { kind = kind; iri = entry.0 } ∷ []) []
+
+-- what the entries declare
+unfoldable pub declared_by : List Entry → List Declared
+declared_by entries = flat_map (λ entry. flat_map (declared_as entry) all_kinds) entries
+
+abbrev pub HasMark : Marks → Type 0
+HasMark marks = (kind : Kind) × (is_marked marks kind ≡ true)
+
+-- the IRIs ascend, and each has a mark
+pub record IsTable (table : BTreeMap (List ℕ) Marks) : Type 0 where
+  pub ordered : IsOrdered text_cmp table
+  pub marked : All HasMark (values table)
+
+-- an IRI with these marks is of the kind
+abbrev pub is_of : Entry → Kind → Bool
+is_of entry kind = is_marked entry.1 kind || is_built_in kind entry.0
+
+abbrev pub is_of_both : Entry → Kind → Kind → Bool
+is_of_both entry a b = is_of entry a && is_of entry b
+
+-- an IRI with these marks has two kinds that no IRI may share
+unfoldable pub clashes : Entry → Bool
+clashes entry =
+    is_of_both entry Class Datatype
+    || is_of_both entry ObjectProperty DataProperty
+    || is_of_both entry ObjectProperty AnnotationProperty
+    || is_of_both entry DataProperty AnnotationProperty
+
+-- the first IRI whose marks clash
+abbrev pub first_that_clashes : List Entry → Option (List ℕ)
+first_that_clashes entries = option_map (λ entry. entry.0) (find clashes entries)

@@ -1,0 +1,109 @@
+//! What IRIs are declared as.
+
+ghost use Rattle.std.specs.Prelude.{◌≡◌, ◌↔◌, ◌⊎◌, ℕ, List, IsTrue, IfSome, IsNone, OnOk, OnErr, unwrap_or, option_map};
+ghost use Rattle.std.specs.BTreeMap.{get};
+ghost use Rattle.std.specs.List.{find};
+ghost use Rattle.std.specs.Map.Iter.{deref, deref_pair};
+ghost use Rattle.owl_text.specs.Order.{text_cmp};
+ghost use Rattle.owl_kind.specs.declared.kind.Kind.{Kind};
+ghost use Rattle.owl_kind.specs.Kinds.{IsDeclared, HasKind, HasClash, IsFirstClash};
+ghost use Rattle.owl_kind.specs.Marks.{IsTable, clashes, declared_by, first_that_clashes, no_marks};
+
+use crate::kind::Kind;
+use crate::marks::Marks;
+use owl_atom::Iri;
+use owl_text::NoMemory;
+use std::alloc::{AllocError, Global};
+use std::collections::BTreeMap;
+use std::marker::Model;
+
+/// What IRIs are declared as (Structural Specification, section 5.8), which
+/// contracts see as a list of pairs of a kind and an IRI.
+#[derive(Debug, Drop)]
+pub struct Kinds {
+    table: BTreeMap<Iri, Marks>,
+}
+
+impl Model for Kinds {
+    ghost use Rattle.std.specs.Prelude.{List};
+    ghost use Rattle.owl_kind.specs.Kinds.{Declared};
+    ghost use Rattle.owl_kind.specs.Marks.{IsTable, declared_by};
+
+    ghost Value = { List Declared };
+
+    ghost view = { λ k. declared_by k.table.entries };
+
+    ghost invariant = { λ k. IsTable k.table };
+}
+
+impl Kinds {
+    /// No IRI is declared. Takes no memory.
+    pub fn new(alloc: Global) -> Kinds
+        ensures { (kind : Kind) (iri : List ℕ) → IsDeclared result kind iri → ⊥ }
+    {
+        Kinds {
+            table: BTreeMap::new(alloc),
+        }
+    }
+
+    /// Declares the IRI as this kind, besides what it is declared as. At want
+    /// of memory nothing changes.
+    pub fn declare(&mut self, kind: Kind, iri: Iri) -> Result<(), NoMemory>
+        ensures ok { OnOk result ((k : Kind) (i : List ℕ) → IsDeclared self.new k i ↔ (IsDeclared self.old k i ⊎ ((k ≡ kind) × (i ≡ iri)))) }
+        ensures err { OnErr result (self.new ≡ self.old) }
+    {
+        mark(&mut self.table, kind, iri)?;
+        Ok(())
+    }
+
+    /// Whether the IRI is declared as this kind, or built in. Takes no memory.
+    pub fn has(&self, kind: Kind, iri: &Iri) -> bool
+        ensures { IsTrue result ↔ HasKind self.now kind iri.now }
+    {
+        marks_of(&self.table, iri).are_of(iri, kind)
+    }
+
+    /// The least declared IRI, in order of bytes, that has two kinds of
+    /// properties, or is a class and a datatype (section 5.8.1). Kinds that are
+    /// built in count. Takes no memory.
+    pub fn clash(&self) -> Option<&Iri>
+        ensures some { IfSome result (λ iri. IsFirstClash self.now iri.now) }
+        ensures none { IsNone result ↔ ((iri : List ℕ) → HasClash self.now iri → ⊥) }
+    {
+        first_clash(&self.table)
+    }
+}
+
+/// The marks of the IRI, none where it has no entry.
+fn marks_of(table: &BTreeMap<Iri, Marks>, iri: &Iri) -> Marks
+    ensures { result ≡ unwrap_or (get text_cmp table.now iri.now) no_marks }
+{
+    table.get(iri).copied().unwrap_or(Marks::NONE)
+}
+
+/// Marks the IRI with this kind too. At want of memory nothing changes.
+fn mark(table: &mut BTreeMap<Iri, Marks>, kind: Kind, iri: Iri) -> Result<(), AllocError>
+    requires { IsTable table.old }
+    ensures ok { OnOk result ((k : Kind) (i : List ℕ) → IsDeclared (declared_by table.new.entries) k i
+        ↔ (IsDeclared (declared_by table.old.entries) k i ⊎ ((k ≡ kind) × (i ≡ iri)))) }
+    ensures err { OnErr result (table.new.entries ≡ table.old.entries) }
+    ensures table { IsTable table.new }
+{
+    let marks = table.entry(iri)?.or_insert(Marks::NONE);
+    *marks = marks.with(kind);
+    Ok(())
+}
+
+/// The first IRI whose marks clash.
+fn first_clash(table: &BTreeMap<Iri, Marks>) -> Option<&Iri>
+    ensures { option_map deref result ≡ first_that_clashes table.now.entries }
+{
+    clashing_entry(table).map(|(iri, _)| iri)
+}
+
+/// The first entry whose marks clash.
+fn clashing_entry(table: &BTreeMap<Iri, Marks>) -> Option<(&Iri, &Marks)>
+    ensures { option_map deref_pair result ≡ find clashes table.now.entries }
+{
+    table.iter().find(|(iri, marks)| marks.clash(iri))
+}

@@ -1,0 +1,2 @@
+pub mod OwnedForms
+pub mod OwnedFalls

@@ -1,5 +1,0 @@
-use Rattle.owl_tree.proofs.Declarations.{none_declared}
-use Rattle.owl_tree.proofs.kinds.Kinds.new.Goals as goal
-
-pub returns : goal.returns
-returns c = none_declared c.new.result.entries c.new.ensures.empty
