@@ -9,12 +9,13 @@ use Rattle.std.proofs.lemmas.Bool.{and_from, and_parts, or_cases, or_left, or_ri
 use Rattle.std.proofs.lemmas.List.Elements.{All-contains}
 use Rattle.std.proofs.lemmas.Map.Made.{Contains-values_of}
 use Rattle.std.proofs.lemmas.Option.{none-some, same_Some}
+use Rattle.owl_atom.specs.LiteralLaws.{texts_total}
 use Rattle.owl_kind.specs.declared.kind.Kind.{Kind}
 use Rattle.owl_kind.specs.declared.kind.Kind.TheVariants.{Class, Datatype, ObjectProperty, DataProperty, AnnotationProperty}
 use Rattle.owl_kind.specs.declared.marks.Marks.{Marks}
-use Rattle.owl_kind.specs.Kinds.{Declared, HasBoth, HasClash, IsFirstClash}
+use Rattle.owl_kind.specs.Kinds.{HasBoth, HasClash, IsFirstClash, SharesKinds}
 use Rattle.owl_kind.specs.Marks.{Entry, HasMark, IsTable, clashes, declared_by, first_that_clashes, is_of, is_of_both}
-use Rattle.owl_kind.proofs.Declarations.{declared_at, declared_of_marks, has_kind, marked_entry, marks_at, marks_of_entry, text_total}
+use Rattle.owl_kind.proofs.Declarations.{declared_at, declared_of_marks, has_kind, marked_entry, marks_at, marks_of_entry}
 use Rattle.owl_kind.proofs.Found.{found_first, found_is, none_found}
 
 has_both : (table : BTreeMap (List ℕ) Marks) → IsTable table → (iri : List ℕ) (a b : Kind) → (is_of_both (iri, marks_at table iri) a b ≡ true) ↔ HasBoth (declared_by table.entries) a b iri
@@ -25,14 +26,6 @@ has_both table t iri a b =
       (λ h. let both = and_parts (is_of e a) (is_of e b) h in (left.0 both.0, right.0 both.1)),
       (λ h. and_from (is_of e a) (is_of e b) (left.1 h.0) (right.1 h.1)),
     )
-
--- two kinds that no IRI may share
-abbrev pub SharesKinds : List Declared → List ℕ → Type 0
-SharesKinds kinds iri =
-    HasBoth kinds Class Datatype iri
-    ⊎ (HasBoth kinds ObjectProperty DataProperty iri
-    ⊎ (HasBoth kinds ObjectProperty AnnotationProperty iri
-    ⊎ HasBoth kinds DataProperty AnnotationProperty iri))
 
 -- four tests, and what each of them tells
 some_of_four : (a b c d : Bool) (A B C D : Type 0) → ((a ≡ true) ↔ A) → ((b ≡ true) ↔ B) → ((c ≡ true) ↔ C) → ((d ≡ true) ↔ D) → ((a || b || c || d) ≡ true) ↔ (A ⊎ (B ⊎ (C ⊎ D)))
@@ -88,7 +81,7 @@ first_of table t e h =
     let found = found_is clashes table.entries e h in
     record {
       clash = clash_of_entry table t e found.0 found.1;
-      first = λ other c less. let o = entry_of_clash table t other c in found_first text_total clashes table.entries e (other, marks_at table other) t.ordered h o.0 o.1 less;
+      first = λ other c less. let o = entry_of_clash table t other c in found_first texts_total clashes table.entries e (other, marks_at table other) t.ordered h o.0 o.1 less;
     }
 
 none_of : (table : BTreeMap (List ℕ) Marks) → IsTable table → find clashes table.entries ≡ None → (iri : List ℕ) → HasClash (declared_by table.entries) iri → ⊥

@@ -2,13 +2,12 @@
 use Rattle.std.proofs.Common.{◌≡◌, ◌↔◌, ℕ, ◌⊎◌, inl, inr, true, cond, List, [], ◌∷◌, Option, Some, None, refl, sym, ap, ◌∙◌, subst, unwrap_or, arith}
 use Rattle.std.specs.Prelude.{Contains}
 use Rattle.std.specs.BTreeMap.{BTreeMap, IsOrdered, get, insert_entry, is_at}
-use Rattle.std.specs.Cmp.{IsTotalOrder}
 use Rattle.std.specs.List.{All, flat_map}
 use Rattle.std.specs.Map.{values_of}
 use Rattle.std.specs.Ordering.{is_eq}
 use Rattle.std.specs.Str.{encode_utf8_all}
 use Rattle.std.proofs.lemmas.Bool.{both_ways, cases_Bool, cond-false, cond-true, or_cases, or_left, or_right, false≢true}
-use Rattle.std.proofs.lemmas.Cmp.{nat_list_cmp_total, on_total, tied_itself}
+use Rattle.std.proofs.lemmas.Cmp.{tied_itself}
 use Rattle.std.proofs.lemmas.Map.Lookups.{CmpEqualImpliesEq, exact_bytes}
 use Rattle.std.proofs.lemmas.Map.Views.{All-values-insert_entry, btree_map_get_iff, tells_apart}
 use Rattle.std.proofs.lemmas.Str.{encodes_same}
@@ -18,10 +17,9 @@ use Rattle.owl_kind.specs.declared.kind.Kind.TheVariants.{Class, Datatype, Objec
 use Rattle.owl_kind.specs.declared.marks.Marks.{Marks}
 use Rattle.owl_kind.specs.Kinds.{Declared, HasKind, IsDeclared, is_built_in}
 use Rattle.owl_kind.specs.Marks.{Entry, HasMark, IsTable, all_kinds, declared_as, declared_by, is_marked, is_of, marked, no_marks}
-use Rattle.owl_kind.proofs.Found.{from_joined, here, joined_from, none_in, only}
-
-pub text_total : IsTotalOrder text_cmp
-text_total = on_total encode_utf8_all nat_list_cmp_total
+use Rattle.owl_list.specs.AscendingLaws.{in_head, in_none}
+use Rattle.owl_atom.specs.LiteralLaws.{texts_total}
+use Rattle.owl_kind.proofs.Found.{from_joined, joined_from, only}
 
 -- texts that tie are one
 exact_texts : CmpEqualImpliesEq text_cmp
@@ -43,13 +41,13 @@ declared_is e k kind iri h =
       | inl t ↦
           let same : record { kind = k; iri = e.0 } ≡ d = only _ d (subst (λ ds. Contains ds d) (cond-true (is_marked e.1 k) _ _ t) h) in
           (t, ap (λ (x : Declared). x.kind) same, ap (λ (x : Declared). x.iri) same)
-      | inr f ↦ absurd (none_in d (subst (λ ds. Contains ds d) (cond-false (is_marked e.1 k) _ _ f) h))
+      | inr f ↦ absurd (in_none d (subst (λ ds. Contains ds d) (cond-false (is_marked e.1 k) _ _ f) h))
     ]
 
 is_declared_as : (e : Entry) (kind : Kind) → is_marked e.1 kind ≡ true → Contains (declared_as e kind) (record { kind = kind; iri = e.0 })
 is_declared_as e kind t =
     let d : Declared = record { kind = kind; iri = e.0 } in
-    subst (λ ds. Contains ds d) (sym (cond-true (is_marked e.1 kind) (d ∷ []) [] t)) (here d [])
+    subst (λ ds. Contains ds d) (sym (cond-true (is_marked e.1 kind) (d ∷ []) [] t)) (in_head d [])
 
 pub marks_of_declared : (es : List Entry) (kind : Kind) (iri : List ℕ) → IsDeclared (declared_by es) kind iri → (marks : Marks) × Contains es (iri, marks) × (is_marked marks kind ≡ true)
 unfolding declared_by
@@ -70,7 +68,7 @@ declared_of_marks es kind e h t =
 pub none_declared : (es : List Entry) → es ≡ [] → (kind : Kind) (iri : List ℕ) → IsDeclared (declared_by es) kind iri → ⊥
 none_declared es e kind iri h =
     let r = marks_of_declared es kind iri h in
-    none_in (iri, r.0) (subst (λ xs. Contains xs (iri, r.0)) e r.1)
+    in_none (iri, r.0) (subst (λ xs. Contains xs (iri, r.0)) e r.1)
 
 -- the marks of an IRI in a table
 abbrev pub marks_at : BTreeMap (List ℕ) Marks → List ℕ → Marks
@@ -86,12 +84,12 @@ not_marked Individual h = false≢true h
 
 -- an entry of the table has its marks
 pub marks_of_entry : (table : BTreeMap (List ℕ) Marks) → IsTable table → (e : Entry) → Contains table.entries e → marks_at table e.0 ≡ e.1
-marks_of_entry table t e h = ap (λ o. unwrap_or o no_marks) ((btree_map_get_iff text_total exact_texts table t.ordered e.0 e.1).1 h)
+marks_of_entry table t e h = ap (λ o. unwrap_or o no_marks) ((btree_map_get_iff texts_total exact_texts table t.ordered e.0 e.1).1 h)
 
 -- what is marked has an entry
 entry_by : (table : BTreeMap (List ℕ) Marks) → IsTable table → (iri : List ℕ) (kind : Kind) (o : Option Marks) → get text_cmp table iri ≡ o → is_marked (unwrap_or o no_marks) kind ≡ true → Contains table.entries (iri, unwrap_or o no_marks)
 entry_by table t iri kind None e h = absurd (not_marked kind h)
-entry_by table t iri kind (Some marks) e h = (btree_map_get_iff text_total exact_texts table t.ordered iri marks).0 e
+entry_by table t iri kind (Some marks) e h = (btree_map_get_iff texts_total exact_texts table t.ordered iri marks).0 e
 
 pub marked_entry : (table : BTreeMap (List ℕ) Marks) → IsTable table → (iri : List ℕ) (kind : Kind) → is_marked (marks_at table iri) kind ≡ true → Contains table.entries (iri, marks_at table iri)
 marked_entry table t iri kind h = entry_by table t iri kind (get text_cmp table iri) refl h
@@ -161,7 +159,7 @@ declared_after old new t u kind iri update k i =
             (λ d.
                 elim d [
                   | inl h ↦ after.1 (subst (λ marks. is_marked marks k ≡ true) (sym w) (before.0 h))
-                  | inr s ↦ absurd (both_ways (is_at (text_cmp iri) i) f (subst (λ q. is_at (text_cmp iri) q ≡ true) (sym s.1) (ap is_eq (tied_itself text_total iri))))
+                  | inr s ↦ absurd (both_ways (is_at (text_cmp iri) i) f (subst (λ q. is_at (text_cmp iri) q ≡ true) (sym s.1) (ap is_eq (tied_itself texts_total iri))))
                 ]),
           )
     ]

@@ -37,15 +37,19 @@ HasKind kinds kind iri = IsDeclared kinds kind iri ⊎ IsTrue (is_built_in kind 
 abbrev pub HasBoth : List Declared → Kind → Kind → List ℕ → Type 0
 HasBoth kinds a b iri = HasKind kinds a iri × HasKind kinds b iri
 
--- a declared IRI with two kinds that no IRI may share: two kinds of properties, or class and datatype (section 5.8.1)
+-- two kinds that no IRI may share: two kinds of properties, or class and datatype (section 5.8.1)
+abbrev pub SharesKinds : List Declared → List ℕ → Type 0
+SharesKinds kinds iri =
+    HasBoth kinds Class Datatype iri
+    ⊎ (HasBoth kinds ObjectProperty DataProperty iri
+    ⊎ (HasBoth kinds ObjectProperty AnnotationProperty iri
+    ⊎ HasBoth kinds DataProperty AnnotationProperty iri))
+
+-- a declared IRI with two such kinds
 pub record HasClash (kinds : List Declared) (iri : List ℕ) : Type 0 where
   pub kind : Kind
   pub declared : IsDeclared kinds kind iri
-  pub clash :
-      HasBoth kinds Class Datatype iri
-      ⊎ (HasBoth kinds ObjectProperty DataProperty iri
-      ⊎ (HasBoth kinds ObjectProperty AnnotationProperty iri
-      ⊎ HasBoth kinds DataProperty AnnotationProperty iri))
+  pub clash : SharesKinds kinds iri
 
 -- of all that have a clash it comes first, in order of bytes
 pub record IsFirstClash (kinds : List Declared) (iri : List ℕ) : Type 0 where
