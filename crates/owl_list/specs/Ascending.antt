@@ -28,3 +28,8 @@ module _ {X : Type 0} (cmp : X → X → Ordering) where
 -- the lists have the same elements, in whatever order and however often
 abbrev pub HoldSame : {X : Type 0} → List X → List X → Type 0
 HoldSame {X} xs ys = (x : X) → Contains xs x ↔ Contains ys x
+
+-- no element stands twice
+abbrev pub AreApart : {X : Type 0} → List X → Type 0
+AreApart [] = Unit {0}
+AreApart (x ∷ xs) = (Contains xs x → ⊥) × AreApart xs

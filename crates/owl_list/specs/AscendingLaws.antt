@@ -9,7 +9,7 @@ use Rattle.std.specs.List.{Contains, AllByRecursion}
 use Rattle.std.specs.List.Sorted.{IsStrictlySortedBy}
 use Rattle.std.proofs.lemmas.Cmp.{tied_itself}
 use Rattle.std.proofs.lemmas.List.Elements.{Contains-append_left, Contains-append_right}
-use Rattle.owl_list.specs.Ascending.{by_order, put, ascending, IsAscending, HoldSame}
+use Rattle.owl_list.specs.Ascending.{by_order, put, ascending, IsAscending, HoldSame, AreApart}
 
 -- membership, by cases on the list
 module _ {X : Type 0} where
@@ -197,6 +197,17 @@ module _ {X : Type 0} (cmp : X → X → Ordering) (total : IsTotalOrder cmp) wh
   ascending_ascends [] = nothing_ascends cmp
   ascending_ascends (x ∷ xs) = put_ascends x (ascending cmp xs) (ascending_ascends xs)
 
+  -- what ascends has no element twice
+  pub apart_from_ascending : (xs : List X) → IsAscending cmp xs → AreApart xs
+  apart_from_ascending [] a = tt
+  apart_from_ascending (x ∷ xs) a = (
+    λ m. not_itself x (all_in (λ y. cmp x y ≡ Less) xs x (head_below cmp x xs a) m),
+    apart_from_ascending xs (tail_ascends cmp x xs a),
+  )
+
+  pub ascending_apart : (xs : List X) → AreApart (ascending cmp xs)
+  ascending_apart xs = apart_from_ascending (ascending cmp xs) (ascending_ascends xs)
+
 module _ {X : Type 0} (cmp : X → X → Ordering) (total : IsTotalOrder cmp) (same : (x y : X) → cmp x y ≡ Equal → x ≡ y) where
   -- what is in a list with one more
   in_by : (o : Ordering) (x y z : X) (ys rest : List X) → cmp x y ≡ o → ((x ≡ z) ⊎ Contains ys z → Contains rest z) → (x ≡ z) ⊎ Contains (y ∷ ys) z → Contains (by_order o (x ∷ y ∷ ys) (y ∷ ys) (y ∷ rest)) z
@@ -251,3 +262,54 @@ module _ {X : Type 0} (cmp : X → X → Ordering) (total : IsTotalOrder cmp) (s
   -- what ascends stays as it is
   pub ascending_again : (xs : List X) → IsAscending cmp xs → ascending cmp xs ≡ xs
   ascending_again xs a = sym (ascending_is xs xs a (hold_same xs))
+
+  put_length_by : (o : Ordering) (x y : X) (ys rest : List X) → cmp x y ≡ o → (Contains (y ∷ ys) x → ⊥) → length rest ≡ suc (length ys) → length (by_order o (x ∷ y ∷ ys) (y ∷ ys) (y ∷ rest)) ≡ suc (length (y ∷ ys))
+  put_length_by Less x y ys rest e out h = refl
+  put_length_by Equal x y ys rest e out h = absurd (out (subst (λ (w : X). Contains (y ∷ ys) w) (sym (same x y e)) (in_head y ys)))
+  put_length_by Greater x y ys rest e out h = ap suc h
+
+  put_length : (x : X) (ys : List X) → (Contains ys x → ⊥) → length (put cmp x ys) ≡ suc (length ys)
+  put_length x [] out = refl
+  put_length x (y ∷ ys) out = put_length_by (cmp x y) x y ys (put cmp x ys) refl out (put_length x ys (λ m. out (in_tail y ys x m)))
+
+  -- where no element stands twice, none is lost
+  pub apart_length : (xs : List X) → AreApart xs → length (ascending cmp xs) ≡ length xs
+  apart_length [] h = refl
+  apart_length (x ∷ xs) h = put_length x (ascending cmp xs) (λ m. h.0 ((ascending_holds xs x).0 m)) ∙ ap suc (apart_length xs h.1)
+
+  -- a list that holds the same, and no element twice, is as long
+  pub apart_as_long : (xs ys : List X) → HoldSame xs ys → AreApart ys → length (ascending cmp xs) ≡ length ys
+  apart_as_long xs ys h a = ap length (ascending_same xs ys h) ∙ apart_length ys a
+
+-- what is true of all of a list is true of all of it in order
+module _ {X : Type 0} (P : X → Type 0) (cmp : X → X → Ordering) where
+  all_by : (o : Ordering) (x y : X) (ys rest : List X) → P x → P y → AllByRecursion P ys → AllByRecursion P rest → AllByRecursion P (by_order o (x ∷ y ∷ ys) (y ∷ ys) (y ∷ rest))
+  all_by Less x y ys rest p q h k = (p, (q, h))
+  all_by Equal x y ys rest p q h k = (q, h)
+  all_by Greater x y ys rest p q h k = (q, k)
+
+  pub all_put : (x : X) (ys : List X) → P x → AllByRecursion P ys → AllByRecursion P (put cmp x ys)
+  all_put x [] p h = (p, tt)
+  all_put x (y ∷ ys) p h = all_by (cmp x y) x y ys (put cmp x ys) p h.0 h.1 (all_put x ys p h.1)
+
+  pub all_ascending : (xs : List X) → AllByRecursion P xs → AllByRecursion P (ascending cmp xs)
+  all_ascending [] h = tt
+  all_ascending (x ∷ xs) h = all_put x (ascending cmp xs) h.0 (all_ascending xs h.1)
+
+-- a function that keeps the order of the elements of a list may go before or after the arranging
+module _ {X Y : Type 0} (f : X → Y) (cmp : X → X → Ordering) (other : Y → Y → Ordering) (P : X → Type 0) (keeps : (x y : X) → P x → P y → cmp x y ≡ other (f x) (f y)) where
+  map_by : (o : Ordering) (x y : X) (ys rest : List X) → map f (by_order o (x ∷ y ∷ ys) (y ∷ ys) (y ∷ rest)) ≡ by_order o (f x ∷ f y ∷ map f ys) (f y ∷ map f ys) (f y ∷ map f rest)
+  map_by Less x y ys rest = refl
+  map_by Equal x y ys rest = refl
+  map_by Greater x y ys rest = refl
+
+  map_put : (x : X) (ys : List X) → P x → AllByRecursion P ys → map f (put cmp x ys) ≡ put other (f x) (map f ys)
+  map_put x [] p h = refl
+  map_put x (y ∷ ys) p h =
+      map_by (cmp x y) x y ys (put cmp x ys)
+      ∙ ap (λ (o : Ordering). by_order o (f x ∷ f y ∷ map f ys) (f y ∷ map f ys) (f y ∷ map f (put cmp x ys))) (keeps x y p h.0)
+      ∙ ap (λ (zs : List Y). by_order (other (f x) (f y)) (f x ∷ f y ∷ map f ys) (f y ∷ map f ys) (f y ∷ zs)) (map_put x ys p h.1)
+
+  pub map_ascending : (xs : List X) → AllByRecursion P xs → map f (ascending cmp xs) ≡ ascending other (map f xs)
+  map_ascending [] h = refl
+  map_ascending (x ∷ xs) h = map_put x (ascending cmp xs) h.0 (all_ascending P cmp xs h.1) ∙ ap (put other (f x)) (map_ascending xs h.1)

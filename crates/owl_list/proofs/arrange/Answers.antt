@@ -1,4 +1,4 @@
-use Rattle.owl_list.proofs.Arranged.{arranged}
+use Rattle.owl_list.specs.ArrangedLaws.{arranged}
 use Rattle.owl_list.proofs.arrange.Goals as goal
 
 pub returns : goal.returns
