@@ -1,5 +1,7 @@
 pub mod Tags
 pub mod Rows
+pub mod Places
+pub mod PlacesLaws
 pub mod Atoms
 pub mod Trees
 pub mod TreeLaws

@@ -1,0 +1,87 @@
+-- The row place by place says what the row says.
+use Rattle.std.proofs.Common.{◌≡◌, refl, sym, ap, ◌∙◌, true, false, arith}
+use Rattle.std.specs.Prelude.{ℕ, zero, suc, Bool, ◌&&◌, ◌-◌, nat_eq, nat_le, min, List, [], ◌∷◌, length}
+use Rattle.std.specs.List.{list_all}
+use Rattle.std.proofs.Math.Bool.{and-true}
+use Rattle.std.proofs.Math.Dec.{leb-suc-suc, leb-suc-zero}
+use Rattle.std.proofs.lemmas.Bool.{le-leb}
+use Rattle.owl_tree.specs.declared.tag.Tag.{Tag}
+use Rattle.owl_tree.specs.declared.row.Sort.{Sort}
+use Rattle.owl_tree.specs.declared.row.Rest.{Rest}
+use Rattle.owl_tree.specs.declared.row.Rest.TheVariants.{Nothing, Optional, AtLeast, SomeThen, Set}
+use Rattle.owl_tree.specs.Rows.{Row, Leaf, Node, admits, ends_in, fits, fits_front, fits_rest}
+use Rattle.owl_tree.specs.Places.{admits_at, admits_from, counts, counts_rest}
+
+at_least_all : (sort : Sort) (least place : ℕ) (ts : List Tag) → list_all (admits sort) ts ≡ admits_from (Node [] (AtLeast sort least)) place ts
+at_least_all sort least place [] = refl
+at_least_all sort least place (t ∷ ts) = ap (λ (b : Bool). admits sort t && b) (at_least_all sort least (suc place) ts)
+
+set_all : (sort : Sort) (least place : ℕ) (ts : List Tag) → list_all (admits sort) ts ≡ admits_from (Node [] (Set sort least)) place ts
+set_all sort least place [] = refl
+set_all sort least place (t ∷ ts) = ap (λ (b : Bool). admits sort t && b) (set_all sort least (suc place) ts)
+
+some_then : (sort last : Sort) (place : ℕ) (t u : Tag) (ts : List Tag) → ends_in sort last (t ∷ u ∷ ts) ≡ admits_from (Node [] (SomeThen sort last)) place (t ∷ u ∷ ts)
+some_then sort last place t u [] = ap (λ (b : Bool). admits sort t && b) (sym (and-true (admits last u)))
+some_then sort last place t u (v ∷ ts) = ap (λ (b : Bool). admits sort t && b) (some_then sort last (suc place) u v ts)
+
+-- so many, or more, are too many
+none_counted : (n : ℕ) → nat_eq (suc n) 0 ≡ false
+none_counted n = grind arith
+
+two_counted : (n : ℕ) → nat_le (suc (suc n)) 1 ≡ false
+two_counted n = grind arith
+
+two_enough : (n : ℕ) → nat_le 2 (suc (suc n)) ≡ true
+two_enough n = le-leb 2 (suc (suc n)) (omega arith)
+
+one_few : nat_le 2 1 ≡ false
+one_few = refl
+
+none_in_front : (rest : Rest) (n : ℕ) → counts (Node [] rest) n ≡ counts_rest rest n
+none_in_front rest n =
+    let e : nat_le 0 n ≡ true = le-leb 0 n (omega arith) in
+    let f : n - 0 ≡ n = omega arith in
+    rw (e, f) refl
+
+one_in_front : (sort : Sort) (front : List Sort) (rest : Rest) (n : ℕ) → counts (Node (sort ∷ front) rest) (suc n) ≡ counts (Node front rest) n
+one_in_front sort front rest n =
+    let e : nat_le (suc (length front)) (suc n) ≡ nat_le (length front) n = leb-suc-suc (length front) n in
+    let f : suc n - suc (length front) ≡ n - length front = omega arith in
+    rw (e, f) refl
+
+rest_by_place : (rest : Rest) (place : ℕ) (ts : List Tag) → fits_rest rest ts ≡ (counts_rest rest (length ts) && admits_from (Node [] rest) place ts)
+rest_by_place Nothing place [] = refl
+rest_by_place Nothing place (t ∷ ts) = sym (ap (λ (b : Bool). b && false) (none_counted (length ts)))
+rest_by_place (Optional sort) place [] = refl
+rest_by_place (Optional sort) place (t ∷ []) = sym (and-true (admits sort t))
+rest_by_place (Optional sort) place (t ∷ u ∷ ts) = sym (ap (λ (b : Bool). b && admits_from (Node [] (Optional sort)) place (t ∷ u ∷ ts)) (two_counted (length ts)))
+rest_by_place (AtLeast sort least) place ts = ap (λ (b : Bool). nat_le least (length ts) && b) (at_least_all sort least place ts)
+rest_by_place (SomeThen sort last) place [] = refl
+rest_by_place (SomeThen sort last) place (t ∷ []) = refl
+rest_by_place (SomeThen sort last) place (t ∷ u ∷ ts) =
+    some_then sort last place t u ts ∙ sym (ap (λ (b : Bool). b && admits_from (Node [] (SomeThen sort last)) place (t ∷ u ∷ ts)) (two_enough (length ts)))
+rest_by_place (Set sort least) place ts = ap (λ (b : Bool). nat_le (min least 1) (length ts) && b) (set_all sort least place ts)
+
+-- one sort less in front, one place less
+one_place_on : (sort : Sort) (front : List Sort) (rest : Rest) (place : ℕ) (ts : List Tag) → admits_from (Node (sort ∷ front) rest) (suc place) ts ≡ admits_from (Node front rest) place ts
+one_place_on sort front rest place [] = refl
+one_place_on sort front rest place (t ∷ ts) = ap (λ (b : Bool). admits_at (Node front rest) place (length ts) t && b) (one_place_on sort front rest (suc place) ts)
+
+turned : (a b c : Bool) → (a && (b && c)) ≡ (b && (a && c))
+turned true b c = refl
+turned false true c = refl
+turned false false c = refl
+
+front_by_place : (front : List Sort) (rest : Rest) (ts : List Tag) → fits_front front rest ts ≡ (counts (Node front rest) (length ts) && admits_from (Node front rest) 0 ts)
+front_by_place [] rest ts = rest_by_place rest 0 ts ∙ sym (ap (λ (b : Bool). b && admits_from (Node [] rest) 0 ts) (none_in_front rest (length ts)))
+front_by_place (sort ∷ front) rest [] = sym (ap (λ (b : Bool). (b && counts_rest rest (0 - suc (length front))) && true) (leb-suc-zero (length front)))
+front_by_place (sort ∷ front) rest (t ∷ ts) =
+    ap (λ (b : Bool). admits sort t && b) (front_by_place front rest ts)
+    ∙ turned (admits sort t) (counts (Node front rest) (length ts)) (admits_from (Node front rest) 0 ts)
+    ∙ ap (λ (b : Bool). counts (Node front rest) (length ts) && (admits sort t && b)) (sym (one_place_on sort front rest 0 ts))
+    ∙ ap (λ (b : Bool). b && admits_from (Node (sort ∷ front) rest) 0 (t ∷ ts)) (sym (one_in_front sort front rest (length ts)))
+
+-- kids fit a row where they may be so many, and each may stand at its place
+pub fits_by_place : (row : Row) (ts : List Tag) → fits row ts ≡ (counts row (length ts) && admits_from row 0 ts)
+fits_by_place (Leaf sort) ts = refl
+fits_by_place (Node front rest) ts = front_by_place front rest ts
