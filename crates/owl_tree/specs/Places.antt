@@ -1,5 +1,5 @@
 -- What may stand at each place below a tag: its row, place by place.
-use Rattle.std.specs.Prelude.{ℕ, zero, suc, Bool, true, false, ◌&&◌, ◌-◌, nat_eq, nat_le, min, List, [], ◌∷◌, length}
+use Rattle.std.specs.Prelude.{ℕ, zero, suc, Bool, true, false, ◌&&◌, ◌-◌, nat_eq, nat_le, min, List, [], ◌∷◌, length, slice_get, Option, None, Some}
 use Rattle.owl_tree.specs.declared.tag.Tag.{Tag}
 use Rattle.owl_tree.specs.declared.row.Sort.{Sort}
 use Rattle.owl_tree.specs.declared.row.Rest.{Rest}
@@ -28,16 +28,15 @@ rest_admits (SomeThen sort last) zero t = admits last t
 rest_admits (SomeThen sort last) (suc later) t = admits sort t
 rest_admits (Set sort least) later t = admits sort t
 
--- the kid at the place may have the tag: in front by the sort at the place, and behind it by the rest
-abbrev pub front_admits : List Sort → Rest → ℕ → ℕ → Tag → Bool
-front_admits [] rest place later t = rest_admits rest later t
-front_admits (sort ∷ front) rest zero later t = admits sort t
-front_admits (sort ∷ front) rest (suc place) later t = front_admits front rest place later t
+-- a kid may have the tag, by the sort at its place in front, if there is one, and else by the rest
+abbrev pub place_admits : Option Sort → Rest → ℕ → Tag → Bool
+place_admits (Some sort) rest later t = admits sort t
+place_admits None rest later t = rest_admits rest later t
 
 -- the kid at the place may have the tag, where so many stand behind it
 abbrev pub admits_at : Row → ℕ → ℕ → Tag → Bool
 admits_at (Leaf sort) place later t = false
-admits_at (Node front rest) place later t = front_admits front rest place later t
+admits_at (Node front rest) place later t = place_admits (slice_get front place) rest later t
 
 -- each kid from this place on may have its tag
 abbrev pub admits_from : Row → ℕ → List Tag → Bool

@@ -1,6 +1,6 @@
 -- The row place by place says what the row says.
-use Rattle.std.proofs.Common.{◌≡◌, refl, sym, ap, ◌∙◌, true, false, arith}
-use Rattle.std.specs.Prelude.{ℕ, zero, suc, Bool, ◌&&◌, ◌-◌, nat_eq, nat_le, min, List, [], ◌∷◌, length}
+use Rattle.std.proofs.Common.{◌≡◌, refl, sym, ap, ◌∙◌, true, false, arith, length-drop, drop-cons, drop_of_length-le}
+use Rattle.std.specs.Prelude.{ℕ, suc, Bool, ◌&&◌, ◌-◌, nat_eq, nat_le, min, List, [], ◌∷◌, length, get_or, drop, ◌<◌, ◌≤◌}
 use Rattle.std.specs.List.{list_all}
 use Rattle.std.proofs.Math.Bool.{and-true}
 use Rattle.std.proofs.Math.Dec.{leb-suc-suc, leb-suc-zero}
@@ -24,7 +24,7 @@ some_then : (sort last : Sort) (place : ℕ) (t u : Tag) (ts : List Tag) → end
 some_then sort last place t u [] = ap (λ (b : Bool). admits sort t && b) (sym (and-true (admits last u)))
 some_then sort last place t u (v ∷ ts) = ap (λ (b : Bool). admits sort t && b) (some_then sort last (suc place) u v ts)
 
--- so many, or more, are too many
+-- what the tests of numbers say where a kid or two are there
 none_counted : (n : ℕ) → nat_eq (suc n) 0 ≡ false
 none_counted n = grind arith
 
@@ -33,9 +33,6 @@ two_counted n = grind arith
 
 two_enough : (n : ℕ) → nat_le 2 (suc (suc n)) ≡ true
 two_enough n = le-leb 2 (suc (suc n)) (omega arith)
-
-one_few : nat_le 2 1 ≡ false
-one_few = refl
 
 none_in_front : (rest : Rest) (n : ℕ) → counts (Node [] rest) n ≡ counts_rest rest n
 none_in_front rest n =
@@ -85,3 +82,16 @@ front_by_place (sort ∷ front) rest (t ∷ ts) =
 pub fits_by_place : (row : Row) (ts : List Tag) → fits row ts ≡ (counts row (length ts) && admits_from row 0 ts)
 fits_by_place (Leaf sort) ts = refl
 fits_by_place (Node front rest) ts = front_by_place front rest ts
+
+-- the kids from a place on are the one at the place and those behind it, or none
+module _ (row : Row) (ts : List Tag) (place : ℕ) where
+  pub from_place : (t : Tag) → place < length ts → admits_from row place (drop place ts) ≡ (admits_at row place (length ts - place - 1) (get_or ts place t) && admits_from row (suc place) (drop (suc place) ts))
+  from_place t inside =
+      let f : length (drop (suc place) ts) ≡ length ts - place - 1 = length-drop (suc place) ts ∙ omega arith in
+      ap (admits_from row place) (drop-cons ts place t inside) ∙ rw f refl
+
+  pub misplaced : (t : Tag) → place < length ts → false ≡ admits_at row place (length ts - place - 1) (get_or ts place t) → admits_from row place (drop place ts) ≡ false
+  misplaced t inside e = from_place t inside ∙ sym (ap (λ (b : Bool). b && admits_from row (suc place) (drop (suc place) ts)) e)
+
+  pub from_end : length ts ≤ place → admits_from row place (drop place ts) ≡ true
+  from_end end = ap (admits_from row place) (drop_of_length-le ts end)

@@ -1,9 +1,9 @@
 //! What each tag has below it: one table, by which shape is tested here and
 //! Functional-Style Syntax is read and written above.
 
-ghost use Rattle.std.specs.Prelude.{◌≡◌, length};
-ghost use Rattle.std.specs.List.{list_all};
-ghost use Rattle.owl_tree.specs.Rows.{admits, ends_in, fits, fits_front, fits_rest, is_from_to, is_of_sort, row_of, row_seen, set_start, takes};
+ghost use Rattle.std.specs.Prelude.{◌≡◌};
+ghost use Rattle.owl_tree.specs.Places.{admits_at, counts, counts_rest, rest_admits};
+ghost use Rattle.owl_tree.specs.Rows.{admits, fits, is_from_to, is_of_sort, row_of, row_seen, set_start, takes};
 
 use crate::atom::Atom;
 use crate::tag::Tag;
@@ -283,51 +283,58 @@ impl Sort {
             Entity => tag.is_from_to(Tag::Class, Tag::NamedIndividual),
         }
     }
+}
 
-    fn admits_all(self, tags: &[Tag]) -> bool
-        ensures { result ≡ list_all (admits self) tags.now }
+impl Rest {
+    fn takes_count(self, count: usize) -> bool
+        ensures { result ≡ counts_rest self count }
     {
-        tags.iter().all(|tag| self.admits(*tag))
+        match self {
+            Rest::Nothing => count == 0,
+            Rest::Optional(_) => count <= 1,
+            Rest::AtLeast(_, least) => least <= count,
+            Rest::SomeThen(_, _) => 2 <= count,
+            Rest::Set(_, least) => least.min(1) <= count,
+        }
+    }
+
+    fn admits(self, later: usize, tag: Tag) -> bool
+        ensures { result ≡ rest_admits self later tag }
+    {
+        match self {
+            Rest::Nothing => false,
+            Rest::Optional(sort) | Rest::AtLeast(sort, _) | Rest::Set(sort, _) => sort.admits(tag),
+            Rest::SomeThen(sort, last) => if later == 0 { last } else { sort }.admits(tag),
+        }
     }
 }
 
-/// One or more of the first sort, and then one of the last.
-#[tactic(auto, using(crate::proofs::Endings::too_short))]
-fn ends_in(sort: Sort, last: Sort, tags: &[Tag]) -> bool
-    ensures { result ≡ ends_in sort last tags.now }
-{
-    match tags {
-        [] | [_] => false,
-        [first, second] => sort.admits(*first) && last.admits(*second),
-        [first, others @ ..] => sort.admits(*first) && ends_in(sort, last, others),
+impl Row {
+    /// Whether a node of this row may have so many kids. A leaf has none.
+    ///
+    /// The members of a set count without repeats, so that one is enough where
+    /// two or more have to be written.
+    pub fn takes_count(self, count: usize) -> bool
+        ensures { result ≡ counts (row_seen self) count }
+    {
+        match self {
+            Row::Leaf(_) => false,
+            Row::Node(front, rest) => front.len() <= count && rest.takes_count(count - front.len()),
+        }
     }
-}
 
-fn fits_rest(rest: Rest, tags: &[Tag]) -> bool
-    ensures { result ≡ fits_rest rest tags.now }
-{
-    match rest {
-        Rest::Nothing => tags.is_empty(),
-        Rest::Optional(sort) => match tags {
-            [] => true,
-            [tag] => sort.admits(*tag),
-            [_, _, ..] => false,
-        },
-        Rest::AtLeast(sort, least) => least <= tags.len() && sort.admits_all(tags),
-        Rest::SomeThen(sort, last) => ends_in(sort, last, tags),
-        Rest::Set(sort, least) => least.min(1) <= tags.len() && sort.admits_all(tags),
-    }
-}
-
-fn fits_front(front: &[Sort], rest: Rest, tags: &[Tag]) -> bool
-    ensures { result ≡ fits_front front.now rest tags.now }
-{
-    match front {
-        [] => fits_rest(rest, tags),
-        [sort, sorts @ ..] => match tags {
-            [] => false,
-            [tag, others @ ..] => sort.admits(*tag) && fits_front(sorts, rest, others),
-        },
+    /// Whether the kid at this place, counted from 0, may have the tag, where so
+    /// many kids stand behind it. A leaf has no places.
+    pub fn admits(self, place: usize, later: usize, tag: Tag) -> bool
+        ensures { result ≡ admits_at (row_seen self) place later tag }
+    {
+        match self {
+            Row::Leaf(_) => false,
+            Row::Node(front, rest) => match front.get(place) {
+                Some(sort) => sort.admits(tag),
+                None => rest.admits(later, tag),
+            },
+        }
     }
 }
 
@@ -339,13 +346,20 @@ impl Tag {
     /// two or more have to be written. Two counts are no part of a row: at most
     /// two members of InverseObjectProperties (Structural Specification,
     /// section 9.2.4), and at least one property in HasKey (section 9.5).
+    #[tactic(auto, using(crate::specs::PlacesLaws::fits_by_place, crate::specs::PlacesLaws::from_end))]
     pub fn fits(self, kids: &[Tag]) -> bool
         ensures { result ≡ fits (row_of self) kids.now }
     {
-        match self.row() {
-            Row::Leaf(_) => false,
-            Row::Node(front, rest) => fits_front(front, rest, kids),
+        let row = self.row();
+        if !row.takes_count(kids.len()) {
+            return false;
         }
+        for (place, tag) in kids.iter().enumerate() {
+            if !row.admits(place, kids.len() - place - 1, *tag) {
+                return false;
+            }
+        }
+        true
     }
 
     /// Whether a leaf with this tag may hold the atom, by the tag's row. The tag

@@ -1,2 +1,3 @@
 mod atoms;
+mod places;
 mod rows;
