@@ -10,15 +10,12 @@ use Rattle.owl_tree.specs.declared.row.Sort.{Sort}
 use Rattle.owl_tree.specs.declared.row.Rest.{Rest}
 use Rattle.owl_tree.specs.declared.row.Rest.TheVariants.{Nothing, Optional, AtLeast, SomeThen, Set}
 use Rattle.owl_tree.specs.Rows.{Row, Leaf, Node, admits, ends_in, fits, fits_front, fits_rest}
-use Rattle.owl_tree.specs.Places.{admits_at, admits_from, counts, counts_rest}
+use Rattle.owl_tree.specs.Places.{admits_at, admits_from, counts, counts_rest, rest_admits}
 
-at_least_all : (sort : Sort) (least place : ℕ) (ts : List Tag) → list_all (admits sort) ts ≡ admits_from (Node [] (AtLeast sort least)) place ts
-at_least_all sort least place [] = refl
-at_least_all sort least place (t ∷ ts) = ap (λ (b : Bool). admits sort t && b) (at_least_all sort least (suc place) ts)
-
-set_all : (sort : Sort) (least place : ℕ) (ts : List Tag) → list_all (admits sort) ts ≡ admits_from (Node [] (Set sort least)) place ts
-set_all sort least place [] = refl
-set_all sort least place (t ∷ ts) = ap (λ (b : Bool). admits sort t && b) (set_all sort least (suc place) ts)
+-- where one sort is behind the front, all kids have to be of it
+all_of_one : (rest : Rest) (sort : Sort) → ((later : ℕ) (t : Tag) → rest_admits rest later t ≡ admits sort t) → (place : ℕ) (ts : List Tag) → list_all (admits sort) ts ≡ admits_from (Node [] rest) place ts
+all_of_one rest sort same place [] = refl
+all_of_one rest sort same place (t ∷ ts) = rw (same (length ts) t, all_of_one rest sort same (suc place) ts) refl
 
 some_then : (sort last : Sort) (place : ℕ) (t u : Tag) (ts : List Tag) → ends_in sort last (t ∷ u ∷ ts) ≡ admits_from (Node [] (SomeThen sort last)) place (t ∷ u ∷ ts)
 some_then sort last place t u [] = ap (λ (b : Bool). admits sort t && b) (sym (and-true (admits last u)))
@@ -48,16 +45,15 @@ one_in_front sort front rest n =
 
 rest_by_place : (rest : Rest) (place : ℕ) (ts : List Tag) → fits_rest rest ts ≡ (counts_rest rest (length ts) && admits_from (Node [] rest) place ts)
 rest_by_place Nothing place [] = refl
-rest_by_place Nothing place (t ∷ ts) = sym (ap (λ (b : Bool). b && false) (none_counted (length ts)))
+rest_by_place Nothing place (t ∷ ts) = rw (none_counted (length ts)) refl
 rest_by_place (Optional sort) place [] = refl
 rest_by_place (Optional sort) place (t ∷ []) = sym (and-true (admits sort t))
-rest_by_place (Optional sort) place (t ∷ u ∷ ts) = sym (ap (λ (b : Bool). b && admits_from (Node [] (Optional sort)) place (t ∷ u ∷ ts)) (two_counted (length ts)))
-rest_by_place (AtLeast sort least) place ts = ap (λ (b : Bool). nat_le least (length ts) && b) (at_least_all sort least place ts)
+rest_by_place (Optional sort) place (t ∷ u ∷ ts) = rw (two_counted (length ts)) refl
+rest_by_place (AtLeast sort least) place ts = ap (λ (b : Bool). nat_le least (length ts) && b) (all_of_one (AtLeast sort least) sort (λ _ _. refl) place ts)
 rest_by_place (SomeThen sort last) place [] = refl
 rest_by_place (SomeThen sort last) place (t ∷ []) = refl
-rest_by_place (SomeThen sort last) place (t ∷ u ∷ ts) =
-    some_then sort last place t u ts ∙ sym (ap (λ (b : Bool). b && admits_from (Node [] (SomeThen sort last)) place (t ∷ u ∷ ts)) (two_enough (length ts)))
-rest_by_place (Set sort least) place ts = ap (λ (b : Bool). nat_le (min least 1) (length ts) && b) (set_all sort least place ts)
+rest_by_place (SomeThen sort last) place (t ∷ u ∷ ts) = rw (two_enough (length ts)) (some_then sort last place t u ts)
+rest_by_place (Set sort least) place ts = ap (λ (b : Bool). nat_le (min least 1) (length ts) && b) (all_of_one (Set sort least) sort (λ _ _. refl) place ts)
 
 -- one sort less in front, one place less
 one_place_on : (sort : Sort) (front : List Sort) (rest : Rest) (place : ℕ) (ts : List Tag) → admits_from (Node (sort ∷ front) rest) (suc place) ts ≡ admits_from (Node front rest) place ts
@@ -70,13 +66,11 @@ turned false true c = refl
 turned false false c = refl
 
 front_by_place : (front : List Sort) (rest : Rest) (ts : List Tag) → fits_front front rest ts ≡ (counts (Node front rest) (length ts) && admits_from (Node front rest) 0 ts)
-front_by_place [] rest ts = rest_by_place rest 0 ts ∙ sym (ap (λ (b : Bool). b && admits_from (Node [] rest) 0 ts) (none_in_front rest (length ts)))
-front_by_place (sort ∷ front) rest [] = sym (ap (λ (b : Bool). (b && counts_rest rest (0 - suc (length front))) && true) (leb-suc-zero (length front)))
+front_by_place [] rest ts = rw (none_in_front rest (length ts)) (rest_by_place rest 0 ts)
+front_by_place (sort ∷ front) rest [] = rw (leb-suc-zero (length front)) refl
 front_by_place (sort ∷ front) rest (t ∷ ts) =
-    ap (λ (b : Bool). admits sort t && b) (front_by_place front rest ts)
-    ∙ turned (admits sort t) (counts (Node front rest) (length ts)) (admits_from (Node front rest) 0 ts)
-    ∙ ap (λ (b : Bool). counts (Node front rest) (length ts) && (admits sort t && b)) (sym (one_place_on sort front rest 0 ts))
-    ∙ ap (λ (b : Bool). b && admits_from (Node (sort ∷ front) rest) 0 (t ∷ ts)) (sym (one_in_front sort front rest (length ts)))
+    rw (one_in_front sort front rest (length ts), one_place_on sort front rest 0 ts, front_by_place front rest ts)
+    (turned (admits sort t) (counts (Node front rest) (length ts)) (admits_from (Node front rest) 0 ts))
 
 -- kids fit a row where they may be so many, and each may stand at its place
 pub fits_by_place : (row : Row) (ts : List Tag) → fits row ts ≡ (counts row (length ts) && admits_from row 0 ts)

@@ -303,8 +303,11 @@ impl Rest {
     {
         match self {
             Rest::Nothing => false,
-            Rest::Optional(sort) | Rest::AtLeast(sort, _) | Rest::Set(sort, _) => sort.admits(tag),
-            Rest::SomeThen(sort, last) => if later == 0 { last } else { sort }.admits(tag),
+            Rest::SomeThen(_, last) if later == 0 => last.admits(tag),
+            Rest::Optional(sort)
+            | Rest::AtLeast(sort, _)
+            | Rest::SomeThen(sort, _)
+            | Rest::Set(sort, _) => sort.admits(tag),
         }
     }
 }
