@@ -1,0 +1,10 @@
+pub mod Comparing
+pub mod Differences
+pub mod Forms
+pub mod Found
+pub mod Grown
+pub mod Inverses
+pub mod Kids
+pub mod Ordering
+pub mod Outcomes
+pub mod Shapes

@@ -1,0 +1,5 @@
+use Rattle.owl_arena.proofs.Shapes.{not_other, only_where}
+use Rattle.owl_arena.proofs.arena.Arena.fits_keys.Goals as goal
+
+pub returns-else-ne : goal.returns-else-ne
+returns-else-ne c = only_where _ _ _ (not_other _ _ _ c.ne.ensures c.if-ne.false) c.some_has_key.ensures

@@ -1,0 +1,9 @@
+pub mod Held
+pub mod Shared
+pub mod Growth
+pub mod Nodes
+pub mod HeldLaws
+pub mod Roots
+pub mod InOrder
+pub mod Members
+pub mod Differences

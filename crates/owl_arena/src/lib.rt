@@ -1,0 +1,17 @@
+//! Expressions in an arena, in which equal trees share one number.
+#![tactic(auto)]
+
+mod arena;
+mod expr_id;
+mod grow;
+mod nodes;
+mod order;
+mod sets;
+mod shape;
+
+pub use arena::Arena;
+pub use expr_id::ExprId;
+pub use grow::Grow;
+
+#[cfg(test)]
+mod tests;

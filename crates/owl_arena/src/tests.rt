@@ -1,0 +1,3 @@
+mod limits;
+mod made;
+mod rows;

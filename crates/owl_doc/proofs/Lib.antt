@@ -1,0 +1,9 @@
+pub mod Adding
+pub mod Begun
+pub mod Collections
+pub mod Finished
+pub mod MarkedTrees
+pub mod Marking
+pub mod SameDocuments
+pub mod SameHeads
+pub mod SameTrees

@@ -1,0 +1,9 @@
+pub mod Heads
+pub mod Documents
+pub mod Counts
+pub mod Rules
+pub mod Collections
+pub mod Kept
+pub mod Adding
+pub mod Roots
+pub mod Marks

@@ -1,0 +1,4 @@
+mod axioms;
+mod made;
+mod rows;
+mod same;
