@@ -1,9 +1,8 @@
 //! A document with each kind of axiom, built in two orders.
 
-use super::made::{add, annotate, comment, iri, leaf, node};
+use super::made::{add, begun, import_and_annotate, leaf, node};
 use crate::{Builder, Doc};
-use owl_arena::{Arena, ExprId};
-use owl_atom::Prefixes;
+use owl_arena::ExprId;
 use owl_tree::Tag;
 use owl_tree::Tag::*;
 use std::alloc::Global;
@@ -251,38 +250,48 @@ fn tree(
     }
 }
 
-fn begun(alloc: Global) -> Builder {
-    Builder::new(alloc, Prefixes::empty(alloc), Arena::new(alloc))
+fn table() -> &'static [&'static [Step]] {
+    &AXIOMS
 }
 
-/// All axioms in the order of the table.
+fn add_axiom(
+    alloc: Global,
+    builder: &mut Builder,
+    steps: &[Step],
+    shuffled: bool,
+) -> Result<bool, Fail> {
+    let axiom = tree(alloc, builder, steps, shuffled)?;
+    Ok(add(builder, axiom)??)
+}
+
+/// Adds all axioms in the order of the table.
+fn add_in_order(alloc: Global, builder: &mut Builder) -> Result<(), Fail> {
+    for steps in table() {
+        add_axiom(alloc, builder, steps, false)?;
+    }
+    Ok(())
+}
+
+/// Adds all axioms from the last to the first, with each set in another order
+/// and a member twice.
+fn add_turned_round(alloc: Global, builder: &mut Builder) -> Result<(), Fail> {
+    for steps in table().iter().rev() {
+        add_axiom(alloc, builder, steps, true)?;
+    }
+    Ok(())
+}
+
 fn in_order(alloc: Global) -> Result<Doc, Fail> {
     let mut builder = begun(alloc);
-    for name in ['i', 'j'] {
-        builder.import(iri(alloc, name)?)?;
-        let note = comment(alloc, &mut builder, name)?;
-        annotate(&mut builder, note)??;
-    }
-    for steps in AXIOMS.iter() {
-        let axiom = tree(alloc, &mut builder, steps, false)?;
-        add(&mut builder, axiom)??;
-    }
+    import_and_annotate(alloc, &mut builder, "ij")?;
+    add_in_order(alloc, &mut builder)?;
     Ok(builder.finish())
 }
 
-/// All axioms from the last to the first, with each set in another order and a
-/// member twice.
 fn turned_round(alloc: Global) -> Result<Doc, Fail> {
     let mut builder = begun(alloc);
-    for steps in AXIOMS.iter().rev() {
-        let axiom = tree(alloc, &mut builder, steps, true)?;
-        add(&mut builder, axiom)??;
-    }
-    for name in ['j', 'i', 'j'] {
-        builder.import(iri(alloc, name)?)?;
-        let note = comment(alloc, &mut builder, name)?;
-        annotate(&mut builder, note)??;
-    }
+    add_turned_round(alloc, &mut builder)?;
+    import_and_annotate(alloc, &mut builder, "jij")?;
     Ok(builder.finish())
 }
 

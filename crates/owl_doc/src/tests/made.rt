@@ -1,11 +1,16 @@
 //! Trees over names of one letter.
 
 use crate::{AddFault, Builder};
-use owl_arena::ExprId;
-use owl_atom::{Iri, Label, Literal};
+use owl_arena::{Arena, ExprId};
+use owl_atom::{Iri, Label, Literal, Prefixes};
 use owl_tree::{Atom, Tag};
 use std::alloc::Global;
 use std::test::Fail;
+
+/// Nothing yet, and no prefixes.
+pub fn begun(alloc: Global) -> Builder {
+    Builder::new(alloc, Prefixes::empty(alloc), Arena::new(alloc))
+}
 
 pub fn iri(alloc: Global, name: char) -> Result<Iri, Fail> {
     Ok(Iri::of(alloc, &format!(in alloc; "http://example.org/{name}")?)?)
@@ -74,4 +79,23 @@ pub fn comment(alloc: Global, builder: &mut Builder, name: char) -> Result<ExprI
     let property = leaf(alloc, builder, Tag::AnnotationProperty, 'c')?;
     let value = leaf(alloc, builder, Tag::Literal, name)?;
     node(alloc, builder, Tag::Annotation, &[notes, property, value])
+}
+
+/// Adds the declaration of each of these classes.
+pub fn declare(alloc: Global, builder: &mut Builder, names: &str) -> Result<(), Fail> {
+    for name in names.chars() {
+        let axiom = declaration(alloc, builder, name)?;
+        add(builder, axiom)??;
+    }
+    Ok(())
+}
+
+/// Adds an import and an annotation for each of these names.
+pub fn import_and_annotate(alloc: Global, builder: &mut Builder, names: &str) -> Result<(), Fail> {
+    for name in names.chars() {
+        builder.import(iri(alloc, name)?)?;
+        let note = comment(alloc, builder, name)?;
+        annotate(builder, note)??;
+    }
+    Ok(())
 }

@@ -1,16 +1,11 @@
 //! Small documents, and what is told of them.
 
-use super::made::{add, annotate, comment, declaration, iri, leaf, node};
+use super::made::{add, annotate, begun, comment, declaration, declare, iri, leaf, node};
 use crate::{AddFault, Builder, Counts, Doc, Rule};
-use owl_arena::{Arena, ExprId};
-use owl_atom::Prefixes;
+use owl_arena::ExprId;
 use owl_tree::Tag;
 use std::alloc::Global;
 use std::test::Fail;
-
-fn begun(alloc: Global) -> Builder {
-    Builder::new(alloc, Prefixes::empty(alloc), Arena::new(alloc))
-}
 
 /// The declaration of a class, for whose three trees memory was taken.
 fn one_declaration(alloc: Global, builder: &mut Builder) -> Result<ExprId, Fail> {
@@ -18,35 +13,66 @@ fn one_declaration(alloc: Global, builder: &mut Builder) -> Result<ExprId, Fail>
     declaration(alloc, builder, 'A')
 }
 
+/// What comes of an axiom, of the same axiom, of a class, and of the axiom as
+/// an annotation.
+fn add_axioms(alloc: Global, builder: &mut Builder) -> Result<[Result<bool, AddFault>; 4], Fail> {
+    let axiom = one_declaration(alloc, builder)?;
+    let first = add(builder, axiom)?;
+    let second = add(builder, axiom)?;
+    let class = leaf(alloc, builder, Tag::Class, 'A')?;
+    Ok([
+        first,
+        second,
+        add(builder, class)?,
+        annotate(builder, axiom)?,
+    ])
+}
+
+fn axioms_added(alloc: Global) -> Result<[Result<bool, AddFault>; 4], Fail> {
+    let mut builder = begun(alloc);
+    add_axioms(alloc, &mut builder)
+}
+
 #[test]
 fn an_axiom_is_new_once(rt: HostRuntime) -> Result<(), Fail> {
-    let mut builder = begun(rt.alloc());
-    let axiom = one_declaration(rt.alloc(), &mut builder)?;
-    assert_eq!(rt; add(&mut builder, axiom)?, Ok(true));
-    assert_eq!(rt; add(&mut builder, axiom)?, Ok(false));
-    let class = leaf(rt.alloc(), &mut builder, Tag::Class, 'A')?;
-    assert_eq!(rt; add(&mut builder, class)?, Err(AddFault::WrongTag));
-    assert_eq!(rt; annotate(&mut builder, axiom)?, Err(AddFault::WrongTag));
+    let wrong = Err(AddFault::WrongTag);
+    assert_eq!(rt;
+        axioms_added(rt.alloc())?,
+        [Ok(true), Ok(false), wrong, wrong]
+    );
     Ok(())
+}
+
+/// What comes of an annotation, of the same annotation, and of it as an axiom.
+fn add_notes(alloc: Global, builder: &mut Builder) -> Result<[Result<bool, AddFault>; 3], Fail> {
+    let note = comment(alloc, builder, 'x')?;
+    let first = annotate(builder, note)?;
+    Ok([first, annotate(builder, note)?, add(builder, note)?])
+}
+
+fn notes_added(alloc: Global) -> Result<[Result<bool, AddFault>; 3], Fail> {
+    let mut builder = begun(alloc);
+    add_notes(alloc, &mut builder)
 }
 
 #[test]
 fn an_annotation_is_new_once(rt: HostRuntime) -> Result<(), Fail> {
-    let mut builder = begun(rt.alloc());
-    let note = comment(rt.alloc(), &mut builder, 'x')?;
-    assert_eq!(rt; annotate(&mut builder, note)?, Ok(true));
-    assert_eq!(rt; annotate(&mut builder, note)?, Ok(false));
-    assert_eq!(rt; add(&mut builder, note)?, Err(AddFault::WrongTag));
+    let wrong = Err(AddFault::WrongTag);
+    assert_eq!(rt; notes_added(rt.alloc())?, [Ok(true), Ok(false), wrong]);
     Ok(())
 }
 
-/// A document with one declaration, and one import that is given twice.
+/// One declaration, and one import that is given twice.
+fn fill_small(alloc: Global, builder: &mut Builder) -> Result<(), Fail> {
+    let axiom = one_declaration(alloc, builder)?;
+    add(builder, axiom)??;
+    builder.import(iri(alloc, 'i')?)?;
+    Ok(builder.import(iri(alloc, 'i')?)?)
+}
+
 fn small(alloc: Global) -> Result<Doc, Fail> {
     let mut builder = begun(alloc);
-    let axiom = one_declaration(alloc, &mut builder)?;
-    add(&mut builder, axiom)??;
-    builder.import(iri(alloc, 'i')?)?;
-    builder.import(iri(alloc, 'i')?)?;
+    fill_small(alloc, &mut builder)?;
     Ok(builder.finish())
 }
 
@@ -60,31 +86,30 @@ fn a_declaration_is_counted(rt: HostRuntime) -> Result<(), Fail> {
     };
     assert_eq!(rt; doc.counts(rt.alloc())?, counts);
     assert_eq!(rt; doc.head().imports.len(), 1);
-    assert!(rt; doc.head().iri.is_none());
     Ok(())
 }
 
-/// SubClassOf of A and B, with these notes.
-fn subclass(alloc: Global, builder: &mut Builder, notes: ExprId) -> Result<ExprId, Fail> {
+/// Adds a subclass axiom of A and B with these notes.
+fn add_subclass(alloc: Global, builder: &mut Builder, notes: &[ExprId]) -> Result<bool, Fail> {
+    let notes = node(alloc, builder, Tag::Notes, notes)?;
     let a = leaf(alloc, builder, Tag::Class, 'A')?;
     let b = leaf(alloc, builder, Tag::Class, 'B')?;
-    node(alloc, builder, Tag::SubClassOf, &[notes, a, b])
+    let axiom = node(alloc, builder, Tag::SubClassOf, &[notes, a, b])?;
+    Ok(add(builder, axiom)??)
 }
 
 /// Two declarations, and a subclass axiom bare and with an annotation.
+fn fill_worked(alloc: Global, builder: &mut Builder) -> Result<(), Fail> {
+    declare(alloc, builder, "BA")?;
+    let note = comment(alloc, builder, 'x')?;
+    add_subclass(alloc, builder, &[note])?;
+    add_subclass(alloc, builder, &[])?;
+    Ok(())
+}
+
 fn worked(alloc: Global) -> Result<Doc, Fail> {
     let mut builder = begun(alloc);
-    for name in ['B', 'A'] {
-        let axiom = declaration(alloc, &mut builder, name)?;
-        add(&mut builder, axiom)??;
-    }
-    let note = comment(alloc, &mut builder, 'x')?;
-    let notes = node(alloc, &mut builder, Tag::Notes, &[note])?;
-    let axiom = subclass(alloc, &mut builder, notes)?;
-    add(&mut builder, axiom)??;
-    let notes = node(alloc, &mut builder, Tag::Notes, &[])?;
-    let axiom = subclass(alloc, &mut builder, notes)?;
-    add(&mut builder, axiom)??;
+    fill_worked(alloc, &mut builder)?;
     Ok(builder.finish())
 }
 

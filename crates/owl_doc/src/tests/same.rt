@@ -1,6 +1,6 @@
 //! Documents that differ in one part.
 
-use super::made::{add, annotate, comment, declaration, iri};
+use super::made::{annotate, comment, declare, iri};
 use crate::{Builder, Doc};
 use owl_arena::Arena;
 use owl_atom::Prefixes;
@@ -18,20 +18,27 @@ struct Parts {
     classes: &'static str,
 }
 
-fn document(alloc: Global, prefixes: Prefixes, parts: &Parts) -> Result<Doc, Fail> {
-    let mut builder = Builder::new(alloc, prefixes, Arena::new(alloc));
+fn name(alloc: Global, builder: &mut Builder, parts: &Parts) -> Result<(), Fail> {
+    let ontology = iri(alloc, parts.iri)?;
     let version = match parts.version {
         Some(version) => Some(iri(alloc, version)?),
         None => None,
     };
-    builder.head(Some(iri(alloc, parts.iri)?), version);
+    builder.head(Some(ontology), version);
+    Ok(())
+}
+
+fn fill(alloc: Global, builder: &mut Builder, parts: &Parts) -> Result<(), Fail> {
+    name(alloc, builder, parts)?;
     builder.import(iri(alloc, parts.import)?)?;
-    let note = comment(alloc, &mut builder, parts.note)?;
-    annotate(&mut builder, note)??;
-    for class in parts.classes.chars() {
-        let axiom = declaration(alloc, &mut builder, class)?;
-        add(&mut builder, axiom)??;
-    }
+    let note = comment(alloc, builder, parts.note)?;
+    annotate(builder, note)??;
+    declare(alloc, builder, parts.classes)
+}
+
+fn document(alloc: Global, prefixes: Prefixes, parts: &Parts) -> Result<Doc, Fail> {
+    let mut builder = Builder::new(alloc, prefixes, Arena::new(alloc));
+    fill(alloc, &mut builder, parts)?;
     Ok(builder.finish())
 }
 
