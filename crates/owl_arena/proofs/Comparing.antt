@@ -9,7 +9,7 @@ use Rattle.std.proofs.lemmas.Bool.{eqb-false, eqb-true}
 use Rattle.std.proofs.lemmas.Bool.Decides.{nat_tests}
 use Rattle.std.proofs.lemmas.Cmp.{tied_itself}
 use Rattle.owl_tree.specs.Order.{kids_cmp, tag_cmp, tree_cmp}
-use Rattle.owl_tree.specs.OrderLaws.{only_equal_trees_tie, trees_total}
+use Rattle.owl_tree.specs.OrderLaws.{only_equal_trees_tie, then_nothing, trees_total}
 use Rattle.owl_tree.specs.TreeLaws.{kids_of_list_of}
 use Rattle.owl_tree.specs.Trees.{Tree, kids_in, kids_of, leaf, node}
 use Rattle.owl_arena.specs.Differences.{differ_or, first_difference}
@@ -21,11 +21,6 @@ use Rattle.owl_arena.specs.Shared.{HaveOneNumber}
 abbrev pub by_difference : List Tree → Option (ℕ × ℕ) → ℕ → ℕ → Ordering
 by_difference ts None n m = nat_cmp n m
 by_difference ts (Some p) n m = tree_cmp (tree_at ts p.0) (tree_at ts p.1)
-
-then_nothing : (o : Ordering) → ordering_then o Equal ≡ o
-then_nothing Less = refl
-then_nothing Equal = refl
-then_nothing Greater = refl
 
 -- what does not tie decides
 decided : (o p : Ordering) → (o ≡ Equal → ⊥) → ordering_then o p ≡ o

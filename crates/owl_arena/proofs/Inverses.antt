@@ -1,28 +1,16 @@
 -- At most two members, by their numbers.
 use Rattle.std.proofs.Common.{◌≡◌, ◌↔◌, ◌⊎◌, inl, inr, ◌<◌, ℕ, IsTrue, Bool, true, false, ◌||◌, List, [], ◌∷◌, length, drop, refl, subst}
 use Rattle.std.specs.Prelude.{nat_eq}
-use Rattle.std.specs.List.{AllByRecursion}
 use Rattle.std.proofs.lemmas.Bool.{and_from, and_parts, eq-eqb, eqb-true, or_cases, or_left, or_right}
-use Rattle.owl_tree.specs.declared.tag.Tag.TheVariants as tag
 use Rattle.owl_tree.specs.Equivalence.{IsEquivalent}
 use Rattle.owl_tree.specs.EquivalenceLaws.{equivalent_refl, equivalent_sym, equivalent_trans}
 use Rattle.owl_tree.specs.Shape.{AreAtMostTwo}
-use Rattle.owl_tree.specs.Trees.{Tree, no_kids, node}
+use Rattle.owl_tree.specs.ShapeTests.{AreLikeEither}
+use Rattle.owl_tree.specs.ShapeTestLaws.{none_at_most_two, some_at_most_two}
+use Rattle.owl_tree.specs.Trees.{Tree}
 use Rattle.owl_arena.specs.Held.{AreHeld, tree_at, trees_at}
 use Rattle.owl_arena.specs.Members.{are_at_most_two, are_either, are_one_other, other_from}
 use Rattle.owl_arena.specs.Shared.{TellEquivalence}
-
--- each tree is equivalent to one of two
-abbrev AreLikeEither : Tree → Tree → List Tree → Type 0
-AreLikeEither p q ts = AllByRecursion (λ t. IsEquivalent t p ⊎ IsEquivalent t q) ts
-
-swapped : (P Q : Type 0) → P ⊎ Q → Q ⊎ P
-swapped P Q (inl p) = inr p
-swapped P Q (inr q) = inl q
-
-like_swapped : (p q : Tree) (ts : List Tree) → AreLikeEither p q ts → AreLikeEither q p ts
-like_swapped p q [] h = tt
-like_swapped p q (t ∷ ts) h = (swapped _ _ h.0, like_swapped p q ts h.1)
 
 module _ (ts : List Tree) where
   like_number : (a b : ℕ) → nat_eq a b ≡ true → IsEquivalent (tree_at ts a) (tree_at ts b)
@@ -53,39 +41,32 @@ module _ (ts : List Tree) where
     met : (a b : ℕ) (p : Tree) → a < length ts → b < length ts → IsEquivalent (tree_at ts a) p → IsEquivalent (tree_at ts b) p → nat_eq a b ≡ true
     met a b p h j e f = eq-eqb a b ((tell a b h j).1 (equivalent_trans (tree_at ts a) p (tree_at ts b) e (equivalent_sym (tree_at ts b) p f)))
 
-    found_by : (one other id : ℕ) (p q : Tree) → one < length ts → other < length ts → id < length ts → IsEquivalent (tree_at ts one) p → IsEquivalent (tree_at ts other) q → IsEquivalent (tree_at ts id) p ⊎ IsEquivalent (tree_at ts id) q
+    found_by : (one other id : ℕ) (q : Tree) → one < length ts → other < length ts → id < length ts → IsEquivalent (tree_at ts other) q → IsEquivalent (tree_at ts id) (tree_at ts one) ⊎ IsEquivalent (tree_at ts id) q
         → (nat_eq id one || nat_eq id other) ≡ true
-    found_by one other id p q h j k e f (inl g) = or_left _ _ (met id one p k h g e)
-    found_by one other id p q h j k e f (inr g) = or_right _ _ (met id other q k j g f)
+    found_by one other id q h j k e (inl g) = or_left _ _ (met id one (tree_at ts one) k h g (equivalent_refl (tree_at ts one)))
+    found_by one other id q h j k e (inr g) = or_right _ _ (met id other q k j g e)
 
-    either_found : (one other : ℕ) (p q : Tree) (ids : List ℕ) → one < length ts → other < length ts → AreHeld ts ids → IsEquivalent (tree_at ts one) p → IsEquivalent (tree_at ts other) q → AreLikeEither p q (trees_at ts ids) → are_either one other ids ≡ true
-    either_found one other p q [] h j k e f g = refl
-    either_found one other p q (id ∷ ids) h j k e f g = and_from _ _ (found_by one other id p q h j k.0 e f g.0) (either_found one other p q ids h j k.1 e f g.1)
+    either_found : (one other : ℕ) (q : Tree) (ids : List ℕ) → one < length ts → other < length ts → AreHeld ts ids → IsEquivalent (tree_at ts other) q → AreLikeEither (tree_at ts one) q (trees_at ts ids) → are_either one other ids ≡ true
+    either_found one other q [] h j k e g = refl
+    either_found one other q (id ∷ ids) h j k e g = and_from _ _ (found_by one other id q h j k.0 e g.0) (either_found one other q ids h j k.1 e g.1)
 
     -- one that has another number than the one is like the other tree
-    like_other : (one id : ℕ) (p q : Tree) → one < length ts → id < length ts → nat_eq id one ≡ false → IsEquivalent (tree_at ts one) p → IsEquivalent (tree_at ts id) p ⊎ IsEquivalent (tree_at ts id) q → IsEquivalent (tree_at ts id) q
-    like_other one id p q h j apart e (inl g) = let same = met id one p j h g e in absurd cc
-    like_other one id p q h j apart e (inr g) = g
+    like_other : (one id : ℕ) (q : Tree) → one < length ts → id < length ts → nat_eq id one ≡ false → IsEquivalent (tree_at ts id) (tree_at ts one) ⊎ IsEquivalent (tree_at ts id) q → IsEquivalent (tree_at ts id) q
+    like_other one id q h j apart (inl g) = let same = met id one (tree_at ts one) j h g (equivalent_refl (tree_at ts one)) in absurd cc
+    like_other one id q h j apart (inr g) = g
 
-    one_other_by : (one id : ℕ) (p q : Tree) (ids : List ℕ) (is : Bool) → nat_eq id one ≡ is → one < length ts → AreHeld ts (id ∷ ids) → IsEquivalent (tree_at ts one) p → AreLikeEither p q (trees_at ts (id ∷ ids)) → are_one_other one ids ≡ true
+    one_other_by : (one id : ℕ) (q : Tree) (ids : List ℕ) (is : Bool) → nat_eq id one ≡ is → one < length ts → AreHeld ts (id ∷ ids) → AreLikeEither (tree_at ts one) q (trees_at ts (id ∷ ids)) → are_one_other one ids ≡ true
         → other_from is (are_one_other one ids) (are_either one id ids) ≡ true
-    one_other_by one id p q ids true same h j e g later = later
-    one_other_by one id p q ids false apart h j e g later = either_found one id p q ids h j.0 j.1 e (like_other one id p q h j.0 apart e g.0) g.1
+    one_other_by one id q ids true same h j g later = later
+    one_other_by one id q ids false apart h j g later = either_found one id q ids h j.0 j.1 (like_other one id q h j.0 apart g.0) g.1
 
-    one_other_found : (one : ℕ) (p q : Tree) (ids : List ℕ) → one < length ts → AreHeld ts ids → IsEquivalent (tree_at ts one) p → AreLikeEither p q (trees_at ts ids) → are_one_other one ids ≡ true
-    one_other_found one p q [] h j e g = refl
-    one_other_found one p q (id ∷ ids) h j e g = one_other_by one id p q ids (nat_eq id one) refl h j e g (one_other_found one p q ids h j.1 e g.1)
-
-    found_two : (one : ℕ) (p q : Tree) (ids : List ℕ) → one < length ts → AreHeld ts ids → IsEquivalent (tree_at ts one) p ⊎ IsEquivalent (tree_at ts one) q → AreLikeEither p q (trees_at ts ids) → are_one_other one ids ≡ true
-    found_two one p q ids h j (inl e) g = one_other_found one p q ids h j e g
-    found_two one p q ids h j (inr e) g = one_other_found one q p ids h j e (like_swapped p q (trees_at ts ids) g)
+    one_other_found : (one : ℕ) (q : Tree) (ids : List ℕ) → one < length ts → AreHeld ts ids → AreLikeEither (tree_at ts one) q (trees_at ts ids) → are_one_other one ids ≡ true
+    one_other_found one q [] h j g = refl
+    one_other_found one q (id ∷ ids) h j g = one_other_by one id q ids (nat_eq id one) refl h j g (one_other_found one q ids h j.1 g.1)
 
     at_most_two : (ids : List ℕ) → AreHeld ts ids → IsTrue (are_at_most_two ids) ↔ AreAtMostTwo (trees_at ts ids)
-    at_most_two [] h = (λ k. record { one = node tag.Notes no_kids; other = node tag.Notes no_kids; each = tt }, λ k. refl)
-    at_most_two (one ∷ ids) h = (
-      λ k. let q = other_like one ids k in record { one = tree_at ts one; other = q.0; each = (inl (equivalent_refl (tree_at ts one)), q.1) },
-      λ k. found_two one k.one k.other ids h.0 h.1 k.each.0 k.each.1,
-    )
+    at_most_two [] h = none_at_most_two
+    at_most_two (one ∷ ids) h = some_at_most_two (tree_at ts one) (trees_at ts ids) (are_one_other one ids) (other_like one ids, λ k. one_other_found one k.0 ids h.0 h.1 k.1)
 
     pub behind_first_two : (ids : List ℕ) → AreHeld ts ids → IsTrue (are_at_most_two (drop 1 ids)) ↔ AreAtMostTwo (drop 1 (trees_at ts ids))
     behind_first_two [] h = at_most_two [] tt

@@ -11,13 +11,12 @@ use Rattle.std.specs.List.Sorted.{IsPermutation}
 use Rattle.std.specs.Option.{option_cmp}
 use Rattle.std.specs.Ordering.{eq_by_cmp, is_eq, nat_cmp, ordering_then}
 use Rattle.std.proofs.lemmas.Cmp.{nat_eq_equiv, nat_cmp_total, on_total, then_total, tied_itself}
-use Rattle.std.proofs.lemmas.List.Kept.{Contains-dedup, Contains-from_dedup, IsStrictlySortedBy-dedup}
-use Rattle.std.proofs.lemmas.List.Sorted.{Contains-permutation, IsPermutation-sym}
 use Rattle.owl_list.specs.Ascending.{ascending, HoldSame}
-use Rattle.owl_list.specs.AscendingLaws.{all_ascending, ascending_holds, ascending_is, map_ascending}
+use Rattle.owl_list.specs.ArrangedLaws.{sorted_once}
+use Rattle.owl_list.specs.AscendingLaws.{all_ascending, ascending_holds, map_ascending}
 use Rattle.owl_tree.specs.Canonical.{arranged_from}
 use Rattle.owl_tree.specs.Order.{tree_cmp}
-use Rattle.owl_tree.specs.OrderLaws.{only_equal_trees_tie, trees_total}
+use Rattle.owl_tree.specs.OrderLaws.{only_equal_trees_tie, then_second, trees_total}
 use Rattle.owl_tree.specs.Trees.{Tree, no_kids, node}
 use Rattle.owl_tree.specs.declared.tag.Tag.TheVariants as tag
 use Rattle.std.proofs.lemmas.Option.{slice_get-get_or}
@@ -28,11 +27,6 @@ use Rattle.owl_arena.specs.Shared.{HaveOneNumber}
 
 pub numbers_total : (ts : List Tree) → IsTotalOrder (numbers_cmp ts)
 numbers_total ts = then_total (on_total (slice_get ts) (options_total trees_total)) nat_cmp_total
-
-then_second : (o p : Ordering) → ordering_then o p ≡ Equal → p ≡ Equal
-then_second Less p e = cc
-then_second Equal p e = e
-then_second Greater p e = cc
 
 only_equal_numbers_tie : (ts : List Tree) (a b : ℕ) → numbers_cmp ts a b ≡ Equal → a ≡ b
 only_equal_numbers_tie ts a b e = nat_cmp-IsAntisymmetric a b (then_second (option_cmp tree_cmp (slice_get ts a) (slice_get ts b)) (nat_cmp a b) e)
@@ -51,16 +45,6 @@ equal_by ts a b false e = not_tied (numbers_cmp ts a b) (λ t. eqb-false a b e (
 same_numbers : (ts : List Tree) (a b : ℕ) → nat_eq a b ≡ eq_by_cmp (numbers_cmp ts) a b
 same_numbers ts a b = equal_by ts a b (nat_eq a b) refl
 
--- a sort, and then one of each
-sorted_once : (ts : List Tree) (ids moved : List ℕ) → IsPermutation ids moved → AreInOrder ts moved → dedup nat_eq moved ≡ ascending (numbers_cmp ts) ids
-sorted_once ts ids moved p s =
-    let total = numbers_total ts in
-    let holds : HoldSame (dedup nat_eq moved) ids = λ x. (
-      λ m. Contains-permutation moved ids x (IsPermutation-sym ids moved p) (Contains-from_dedup nat_eq moved x m),
-      λ m. Contains-dedup nat_eq_equiv eqb-true moved x (Contains-permutation ids moved x p m),
-    ) in
-    ascending_is (numbers_cmp ts) total (only_equal_numbers_tie ts) ids (dedup nat_eq moved) (IsStrictlySortedBy-dedup total (same_numbers ts) moved s.sorted) holds
-
 -- the front as it stands, and the others put in order
 front_kept : (ts : List Tree) (n : ℕ) (ids : List ℕ) → n < length ids → take n ids ++ ascending (numbers_cmp ts) (drop n ids) ≡ in_order_from ts n ids
 front_kept ts zero ids h = refl
@@ -70,7 +54,7 @@ front_kept ts (suc n) (id ∷ ids) h = ap (λ (xs : List ℕ). id ∷ xs) (front
 pub put_in_order : (ts : List Tree) (n : ℕ) (old moved new : List ℕ) → n < length old → take n moved ≡ take n old → IsPermutation (drop n old) (drop n moved) → AreInOrder ts (drop n moved) → new ≡ take n moved ++ dedup nat_eq (drop n moved)
     → new ≡ in_order_from ts n old
 put_in_order ts n old moved new h front p s e =
-    let once = sorted_once ts (drop n old) (drop n moved) p s in
+    let once = sorted_once (numbers_cmp ts) nat_eq (numbers_total ts) nat_eq_equiv (same_numbers ts) (only_equal_numbers_tie ts) (drop n old) (drop n moved) p s.sorted in
     let kept = front_kept ts n old h in
     cc
 

@@ -3,7 +3,7 @@ use Rattle.std.proofs.Common.{◌≡◌, ◌<◌, ◌≤◌, ◌+◌, ◌⊎◌,
 use Rattle.std.specs.List.{AllByRecursion}
 use Rattle.std.proofs.lemmas.Bool.{cases_lt}
 use Rattle.std.proofs.lemmas.List.{get_or_append_left, get_or_at, get_or_default, length-append, length_push}
-use Rattle.owl_list.specs.AscendingLaws.{all_in}
+use Rattle.owl_list.specs.AscendingLaws.{all_in, all_pushed}
 use Rattle.owl_tree.specs.Equivalence.{IsEquivalent}
 use Rattle.owl_tree.specs.EquivalenceLaws.{equivalent_is_equal_form, equivalent_refl}
 use Rattle.owl_tree.specs.Trees.{Tree}
@@ -60,10 +60,6 @@ pub held_more : (ts us : List Tree) (ids : List ℕ) → AreHeld ts ids → AreH
 held_more ts us ids h = below_later ids (length ts) (length (ts ++ us)) (omega (arith, length-append ts us)) h
 
 -- one more tree
-entries_more : (ts : List Tree) (t : Tree) → AllByRecursion IsEntry ts → IsEntry t → AllByRecursion IsEntry (ts ++ t ∷ [])
-entries_more [] t h e = (e, tt)
-entries_more (u ∷ us) t h e = (h.0, entries_more us t h.1 e)
-
 new_tree_at : (ts : List Tree) (t : Tree) → tree_at (ts ++ t ∷ []) (length ts) ≡ t
 new_tree_at ts t = get_or_at ts t [] _ (length ts) refl
 
@@ -90,4 +86,4 @@ one_number_more ts t one lacks a b h k e =
 pub shared_more : (ts : List Tree) (t : Tree) → AreShared ts → IsEntry t → Lacks ts t → length ts < most_trees → AreShared (ts ++ t ∷ [])
 shared_more ts t shared entry lacks room =
     let more = length_push ts t in
-    record { entries = entries_more ts t shared.entries entry; one_number = one_number_more ts t shared.one_number lacks; few = omega arith }
+    record { entries = all_pushed IsEntry ts t shared.entries entry; one_number = one_number_more ts t shared.one_number lacks; few = omega arith }

@@ -1,9 +1,8 @@
 -- What is tested of the kids of a node by their numbers.
-use Rattle.std.specs.Prelude.{◌≡◌, ◌⊎◌, ℕ, Bool, true, false, ◌||◌, nat_eq, List, [], ◌∷◌, map, Contains}
+use Rattle.std.specs.Prelude.{ℕ, Bool, true, false, ◌||◌, nat_eq, List, [], ◌∷◌, map}
 use Rattle.std.specs.List.{list_all}
 use Rattle.owl_tree.specs.declared.tag.Tag.{Tag}
-use Rattle.owl_tree.specs.declared.tag.Tag.TheVariants as tag
-use Rattle.owl_tree.specs.Trees.{Tree, kids_in, tag_of}
+use Rattle.owl_tree.specs.Trees.{Tree, tag_of}
 use Rattle.owl_arena.specs.Held.{trees_at}
 
 -- the tags of the trees with these numbers
@@ -28,9 +27,3 @@ are_one_other one (id ∷ ids) = other_from (nat_eq id one) (are_one_other one i
 abbrev pub are_at_most_two : List ℕ → Bool
 are_at_most_two [] = true
 are_at_most_two (one ∷ ids) = are_one_other one ids
-
--- a group of keys with a member
-pub record IsKeyGroup (t : Tree) : Type 0 where
-  pub is_group : (tag_of t ≡ tag.ObjectKeys) ⊎ (tag_of t ≡ tag.DataKeys)
-  pub property : Tree
-  pub member : Contains (kids_in t) property

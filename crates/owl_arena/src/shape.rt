@@ -2,10 +2,11 @@
 
 ghost use Rattle.std.specs.Prelude.{◌≡◌, ◌↔◌, ◌<◌, ◌⊎◌, IsTrue, drop, length};
 ghost use Rattle.owl_arena.specs.Held.{AreHeld, tree_at, trees_at};
-ghost use Rattle.owl_arena.specs.Members.{IsKeyGroup, are_at_most_two, are_either, are_one_other, tags_at};
+ghost use Rattle.owl_arena.specs.Members.{are_at_most_two, are_either, are_one_other, tags_at};
 ghost use Rattle.owl_tree.specs.Places.{admits_from};
 ghost use Rattle.owl_tree.specs.Rows.{fits, row_of, row_seen};
 ghost use Rattle.owl_tree.specs.Shape.{AreAtMostTwo, FitsRow, HasKeyProperty};
+ghost use Rattle.owl_tree.specs.ShapeTests.{IsKeyGroup};
 ghost use Rattle.owl_tree.specs.declared.tag.Tag.TheVariants as variant;
 
 use crate::arena::Arena;

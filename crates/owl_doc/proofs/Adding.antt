@@ -3,6 +3,7 @@ use Rattle.std.proofs.Common.{◌≡◌, ◌↔◌, ◌<◌, ◌≤◌, ◌+◌,
 use Rattle.std.specs.List.{AllByRecursion, sum_by}
 use Rattle.std.proofs.lemmas.List.{map-append}
 use Rattle.std.proofs.lemmas.List.Sums.{sum_by_push}
+use Rattle.owl_list.specs.AscendingLaws.{all_pushed}
 use Rattle.owl_tree.specs.Ontologies.{IsAnnotation, IsAxiom}
 use Rattle.owl_tree.specs.Trees.{Tree, weight}
 use Rattle.owl_doc.specs.declared.builder.Builder.TheInside.{Inside}
@@ -14,10 +15,6 @@ use Rattle.owl_arena.specs.Held.{tree_at, trees_at}
 use Rattle.owl_doc.specs.Kept.{IsKeptBegun, begun_of}
 use Rattle.owl_arena.specs.Shared.{heaviest}
 use Rattle.owl_doc.proofs.Collections.{once_pushed}
-
-all_pushed : {X : Type 0} (P : X → Type 0) (xs : List X) (x : X) → AllByRecursion P xs → P x → AllByRecursion P (xs ++ x ∷ [])
-all_pushed P [] x h p = (p, tt)
-all_pushed P (y ∷ ys) x h p = (h.0, all_pushed P ys x h.1 p)
 
 trees_pushed : (P : Tree → Type 0) (ts : List Tree) (ids : List ℕ) (id : ℕ) → AllByRecursion P (trees_at ts ids) → P (tree_at ts id) → AllByRecursion P (trees_at ts (ids ++ id ∷ []))
 trees_pushed P ts ids id h p = subst (λ (us : List Tree). AllByRecursion P us) (sym (map-append (tree_at ts) ids (id ∷ []))) (all_pushed P (trees_at ts ids) (tree_at ts id) h p)

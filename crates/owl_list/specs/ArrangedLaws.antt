@@ -17,10 +17,13 @@ module _ {X : Type 0} (cmp : X → X → Ordering) (eq : X → X → Bool) (tota
   equals_same : (x y : X) → eq x y ≡ true → x ≡ y
   equals_same x y e = same x y ((Equal-is (cmp x y)).0 (sym (ties x y) ∙ e))
 
-  pub arranged : (xs zs ys : List X) → IsPermutation xs zs → IsSorted cmp zs → IsFiltered (DiffersFromLast eq) [] zs ys → ys ≡ ascending cmp xs
-  arranged xs zs ys p s f =
+  pub sorted_once : (xs zs : List X) → IsPermutation xs zs → IsSorted cmp zs → dedup eq zs ≡ ascending cmp xs
+  sorted_once xs zs p s =
       let holds : HoldSame (dedup eq zs) xs = λ x. (
         λ m. Contains-permutation zs xs x (IsPermutation-sym xs zs p) (Contains-from_dedup eq zs x m),
         λ m. Contains-dedup equivalence equals_same zs x (Contains-permutation xs zs x p m),
       ) in
-      dedup_is eq zs ys f ∙ ascending_is cmp total same xs (dedup eq zs) (IsStrictlySortedBy-dedup total ties zs s) holds
+      ascending_is cmp total same xs (dedup eq zs) (IsStrictlySortedBy-dedup total ties zs s) holds
+
+  pub arranged : (xs zs ys : List X) → IsPermutation xs zs → IsSorted cmp zs → IsFiltered (DiffersFromLast eq) [] zs ys → ys ≡ ascending cmp xs
+  arranged xs zs ys p s f = dedup_is eq zs ys f ∙ sorted_once xs zs p s

@@ -1,5 +1,5 @@
 -- The laws of lists that ascend.
-use Rattle.std.proofs.Common.{◌≡◌, ◌<◌, ◌⊎◌, inl, inr, ℕ, zero, suc, List, [], ◌∷◌, length, get_or, refl, sym, ap, ◌∙◌, subst, arith}
+use Rattle.std.proofs.Common.{◌≡◌, ◌<◌, ◌⊎◌, inl, inr, ℕ, zero, suc, List, [], ◌∷◌, ◌++◌, length, get_or, refl, sym, ap, ◌∙◌, subst, arith}
 use Rattle.std.specs.Prelude.{map}
 use Rattle.std.specs.declared.cmp.Ordering.{Ordering}
 use Rattle.std.specs.declared.cmp.Ordering.TheVariants.{Less, Equal, Greater}
@@ -46,6 +46,11 @@ module _ {X : Type 0} where
   pub all_later : (P Q : X → Type 0) → ((x : X) → P x → Q x) → (xs : List X) → AllByRecursion P xs → AllByRecursion Q xs
   all_later P Q step [] h = tt
   all_later P Q step (x ∷ xs) h = (step x h.0, all_later P Q step xs h.1)
+
+  -- what is true of all of a list and of one more is true of the list with it behind
+  pub all_pushed : (P : X → Type 0) (xs : List X) (x : X) → AllByRecursion P xs → P x → AllByRecursion P (xs ++ x ∷ [])
+  all_pushed P [] x h p = (p, tt)
+  all_pushed P (y ∷ ys) x h p = (h.0, all_pushed P ys x h.1 p)
 
   pub hold_same : (xs : List X) → HoldSame xs xs
   hold_same xs = λ x. (λ m. m, λ m. m)

@@ -34,10 +34,7 @@ is_found _ = refl
 
 -- no two tags have one keyword
 pub same_keyword : (t u : Tag) → keyword_of t ≡ keyword_of u → t ≡ u
-same_keyword t u e = some_same (sym (is_found t) ∙ ap (λ word. tag_of_keyword word all_tags) e ∙ is_found u)
-  where
-    some_same : {X : Type 0} {x y : X} → ◌≡◌ {A = Option X} (Some x) (Some y) → x ≡ y
-    some_same e = cc
+same_keyword t u e = let same = sym (is_found t) ∙ ap (λ word. tag_of_keyword word all_tags) e ∙ is_found u in cc
 
 pub axioms_numbered : (t : Tag) → is_axiom t ≡ (nat_le 41 (number_of t) && nat_le (number_of t) 77)
 unfolding number_of

@@ -13,5 +13,7 @@ pub mod Canonical
 pub mod EquivalenceLaws
 pub mod CanonicalLaws
 pub mod ShapeLaws
+pub mod ShapeTests
+pub mod ShapeTestLaws
 pub mod Ontologies
 pub mod OntologyLaws

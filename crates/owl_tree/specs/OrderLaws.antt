@@ -34,10 +34,7 @@ stands _ = refl
 
 -- no two tags have one number
 pub same_number : (t u : Tag) → number_of t ≡ number_of u → t ≡ u
-same_number t u e = some_same (sym (stands t) ∙ ap (λ n. slice_get all_tags (n - 1)) e ∙ stands u)
-  where
-    some_same : {X : Type 0} {x y : X} → ◌≡◌ {A = Option X} (Some x) (Some y) → x ≡ y
-    some_same e = cc
+same_number t u e = let same = sym (stands t) ∙ ap (λ n. slice_get all_tags (n - 1)) e ∙ stands u in cc
 
 pub tags_total : IsTotalOrder tag_cmp
 tags_total = on_total number_of nat_cmp_total
@@ -50,12 +47,12 @@ then_first Less p e = cc
 then_first Equal p e = refl
 then_first Greater p e = cc
 
-then_second : (o p : Ordering) → ordering_then o p ≡ Equal → p ≡ Equal
+pub then_second : (o p : Ordering) → ordering_then o p ≡ Equal → p ≡ Equal
 then_second Less p e = cc
 then_second Equal p e = e
 then_second Greater p e = cc
 
-then_nothing : (o : Ordering) → ordering_then o Equal ≡ o
+pub then_nothing : (o : Ordering) → ordering_then o Equal ≡ o
 then_nothing Less = refl
 then_nothing Equal = refl
 then_nothing Greater = refl

@@ -2,8 +2,8 @@
 
 ghost use Rattle.std.specs.Prelude.{◌≡◌, ◌↔◌, ◌⊎◌, IsTrue, IfOk, drop, map};
 ghost use Rattle.owl_tree.specs.Equivalence.{IsEquivalent};
-ghost use Rattle.owl_plain.specs.OwnedForms.{AreLikeEither, IsKeyGroup};
 ghost use Rattle.owl_tree.specs.Shape.{AreAtMostTwo, AreShaped, FitsRow, HasKeyProperty, IsShaped};
+ghost use Rattle.owl_tree.specs.ShapeTests.{AreLikeEither, IsKeyGroup};
 ghost use Rattle.owl_tree.specs.Trees.{Tree, kids_of, tag_of};
 ghost use Rattle.owl_tree.specs.declared.tag.Tag.TheVariants as variant;
 
