@@ -12,16 +12,12 @@ use Rattle.owl_tree.specs.Trees.{Tree, depth, kids_of, node, weight}
 use Rattle.owl_arena.specs.Growth.{IsTooDeep, IsTooHeavy, IsWithin}
 use Rattle.owl_arena.specs.Held.{AreHeld, node_over, trees_at}
 use Rattle.owl_arena.specs.Shared.{AreShared, IsEntry, deepest, heaviest}
-use Rattle.owl_arena.specs.HeldLaws.{entry_at}
+use Rattle.owl_arena.specs.HeldLaws.{entry_at, kids_canonical}
 
 -- kids that are there are shaped and canonical
 kids_shaped : (ts : List Tree) → AreShared ts → (ids : List ℕ) → AreHeld ts ids → AreShaped (kids_of (trees_at ts ids))
 kids_shaped ts shared [] h = tt
 kids_shaped ts shared (id ∷ ids) h = ((entry_at ts id shared h.0).shaped, kids_shaped ts shared ids h.1)
-
-kids_canonical : (ts : List Tree) → AreShared ts → (ids : List ℕ) → AreHeld ts ids → map canonical (trees_at ts ids) ≡ trees_at ts ids
-kids_canonical ts shared [] h = refl
-kids_canonical ts shared (id ∷ ids) h = let e = (entry_at ts id shared h.0).canonical in let f = kids_canonical ts shared ids h.1 in cc
 
 pub not_shaped : (ts : List Tree) (tag : Tag) (ids tested : List ℕ) → tested ≡ ids → (FitsRow tag (trees_at ts tested) → ⊥) → IsShaped (node_over ts tag ids) → ⊥
 not_shaped ts tag ids tested same h shaped =

@@ -1,9 +1,10 @@
 -- The laws of trees that are held.
-use Rattle.std.proofs.Common.{◌≡◌, ◌<◌, ◌≤◌, ◌+◌, ◌⊎◌, ℕ, List, [], ◌∷◌, ◌++◌, length, Contains, inl, inr, refl, sym, ap, ◌∙◌, subst, arith}
+use Rattle.std.proofs.Common.{◌≡◌, ◌<◌, ◌≤◌, ◌+◌, ◌⊎◌, ℕ, List, [], ◌∷◌, ◌++◌, length, map, Contains, inl, inr, refl, sym, ap, ◌∙◌, subst, arith}
 use Rattle.std.specs.List.{AllByRecursion}
 use Rattle.std.proofs.lemmas.Bool.{cases_lt}
 use Rattle.std.proofs.lemmas.List.{get_or_append_left, get_or_at, get_or_default, length-append, length_push}
 use Rattle.owl_list.specs.AscendingLaws.{all_in, all_pushed}
+use Rattle.owl_tree.specs.Canonical.{canonical}
 use Rattle.owl_tree.specs.Equivalence.{IsEquivalent}
 use Rattle.owl_tree.specs.EquivalenceLaws.{equivalent_is_equal_form, equivalent_refl}
 use Rattle.owl_tree.specs.Trees.{Tree}
@@ -31,6 +32,10 @@ tree_inside ts k h = (k, h, get_or_default ts k _ _ h)
 
 pub entry_at : (ts : List Tree) (k : ℕ) → AreShared ts → k < length ts → IsEntry (tree_at ts k)
 entry_at ts k shared h = all_in IsEntry ts (tree_at ts k) shared.entries (tree_inside ts k h)
+
+pub kids_canonical : (ts : List Tree) → AreShared ts → (ids : List ℕ) → AreHeld ts ids → map canonical (trees_at ts ids) ≡ trees_at ts ids
+kids_canonical ts shared [] h = refl
+kids_canonical ts shared (id ∷ ids) h = let e = (entry_at ts id shared h.0).canonical in let f = kids_canonical ts shared ids h.1 in cc
 
 pub tells_equivalence : (ts : List Tree) → AreShared ts → TellEquivalence ts
 tells_equivalence ts shared a b h k = (

@@ -1,6 +1,6 @@
 //! The arena.
 
-ghost use Rattle.std.specs.Prelude.{◌≡◌, ◌↔◌, ◌<◌, ◌≤◌, ◌+◌, ◌⊎◌, IsTrue, IsNone, IsSome, IsErrOf, IfErr, IfOk, IfSome, OnOk, OnErr, Some, [], ◌∷◌, ◌++◌, length, slice_get};
+ghost use Rattle.std.specs.Prelude.{◌≡◌, ◌↔◌, ◌<◌, ◌≤◌, ◌+◌, ◌⊎◌, IsTrue, IsNone, IsSome, IsOk, IsErrOf, IfErr, IfOk, IfSome, OnOk, OnErr, Some, [], ◌∷◌, ◌++◌, length, slice_get};
 ghost use Rattle.std.specs.List.{AllByRecursion};
 ghost use Rattle.std.specs.Option.{option_map};
 ghost use Rattle.owl_arena.specs.declared.grow.Grow.{Grow};
@@ -21,10 +21,10 @@ use std::alloc::Global;
 use std::marker::Model;
 
 /// The most levels that a tree may have.
-const DEEPEST: u32 = 128;
+pub const DEEPEST: u32 = 128;
 
-/// The most nodes and leaves that a tree may have.
-const HEAVIEST: u64 = 1 << 24;
+/// The most nodes and leaves that a tree may have, and a document too.
+pub const HEAVIEST: u64 = 1 << 24;
 
 /// The most trees that an arena may have.
 const MOST_TREES: usize = 1 << 28;
@@ -37,7 +37,7 @@ const MOST_TREES: usize = 1 << 28;
 /// Its kids have smaller numbers than it. A number keeps its tree.
 #[derive(Debug, Drop)]
 pub struct Arena {
-    pub(crate) nodes: Vec<Node>,
+    nodes: Vec<Node>,
 }
 
 impl Model for Arena {
@@ -65,9 +65,11 @@ impl Arena {
         }
     }
 
-    /// Takes memory for so many trees. Where the call refuses, nothing changes.
+    /// Takes memory for so many trees, unless there is as much already. Where the
+    /// call refuses, nothing changes.
     pub fn reserve(&mut self, nodes: usize) -> Result<(), NoMemory>
         ensures trees { self.new.trees ≡ self.old.trees }
+        ensures enough { nodes ≤ self.old.spare → IsOk result }
         ensures room { OnOk result (nodes ≤ self.new.spare) }
         ensures kept { self.old.spare ≤ self.new.spare }
         ensures err { OnErr result (self.new ≡ self.old) }
@@ -118,11 +120,11 @@ impl Arena {
     ///
     /// In this order: `BadShape` exactly where no node with the tag has these
     /// kids (Structural Specification, sections 5 to 10); `TooDeep` exactly
-    /// where the tree is more than 128 levels deep; `TooHeavy` exactly where it
-    /// has more than 2^24 nodes and leaves; `TooMany` exactly where it is new
-    /// and there are 2^28 trees; `Memory` only where there was no memory to
-    /// spare. Where the call refuses, nothing changes, and the kids are given
-    /// up.
+    /// where the tree is more than 128 levels deep; `TooHeavy` exactly where its
+    /// canonical form has more than 2^24 nodes and leaves; `TooMany` exactly
+    /// where that is new and there are 2^28 trees; `Memory` only where there was
+    /// no memory to spare. Where the call refuses, nothing changes, and the kids
+    /// are given up.
     pub fn node(&mut self, tag: Tag, kids: Vec<ExprId>) -> Result<ExprId, Grow>
         requires { AreHeld self.old.trees kids.items }
         ensures id { IfOk result (λ id. slice_get self.new.trees id ≡ Some (canonical (node_over self.old.trees tag kids.items))) }

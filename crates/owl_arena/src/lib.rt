@@ -9,7 +9,7 @@ mod order;
 mod sets;
 mod shape;
 
-pub use arena::Arena;
+pub use arena::{Arena, DEEPEST, HEAVIEST};
 pub use expr_id::ExprId;
 pub use grow::Grow;
 

@@ -1,12 +1,11 @@
 -- Numbers that stand once, put in the order of their trees.
-use Rattle.std.proofs.Common.{◌≡◌, ◌<◌, ◌≤◌, ◌+◌, ℕ, List, [], ◌∷◌, length, Contains, map, refl, sym, ap, ◌∙◌, subst, arith}
+use Rattle.std.proofs.Common.{◌≡◌, ◌<◌, ◌≤◌, ◌+◌, ℕ, List, [], ◌∷◌, length, Contains, refl, sym, ap, ◌∙◌, subst, arith}
 use Rattle.std.specs.declared.cmp.Ordering.{Ordering}
 use Rattle.std.specs.declared.cmp.Ordering.TheVariants.{Less, Equal, Greater}
 use Rattle.std.specs.List.{sum_by}
 use Rattle.std.proofs.lemmas.List.Sums.{sum_by-cons}
 use Rattle.owl_list.specs.Ascending.{AreApart, ascending, by_order, put}
 use Rattle.owl_list.specs.AscendingLaws.{all_in, ascending_holds, from_map, in_head, in_tail}
-use Rattle.owl_tree.specs.Canonical.{canonical}
 use Rattle.owl_text.specs.Order.{text_cmp}
 use Rattle.owl_tree.specs.Ontologies.{IsOntology, Ontology, canonical_list, canonical_ontology, list_weight, ontology_weight}
 use Rattle.owl_tree.specs.OntologyLaws.{canonical_is_ontology, canonical_list_again, canonical_ontology_again}
@@ -15,7 +14,7 @@ use Rattle.owl_tree.specs.OrderLaws.{only_equal_trees_tie, trees_total}
 use Rattle.owl_tree.specs.Trees.{Tree, weight}
 use Rattle.owl_doc.specs.Documents.{Document, IsBegun, IsDocument, ontology_of, total_weight, weight_at}
 use Rattle.owl_arena.specs.Held.{AreHeld, tree_at, trees_at}
-use Rattle.owl_arena.specs.HeldLaws.{entry_at}
+use Rattle.owl_arena.specs.HeldLaws.{kids_canonical}
 use Rattle.owl_arena.specs.Shared.{AreShared, HaveOneNumber, heaviest}
 
 -- an element that is not there is added to the sum where it is put
@@ -44,13 +43,8 @@ sum_in_order ts one (id ∷ ids) held once =
     let rest = sum_in_order ts one ids held.1 once.1 in
     first ∙ ap (λ (n : ℕ). weight (tree_at ts id) + n) rest ∙ sym (sum_by-cons weight (tree_at ts id) (trees_at ts ids))
 
--- the trees of an arena are their own canonical forms
-own_forms : (ts : List Tree) → AreShared ts → (ids : List ℕ) → AreHeld ts ids → map canonical (trees_at ts ids) ≡ trees_at ts ids
-own_forms ts shared [] held = refl
-own_forms ts shared (id ∷ ids) held = let e = (entry_at ts id shared held.0).canonical in let f = own_forms ts shared ids held.1 in cc
-
 pub in_canonical_order : (ts : List Tree) (ids : List ℕ) (us : List Tree) → AreShared ts → AreHeld ts ids → us ≡ ascending tree_cmp (trees_at ts ids) → us ≡ canonical_list (trees_at ts ids)
-in_canonical_order ts ids us shared held e = e ∙ ap (λ (vs : List Tree). ascending tree_cmp vs) (sym (own_forms ts shared ids held))
+in_canonical_order ts ids us shared held e = e ∙ ap (λ (vs : List Tree). ascending tree_cmp vs) (sym (kids_canonical ts shared ids held))
 
 pub weight_in_order : (ts : List Tree) (ids : List ℕ) (us : List Tree) → AreShared ts → AreHeld ts ids → AreApart ids → us ≡ ascending tree_cmp (trees_at ts ids) → list_weight us ≡ weight_at ts ids
 weight_in_order ts ids us shared held once e =

@@ -1,6 +1,6 @@
 //! Documents that are begun.
 
-ghost use Rattle.std.specs.Prelude.{◌≡◌, ◌↔◌, ◌⊎◌, ◌<◌, ◌≤◌, ◌+◌, Contains, IsTrue, IsErrOf, IfOk, OnOk, OnErr, Some, length, slice_get};
+ghost use Rattle.std.specs.Prelude.{◌≡◌, ◌↔◌, ◌⊎◌, ◌<◌, ◌≤◌, ◌+◌, Contains, IsTrue, IsOk, IsErrOf, IfOk, OnOk, OnErr, Some, length, slice_get};
 ghost use Rattle.owl_arena.specs.declared.grow.Grow.{Grow};
 ghost use Rattle.owl_arena.specs.Growth.{Adds, IsOneTooMany, IsTooDeep, IsTooHeavy, IsWithin};
 ghost use Rattle.owl_arena.specs.Held.{AreHeld, node_over, tree_at, trees_at};
@@ -20,16 +20,13 @@ use crate::collected::Collected;
 use crate::document::Doc;
 use crate::fault::AddFault;
 use crate::head::Head;
-use owl_arena::{Arena, ExprId, Grow};
+use owl_arena::{Arena, ExprId, Grow, HEAVIEST};
 use owl_atom::{Iri, Prefixes};
 use owl_list::arrange;
 use owl_text::NoMemory;
 use owl_tree::{Atom, Tag};
 use std::alloc::{AllocError, Global};
 use std::marker::Model;
-
-/// The most nodes and leaves that a document may have.
-const HEAVIEST: u64 = 1 << 24;
 
 /// A document that is begun, which contracts see as a document whose imports,
 /// annotations and axioms stand in the order in which they were added.
@@ -85,10 +82,11 @@ impl Builder {
         &self.arena
     }
 
-    /// Takes memory for so many more trees in the arena. Where the call refuses,
-    /// nothing changes.
+    /// Takes memory for so many more trees in the arena, unless there is as much
+    /// already. Where the call refuses, nothing changes.
     pub fn reserve(&mut self, nodes: usize) -> Result<(), NoMemory>
         ensures trees { self.new.arena.trees ≡ self.old.arena.trees }
+        ensures enough { nodes ≤ self.old.arena.spare → IsOk result }
         ensures room { OnOk result (nodes ≤ self.new.arena.spare) }
         ensures kept { self.old.arena.spare ≤ self.new.arena.spare }
         ensures rest { self.new ≡ with_arena self.new.arena self.old }
