@@ -24,16 +24,14 @@ pub record IsTooHeavy (t : Tree) : Type 0 where
   pub not_deep : depth t ≤ deepest
   pub heavy : heaviest < weight (canonical t)
 
--- it is within the limits, its canonical form is not there, and no more trees fit
-pub record IsOneTooMany (ts : List Tree) (t : Tree) : Type 0 where
-  pub shaped : IsShaped t
-  pub not_deep : depth t ≤ deepest
-  pub not_heavy : weight (canonical t) ≤ heaviest
-  pub absent : Lacks ts (canonical t)
-  pub full : length ts ≡ most_trees
-
--- it is within the limits
+-- it is neither too deep nor too heavy
 pub record IsWithin (t : Tree) : Type 0 where
   pub shaped : IsShaped t
   pub not_deep : depth t ≤ deepest
   pub not_heavy : weight (canonical t) ≤ heaviest
+
+-- it is within the limits, its canonical form is not there, and no more trees fit
+pub record IsOneTooMany (ts : List Tree) (t : Tree) : Type 0 where
+  pub within : IsWithin t
+  pub absent : Lacks ts (canonical t)
+  pub full : length ts ≡ most_trees

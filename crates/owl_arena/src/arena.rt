@@ -90,8 +90,8 @@ impl Arena {
     /// `BadShape` exactly where the tag is no leaf's or its row asks for another
     /// sort of atom (Structural Specification, sections 5 to 10); else `TooMany`
     /// exactly where the leaf is new and there are 2^28 trees; `Memory` only
-    /// where there was no memory to spare. Where the call refuses, nothing
-    /// changes.
+    /// where the leaf is new and there was no memory to spare. Where the call
+    /// refuses, nothing changes.
     pub fn leaf(&mut self, tag: Tag, atom: Atom) -> Result<ExprId, Grow>
         ensures id { IfOk result (λ id. slice_get self.new.trees id ≡ Some (leaf tag atom)) }
         ensures within { OnOk result (IsWithin (leaf tag atom)) }
@@ -100,6 +100,7 @@ impl Arena {
         ensures too_many { IsErrOf result Grow.TooMany ↔ IsOneTooMany self.old.trees (leaf tag atom) }
         ensures not_too_large { (IsErrOf result Grow.TooDeep → ⊥) × (IsErrOf result Grow.TooHeavy → ⊥) }
         ensures memory { IsErrOf result Grow.Memory → self.old.spare ≡ 0 }
+        ensures absent { IsErrOf result Grow.Memory → Lacks self.old.trees (leaf tag atom) }
         ensures room { self.old.spare ≤ self.new.spare + 1 }
         ensures err { OnErr result (self.new ≡ self.old) }
     {
@@ -122,9 +123,9 @@ impl Arena {
     /// kids (Structural Specification, sections 5 to 10); `TooDeep` exactly
     /// where the tree is more than 128 levels deep; `TooHeavy` exactly where its
     /// canonical form has more than 2^24 nodes and leaves; `TooMany` exactly
-    /// where that is new and there are 2^28 trees; `Memory` only where there was
-    /// no memory to spare. Where the call refuses, nothing changes, and the kids
-    /// are given up.
+    /// where that is new and there are 2^28 trees; `Memory` only where that is
+    /// new and there was no memory to spare. Where the call refuses, nothing
+    /// changes, and the kids are given up.
     pub fn node(&mut self, tag: Tag, kids: Vec<ExprId>) -> Result<ExprId, Grow>
         requires { AreHeld self.old.trees kids.items }
         ensures id { IfOk result (λ id. slice_get self.new.trees id ≡ Some (canonical (node_over self.old.trees tag kids.items))) }
@@ -135,6 +136,7 @@ impl Arena {
         ensures too_heavy { IsErrOf result Grow.TooHeavy ↔ IsTooHeavy (node_over self.old.trees tag kids.items) }
         ensures too_many { IsErrOf result Grow.TooMany ↔ IsOneTooMany self.old.trees (node_over self.old.trees tag kids.items) }
         ensures memory { IsErrOf result Grow.Memory → self.old.spare ≡ 0 }
+        ensures absent { IsErrOf result Grow.Memory → Lacks self.old.trees (canonical (node_over self.old.trees tag kids.items)) }
         ensures room { self.old.spare ≤ self.new.spare + 1 }
         ensures err { OnErr result (self.new ≡ self.old) }
     {
@@ -218,6 +220,7 @@ impl Arena {
         ensures too_many { IsErrOf result Grow.TooMany ↔ (Lacks self.old.trees (tree_of self.old.trees node.form) × (length self.old.trees ≡ most_trees)) }
         ensures refusals { IfErr result (λ e. (e ≡ Grow.TooMany) ⊎ (e ≡ Grow.Memory)) }
         ensures memory { IsErrOf result Grow.Memory → self.old.spare ≡ 0 }
+        ensures absent { IsErrOf result Grow.Memory → Lacks self.old.trees (tree_of self.old.trees node.form) }
         ensures room { self.old.spare ≤ self.new.spare + 1 }
         ensures err { OnErr result (self.new ≡ self.old) }
     {

@@ -2,7 +2,7 @@
 
 ghost use Rattle.std.specs.Prelude.{◌≡◌, ◌↔◌, ◌⊎◌, ◌<◌, ◌≤◌, ◌+◌, Contains, IsTrue, IsOk, IsErrOf, IfOk, OnOk, OnErr, Some, length, slice_get};
 ghost use Rattle.owl_arena.specs.declared.grow.Grow.{Grow};
-ghost use Rattle.owl_arena.specs.Growth.{Adds, IsOneTooMany, IsTooDeep, IsTooHeavy, IsWithin};
+ghost use Rattle.owl_arena.specs.Growth.{Adds, IsOneTooMany, IsTooDeep, IsTooHeavy, IsWithin, Lacks};
 ghost use Rattle.owl_arena.specs.Held.{AreHeld, node_over, tree_at, trees_at};
 ghost use Rattle.owl_doc.specs.declared.fault.AddFault.{AddFault};
 ghost use Rattle.owl_doc.specs.Documents.{IsAnnotationAt, IsAxiomAt, IsBegun, PassesWeight, nothing_yet, ontology_of, weight_at, with_arena, with_axiom, with_import, with_name, with_note};
@@ -105,6 +105,7 @@ impl Builder {
         ensures too_many { IsErrOf result Grow.TooMany ↔ IsOneTooMany self.old.arena.trees (leaf tag atom) }
         ensures not_too_large { (IsErrOf result Grow.TooDeep → ⊥) × (IsErrOf result Grow.TooHeavy → ⊥) }
         ensures memory { IsErrOf result Grow.Memory → self.old.arena.spare ≡ 0 }
+        ensures absent { IsErrOf result Grow.Memory → Lacks self.old.arena.trees (leaf tag atom) }
         ensures room { self.old.arena.spare ≤ self.new.arena.spare + 1 }
         ensures err { OnErr result (self.new ≡ self.old) }
     {
@@ -124,6 +125,7 @@ impl Builder {
         ensures too_heavy { IsErrOf result Grow.TooHeavy ↔ IsTooHeavy (node_over self.old.arena.trees tag kids.items) }
         ensures too_many { IsErrOf result Grow.TooMany ↔ IsOneTooMany self.old.arena.trees (node_over self.old.arena.trees tag kids.items) }
         ensures memory { IsErrOf result Grow.Memory → self.old.arena.spare ≡ 0 }
+        ensures absent { IsErrOf result Grow.Memory → Lacks self.old.arena.trees (canonical (node_over self.old.arena.trees tag kids.items)) }
         ensures room { self.old.arena.spare ≤ self.new.arena.spare + 1 }
         ensures err { OnErr result (self.new ≡ self.old) }
     {

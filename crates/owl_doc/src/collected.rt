@@ -55,9 +55,10 @@ impl Collected {
         ensures ok { OnOk result (self.new ≡ self.old ++ id ∷ []) }
         ensures err { OnErr result (self.new ≡ self.old) }
     {
-        self.ids.reserve(1).map_err(AllocError::from)?;
+        self.ids.reserve(1)?;
         self.known.insert(id).map_err(AllocError::from)?;
-        Ok(self.ids.push(id).map_err(AllocError::from)?)
+        self.ids.push(id).unwrap();
+        Ok(())
     }
 
     /// The list of them. Takes no memory.

@@ -100,7 +100,7 @@ fn a_list_is_put_in_order(rt: HostRuntime) -> Result<(), Fail> {
     Ok(())
 }
 
-/// Leaves with the label of a blank node.
+/// What comes of a leaf with the label of a blank node.
 fn leaf_of_a_label(alloc: Global, tag: Tag) -> Result<Result<ExprId, Grow>, Fail> {
     let mut arena = Arena::new(alloc);
     Ok(arena.leaf(tag, Atom::Label(Label::of(alloc, "b1")?)))
