@@ -7,7 +7,7 @@ use denote.Ref.{Bor}
 use Rattle.std.proofs.lemmas.Bool.{false_from_ne_true, eqb-true, not_from_false, both_ways}
 use Rattle.std.proofs.lemmas.Str.Pattern.{IsSplitOnceResult}
 use Rattle.owl_text.specs.Iri.{AllAre, IsIri, IsScheme, is_iri_character, is_scheme_character}
-use Rattle.owl_text.proofs.Longest.{scheme_characters}
+use Rattle.owl_text.proofs.Schemes.{scheme_characters}
 use Rattle.owl_text.proofs.Spans.{AllAre-weaker, found, same_cut}
 use Rattle.owl_atom.proofs.Characters.{NoneAre, all_are, cut_at, front_utf8, none_of}
 

@@ -1,7 +1,4 @@
 pub mod Characters
 pub mod NameCharacters
+pub mod Schemes
 pub mod Spans
-pub mod First
-pub mod Longest
-pub mod Steps
-pub mod Advancing

@@ -9,9 +9,12 @@ use thiserror::Error;
 /// Why a lexer refused.
 #[derive(Clone, Copy, Debug, PartialEq, Eq, Error)]
 pub enum LexFault {
-    /// The bytes are no tokens of the part of the syntax that is built.
-    #[error("not built")]
-    NotBuilt,
+    /// No character begins at this byte.
+    #[error("no character begins at byte {at}")]
+    BadUtf8 { at: u64 },
+    /// No token, white space or comment begins at this byte.
+    #[error("no token begins at byte {at}")]
+    BadToken { at: u64 },
     /// Memory ran out.
     #[error("out of memory")]
     Memory,

@@ -1,4 +1,4 @@
-//! The tokens of Functional-Style Syntax that are built so far.
+//! The tokens of Functional-Style Syntax.
 
 use crate::text::Text;
 
@@ -16,15 +16,31 @@ pub enum Sign {
     Open,
     /// `)`
     Close,
+    /// `=`
+    Equals,
+    /// `^^`
+    Carets,
 }
 
-/// A token.
+/// A token, by what it stands for (Structural Specification, sections 2.4, 3.7,
+/// 5.6.2 and 5.7).
 #[derive(Debug, Drop, PartialEq, Eq)]
 pub enum Token {
     /// An IRI, written between `<` and `>`.
     Iri(Text),
-    /// A run of ASCII letters.
+    /// An abbreviated IRI: the name of its prefix, and its local part without
+    /// escapes.
+    Name(Text, Text),
+    /// The label of a blank node, written behind `_:`.
+    Blank(Text),
+    /// A string without its quotes and escapes.
+    Str(Text),
+    /// A language tag, written behind `@`.
+    At(Text),
+    /// A word, as a keyword is.
     Word(Text),
+    /// Digits.
+    Int(Text),
     /// A punctuation mark.
     Sign(Sign),
 }

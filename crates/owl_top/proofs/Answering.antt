@@ -2,10 +2,10 @@
 use Rattle.std.proofs.Common.{◌⊎◌, inl, inr, Result, Ok, Err, ◌≡◌, ◌<◌, ◌≤◌, ◌^◌, ℕ, Option, Some, List, ◌++◌, length, string_bytes, codes, refl, sym, ap, ◌∙◌, subst}
 use Rattle.std.specs.Result.{IfErr, IsErrAnd}
 use Rattle.std.proofs.lemmas.List.{append_assoc}
-use Rattle.fss_read.specs.Document.{Document}
-use Rattle.fss_read.specs.Grammar.{Reads}
-use Rattle.fss_read.specs.declared.fault.ReadFault as read
-use Rattle.fss_read.specs.declared.fault.ReadFault.TheVariants as rf
+use Rattle.first_read.specs.Document.{Document}
+use Rattle.first_read.specs.Grammar.{Reads}
+use Rattle.first_read.specs.declared.fault.ReadFault as read
+use Rattle.first_read.specs.declared.fault.ReadFault.TheVariants as rf
 use Rattle.owl_top.specs.Canonical.{canonical}
 use Rattle.owl_top.specs.Text.{text_of}
 use Rattle.owl_top.specs.Outcome.{Outcome, no_document, text_too_long, translated, done_line, LineFor, IsSettled, IsNoted}

@@ -1,8 +1,8 @@
 -- A document of which a front was fed.
 use Rattle.std.proofs.Common.{◌≡◌, ℕ, List, [], ◌∷◌, ◌++◌, length, arith, subst, sym}
-use Rattle.fss_read.specs.Document.{Document}
-use Rattle.fss_read.specs.Grammar.{Reads}
-use Rattle.fss_read.specs.Reading.{Reading, Awaits, Leads, Starts}
+use Rattle.first_read.specs.Document.{Document}
+use Rattle.first_read.specs.Grammar.{Reads}
+use Rattle.first_read.specs.Reading.{Reading, Awaits, Leads, Starts}
 
 -- The documents that can come, when the rest follows, are those that all the bytes are.
 pub record IsFed (reading : Reading) (rest bytes : List ℕ) : Type 0 where

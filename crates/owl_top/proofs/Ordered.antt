@@ -6,14 +6,14 @@ use Rattle.std.specs.Ordering.{ordering_then}
 use Rattle.std.specs.Cmp.{IsTotalOrder}
 use Rattle.std.specs.FinMap.{nat_cmp-IsAntisymmetric, slice_cmp-IsAntisymmetric}
 use Rattle.std.proofs.lemmas.Str.{encodes_same}
-use Rattle.fss_read.specs.declared.document.FirstAxiom.{FirstAxiom}
-use Rattle.fss_read.specs.declared.document.FirstAxiom.TheVariants.{Declares, Sub}
+use Rattle.first_read.specs.declared.document.FirstAxiom.{FirstAxiom}
+use Rattle.first_read.specs.declared.document.FirstAxiom.TheVariants.{Declares, Sub}
 use Rattle.owl_list.specs.Ascending.{HoldSame}
 use Rattle.owl_list.specs.AscendingLaws.{ascending_holds, ascending_same}
 use Rattle.owl_text.specs.Order.{text_cmp}
 use Rattle.owl_top.specs.Canonical.{axiom_cmp, canonical}
-use Rattle.fss_read.specs.contracts.document.FirstAxiomOrd.TheImpl as derived
-use Rattle.fss_read.specs.contracts.document.FirstAxiomOrd.TheImpl.Laws as laws
+use Rattle.first_read.specs.contracts.document.FirstAxiomOrd.TheImpl as derived
+use Rattle.first_read.specs.contracts.document.FirstAxiomOrd.TheImpl.Laws as laws
 
 -- the derived order is this one
 derived_is : (x y : FirstAxiom) → derived.ghosts.cmp x y ≡ axiom_cmp x y

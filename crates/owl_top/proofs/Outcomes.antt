@@ -2,8 +2,8 @@
 use Rattle.std.proofs.Common.{Result, Err, ◌≡◌, ◌⊎◌, inl, inr, ℕ, Option, Some, List, ◌++◌, length, codes, refl, sym, ap, ◌∙◌, subst, arith}
 use Rattle.std.specs.List.{flat_map}
 use Rattle.std.specs.Str.{encode_utf8_all}
-use Rattle.fss_read.specs.Document.{Document}
-use Rattle.fss_read.proofs.Unique.{same_document}
+use Rattle.first_read.specs.Document.{Document}
+use Rattle.first_read.proofs.Unique.{same_document}
 use Rattle.owl_top.specs.Canonical.{canonical, IsSameOntology}
 use Rattle.owl_top.specs.Commands.{Asks}
 use Rattle.owl_top.specs.Text.{text_of, header_line, axiom_line}

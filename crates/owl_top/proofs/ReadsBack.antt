@@ -6,17 +6,17 @@ use Rattle.std.proofs.lemmas.List.{append_assoc}
 use Rattle.std.proofs.lemmas.Str.{encodes-IsAscii}
 use borrow.Author.Tests.{ltb-true}
 use Rattle.owl_text.specs.Iri.{AllAre, is_ascii}
-use Rattle.owl_text.specs.Tokens.{is_space, spelling, IsWord, IsToken, IsLongest, Splits}
-use Rattle.owl_text.specs.declared.token.Token.{Token}
-use Rattle.owl_text.specs.declared.token.Token.TheVariants.{Iri, Word, Sign}
-use Rattle.owl_text.specs.declared.token.Sign.TheVariants.{Open, Close}
-use Rattle.owl_text.specs.declared.token.Placed.{Placed}
-use Rattle.owl_text.proofs.Longest.{sign_longest, iri_longest, word_longest}
-use Rattle.owl_text.proofs.Steps.{splits_token, splits_behind_space}
-use Rattle.fss_read.specs.Document.{Document}
-use Rattle.fss_read.specs.Grammar.{opening, closing, axiom_tokens, iri_tokens, tokens_of, Reads}
-use Rattle.fss_read.specs.declared.document.FirstAxiom.{FirstAxiom}
-use Rattle.fss_read.specs.declared.document.FirstAxiom.TheVariants.{Declares, Sub}
+use Rattle.first_read.specs.Tokens.{is_space, spelling, IsWord, IsToken, IsLongest, Splits}
+use Rattle.first_read.specs.declared.token.Token.{Token}
+use Rattle.first_read.specs.declared.token.Token.TheVariants.{Iri, Word, Sign}
+use Rattle.first_read.specs.declared.token.Sign.TheVariants.{Open, Close}
+use Rattle.first_read.specs.declared.token.Placed.{Placed}
+use Rattle.first_read.proofs.Longest.{sign_longest, iri_longest, word_longest}
+use Rattle.first_read.proofs.Steps.{splits_token, splits_behind_space}
+use Rattle.first_read.specs.Document.{Document}
+use Rattle.first_read.specs.Grammar.{opening, closing, axiom_tokens, iri_tokens, tokens_of, Reads}
+use Rattle.first_read.specs.declared.document.FirstAxiom.{FirstAxiom}
+use Rattle.first_read.specs.declared.document.FirstAxiom.TheVariants.{Declares, Sub}
 use Rattle.owl_top.specs.Canonical.{canonical}
 use Rattle.owl_top.specs.Text.{bracketed, header_line, axiom_line, text_of, arranged_document}
 use Rattle.owl_list.specs.AscendingLaws.{all_from, all_in}

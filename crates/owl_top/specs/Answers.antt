@@ -2,8 +2,8 @@
 use Rattle.std.specs.Prelude.{◌≡◌, List, ℕ, ◌++◌, Option, Some, string_bytes, [], codes}
 use Rattle.owl_port.specs.declared.whole.ReadFault as port
 use Rattle.owl_port.specs.declared.whole.ReadFault.TheVariants as pf
-use Rattle.fss_read.specs.declared.fault.ReadFault as read
-use Rattle.fss_read.specs.declared.fault.ReadFault.TheVariants as rf
+use Rattle.first_read.specs.declared.fault.ReadFault as read
+use Rattle.first_read.specs.declared.fault.ReadFault.TheVariants as rf
 use Rattle.owl_top.specs.Outcome.{Outcome, IsTranslation, refused, done_line}
 use Rattle.owl_top.specs.declared.draft.WriteFault.{WriteFault}
 use Rattle.owl_top.specs.declared.draft.WriteFault.TheVariants as wf

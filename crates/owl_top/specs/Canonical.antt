@@ -5,9 +5,9 @@ use Rattle.std.specs.declared.cmp.Ordering.TheVariants.{Less, Greater}
 use Rattle.std.specs.Ordering.{ordering_then}
 use Rattle.owl_list.specs.Ascending.{ascending, HoldSame}
 use Rattle.owl_text.specs.Order.{text_cmp}
-use Rattle.fss_read.specs.Document.{Document}
-use Rattle.fss_read.specs.declared.document.FirstAxiom.{FirstAxiom}
-use Rattle.fss_read.specs.declared.document.FirstAxiom.TheVariants.{Declares, Sub}
+use Rattle.first_read.specs.Document.{Document}
+use Rattle.first_read.specs.declared.document.FirstAxiom.{FirstAxiom}
+use Rattle.first_read.specs.declared.document.FirstAxiom.TheVariants.{Declares, Sub}
 
 -- declarations first, by their IRI; then subclass axioms, by the subclass and then by the superclass
 abbrev pub axiom_cmp : FirstAxiom → FirstAxiom → Ordering

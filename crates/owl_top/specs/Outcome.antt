@@ -2,8 +2,8 @@
 use Rattle.std.specs.Prelude.{◌≡◌, ◌<◌, ◌≤◌, ◌^◌, ◌+◌, ◌⊎◌, ℕ, Option, Some, List, [], ◌++◌, length, take, codes}
 use Rattle.std.specs.Fmt.{decimal}
 use Rattle.owl_port.specs.Outside.{before}
-use Rattle.fss_read.specs.Document.{Document}
-use Rattle.fss_read.specs.Grammar.{Reads}
+use Rattle.first_read.specs.Document.{Document}
+use Rattle.first_read.specs.Grammar.{Reads}
 use Rattle.owl_top.specs.Canonical.{canonical, IsSameOntology}
 use Rattle.owl_top.specs.Commands.{Asks, HasNoCommand}
 use Rattle.owl_top.specs.Text.{text_of, arranged_document}

@@ -2,9 +2,9 @@
 use Rattle.std.specs.Prelude.{ℕ, Option, None, Some, List, ◌++◌, codes}
 use Rattle.std.specs.List.{flat_map}
 use Rattle.std.specs.Str.{encode_utf8_all}
-use Rattle.fss_read.specs.Document.{Document}
-use Rattle.fss_read.specs.declared.document.FirstAxiom.{FirstAxiom}
-use Rattle.fss_read.specs.declared.document.FirstAxiom.TheVariants.{Declares, Sub}
+use Rattle.first_read.specs.Document.{Document}
+use Rattle.first_read.specs.declared.document.FirstAxiom.{FirstAxiom}
+use Rattle.first_read.specs.declared.document.FirstAxiom.TheVariants.{Declares, Sub}
 use Rattle.owl_top.specs.Canonical.{canonical}
 
 abbrev pub bracketed : List ℕ → List ℕ

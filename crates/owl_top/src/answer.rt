@@ -9,7 +9,7 @@ use crate::draft::WriteFault;
 use crate::reading::read_document;
 use crate::status::Status;
 use crate::writer::{Translation, write};
-use fss_read::{FirstDoc, MOST_BYTES};
+use first_read::{FirstDoc, MOST_BYTES};
 use owl_port::{Shelf, read_all};
 use owl_text::NoMemory;
 use std::alloc::{AllocError, Global};
@@ -44,14 +44,14 @@ impl From<owl_port::ReadFault> for Trouble {
     }
 }
 
-impl From<fss_read::ReadFault> for Trouble {
+impl From<first_read::ReadFault> for Trouble {
     ghost from_gives = { λ fault e. e ≡ of_reader fault };
 
-    fn from(fault: fss_read::ReadFault) -> Trouble {
+    fn from(fault: first_read::ReadFault) -> Trouble {
         match fault {
-            fss_read::ReadFault::NotBuilt => Trouble::NotBuilt,
-            fss_read::ReadFault::TooLong => Trouble::DocumentTooLong,
-            fss_read::ReadFault::Memory => Trouble::Memory,
+            first_read::ReadFault::NotBuilt => Trouble::NotBuilt,
+            first_read::ReadFault::TooLong => Trouble::DocumentTooLong,
+            first_read::ReadFault::Memory => Trouble::Memory,
         }
     }
 }

@@ -3,7 +3,7 @@
 ghost use Rattle.std.specs.Prelude.{◌≡◌};
 ghost use Rattle.owl_top.specs.Canonical.{canonical};
 
-use fss_read::FirstAxiom;
+use first_read::FirstAxiom;
 use owl_list::arrange;
 
 /// Puts the axioms in order, each once. Takes no memory.

@@ -2,10 +2,10 @@
 
 ghost use Rattle.std.specs.Prelude.{◌≡◌, ◌+◌, ◌^◌, ◌<◌, ◌≤◌, ◌++◌, [], length, string_bytes, IfOk, OnOk, IsErrOf};
 ghost use Rattle.owl_top.specs.Text.{bracketed, axiom_line, header_line, iri_text};
-ghost use Rattle.fss_read.specs.declared.document.FirstAxiom.TheVariants.{Declares, Sub};
+ghost use Rattle.first_read.specs.declared.document.FirstAxiom.TheVariants.{Declares, Sub};
 ghost use Rattle.owl_top.specs.declared.draft.WriteFault.TheVariants.{Memory};
 
-use fss_read::FirstAxiom;
+use first_read::FirstAxiom;
 use owl_text::Text;
 use std::alloc::{AllocError, Global};
 use std::marker::Model;

@@ -1,12 +1,12 @@
 //! Reads the bytes of one document.
 
 ghost use Rattle.std.specs.Prelude.{◌≡◌, ◌^◌, ◌≤◌, length, None, IfOk, IfErr, IsErrOf};
-ghost use Rattle.fss_read.specs.Reading.{Starts};
-ghost use Rattle.fss_read.specs.Document.{Document};
-ghost use Rattle.fss_read.specs.Grammar.{Reads};
-ghost use Rattle.fss_read.specs.declared.fault.ReadFault.TheVariants.{Memory};
+ghost use Rattle.first_read.specs.Reading.{Starts};
+ghost use Rattle.first_read.specs.Document.{Document};
+ghost use Rattle.first_read.specs.Grammar.{Reads};
+ghost use Rattle.first_read.specs.declared.fault.ReadFault.TheVariants.{Memory};
 
-use fss_read::{FirstDoc, ReadFault, Reader};
+use first_read::{FirstDoc, ReadFault, Reader};
 use owl_text::NoMemory;
 use std::alloc::Global;
 

@@ -7,7 +7,7 @@ ghost use Rattle.owl_top.specs.Text.{axiom_line, text_of};
 
 use crate::canonical::arrange_axioms;
 use crate::draft::{Draft, WriteFault};
-use fss_read::{FirstAxiom, FirstDoc};
+use first_read::{FirstAxiom, FirstDoc};
 use std::alloc::Global;
 
 /// A text, and how many axioms it has.

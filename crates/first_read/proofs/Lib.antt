@@ -1,0 +1,9 @@
+pub mod Keywords
+pub mod Parsing
+pub mod Documents
+pub mod Readings
+pub mod Unique
+pub mod First
+pub mod Longest
+pub mod Steps
+pub mod Advancing

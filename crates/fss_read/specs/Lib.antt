@@ -1,5 +1,0 @@
-pub mod Document
-pub mod Faults
-pub mod Grammar
-pub mod Stages
-pub mod Reading
