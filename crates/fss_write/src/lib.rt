@@ -1,0 +1,8 @@
+//! Writes documents in Functional-Style Syntax.
+#![tactic(auto)]
+
+mod fault;
+mod writer;
+
+pub use fault::WriteFault;
+pub use writer::{axiom_text, write};
