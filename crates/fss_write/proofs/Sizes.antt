@@ -1,0 +1,34 @@
+-- How many bytes characters take.
+use Rattle.std.proofs.Common.{◌≡◌, ℕ, ◌+◌, ◌<◌, List, [], ◌∷◌, ◌++◌, length, true, refl, sym, ap, ◌∙◌, arith}
+use Rattle.std.specs.Char.{encode_utf8, len_utf8}
+use Rattle.std.specs.List.{AllByRecursion, list_all}
+use Rattle.std.specs.Str.{IsAscii, IsUtf8, chars, encode_utf8_all}
+use Rattle.std.proofs.lemmas.Bool.Decides.{nat_tests}
+use Rattle.std.proofs.lemmas.List.{length-append}
+use Rattle.std.proofs.lemmas.Str.{chars-IsAscii, encodes-chars, length-encode}
+use Rattle.std.proofs.lemmas.Str.Ascii.{IsAscii-cons, IsAscii-nil}
+use Rattle.std.specs.Cmp.{first_so, second_so}
+use Rattle.owl_text.specs.Iri.{is_ascii}
+use Rattle.owl_text.specs.Utf8.{size}
+
+pub size_append : (xs ys : List ℕ) → size (xs ++ ys) ≡ size xs + size ys
+size_append [] ys = omega arith
+size_append (x ∷ xs) ys = omega (arith, size_append xs ys)
+
+-- the bytes of characters are as many as they take
+pub size_is : (cs : List ℕ) → length (encode_utf8_all cs) ≡ size cs
+size_is [] = refl
+size_is (c ∷ cs) = omega (arith, length-append (encode_utf8 c) (encode_utf8_all cs), length-encode c, size_is cs)
+
+pub size_chars : (s : List ℕ) → IsUtf8 s → size (chars s) ≡ length s
+size_chars s u = sym (size_is (chars s)) ∙ ap length (encodes-chars s u)
+
+ascii_bytes : (s : List ℕ) → list_all is_ascii s ≡ true → IsAscii s
+ascii_bytes [] h = IsAscii-nil
+ascii_bytes (b ∷ bs) h =
+    let small : b < 128 = let e = first_so (is_ascii b) (list_all is_ascii bs) h in grind (arith, nat_tests) in
+    IsAscii-cons b bs small (ascii_bytes bs (second_so (is_ascii b) (list_all is_ascii bs) h))
+
+-- ASCII bytes are their characters
+pub ascii_chars : (s : List ℕ) → list_all is_ascii s ≡ true → chars s ≡ s
+ascii_chars s h = chars-IsAscii s (ascii_bytes s h)
