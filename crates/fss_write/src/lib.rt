@@ -1,6 +1,7 @@
 //! Writes documents in Functional-Style Syntax.
 #![tactic(auto)]
 
+mod atoms;
 mod draft;
 mod fault;
 mod writer;
