@@ -129,7 +129,7 @@ iris_by name iri p old Less i h rest = (i, h)
 iris_by name iri p old Equal i h rest = (i, h.1)
 iris_by name iri p old Greater i h rest = (h.0, rest)
 
-with_prefix_iris : (name iri : List ℕ) (old : List Prefix) → IsIri iri → HaveIris old → HaveIris (with_prefix name iri old)
+pub with_prefix_iris : (name iri : List ℕ) (old : List Prefix) → IsIri iri → HaveIris old → HaveIris (with_prefix name iri old)
 with_prefix_iris name iri [] i h = (i, tt)
 with_prefix_iris name iri (p ∷ old) i h = iris_by name iri p old (text_cmp name p.name) i h (with_prefix_iris name iri old i h.1)
 
