@@ -38,4 +38,3 @@ pub left_too_long : (line : ℕ → List ℕ) (start all now bytes rest : List �
 left_too_long line start all now bytes rest c h e long =
     let next = left_after line start all now bytes rest (now ++ line c) c h e refl in
     subst IsTooLong next.whole (longer (now ++ line c) (flat_map line next.left) long)
-

@@ -1,5 +1,8 @@
 -- How many bytes characters take.
-use Rattle.std.proofs.Common.{◌≡◌, ℕ, ◌+◌, ◌<◌, List, [], ◌∷◌, ◌++◌, length, true, refl, sym, ap, ◌∙◌, arith}
+use Rattle.std.specs.Cmp.Derive.{both_true}
+use Rattle.std.specs.Fmt.{decimal}
+use Rattle.std.proofs.lemmas.Fmt.{decimal_by_steps}
+use Rattle.std.proofs.Common.{Bool, ◌≤◌, ◌^◌, ◌%◌, ◌/◌, ◌≡◌, ℕ, ◌+◌, ◌<◌, List, [], ◌∷◌, ◌++◌, length, true, refl, sym, ap, ◌∙◌, arith}
 use Rattle.std.specs.Char.{encode_utf8, len_utf8}
 use Rattle.std.specs.List.{AllByRecursion, list_all}
 use Rattle.std.specs.Str.{IsAscii, IsUtf8, chars, encode_utf8_all}
@@ -32,3 +35,13 @@ ascii_bytes (b ∷ bs) h =
 -- ASCII bytes are their characters
 pub ascii_chars : (s : List ℕ) → list_all is_ascii s ≡ true → chars s ≡ s
 ascii_chars s h = chars-IsAscii s (ascii_bytes s h)
+
+all_both : (test : ℕ → Bool) (xs ys : List ℕ) → list_all test xs ≡ true → list_all test ys ≡ true → list_all test (xs ++ ys) ≡ true
+all_both test [] ys h k = k
+all_both test (x ∷ xs) ys h k = both_true (first_so (test x) (list_all test xs) h) (all_both test xs ys (second_so (test x) (list_all test xs) h) k)
+
+digit_ascii : (d : ℕ) → d < 10 → list_all is_ascii ((48 + d) ∷ []) ≡ true
+digit_ascii d h = grind (arith, nat_tests)
+
+pub decimal_ascii : (n : ℕ) → n < 2 ^ 64 → list_all is_ascii (decimal n) ≡ true
+decimal_ascii = decimal_by_steps (λ n ds. list_all is_ascii ds ≡ true) (λ n h. digit_ascii n h) (λ n ds h k. all_both is_ascii ds ((48 + n % 10) ∷ []) k (digit_ascii (n % 10) (omega arith)))

@@ -22,6 +22,7 @@ const MOST_BYTES: usize = 1 << 27;
 /// Each call answers `TooLong` only where the text would pass the limit with what was to be added.
 #[derive(Debug, Drop)]
 pub struct Draft {
+    alloc: Global,
     text: Text,
 }
 
@@ -43,8 +44,14 @@ impl Draft {
         ensures { result ≡ [] }
     {
         Draft {
+            alloc,
             text: Text::new(alloc),
         }
+    }
+
+    /// The allocator of the text.
+    pub fn allocator(&self) -> Global {
+        self.alloc
     }
 
     /// Whether so many bytes more are within the limit.
@@ -94,7 +101,7 @@ impl Draft {
         ensures text { result ≡ self }
         ensures within { size self ≤ longest }
     {
-        let Draft { text } = self;
+        let Draft { alloc: _, text } = self;
         text
     }
 }

@@ -4,6 +4,7 @@
 mod atoms;
 mod draft;
 mod fault;
+mod tree;
 mod writer;
 
 pub use fault::WriteFault;

@@ -1,0 +1,169 @@
+-- Parts that are added one behind another.
+use Rattle.std.proofs.Common.{◌≡◌, ℕ, zero, suc, ◌+◌, ◌<◌, ◌≤◌, Bool, true, false, List, [], ◌∷◌, ◌++◌, length, take, drop, get_or, Option, None, Some, refl, sym, ap, ◌∙◌, subst, arith, codes}
+use Rattle.std.specs.Prelude.{map, nat_le, if◌then◌else◌}
+use Rattle.std.specs.List.{flat_map}
+use Rattle.std.specs.Option.{option_map, option_to_list}
+use Rattle.std.proofs.lemmas.List.{append-nil, append_assoc}
+use Rattle.owl_atom.specs.declared.prefixes.Prefix.{Prefix}
+use Rattle.owl_arena.specs.Held.{tree_at, trees_at}
+use Rattle.owl_tree.specs.declared.atom.Atom.{Atom}
+use Rattle.owl_tree.specs.declared.tag.Tag.{Tag}
+use Rattle.owl_tree.specs.declared.row.Rest.TheVariants.{Nothing, Optional, AtLeast, SomeThen, Set}
+use Rattle.owl_tree.specs.Rows.{Row, Leaf, Node, row_of}
+use Rattle.owl_tree.specs.Trees.{Tree, Kids, leaf, node, no_kids, kid, atom_in, kids_in, kids_of, list_of, tag_of}
+use Rattle.owl_tree.specs.TreeLaws.{list_of_kids_of}
+use Rattle.fss_write.specs.Parts.{IsTooLong, behind, has_parts, kids_parts, kids_parts_at, node_parts_at, only_behind, parts_at, repeated, spaced}
+use Rattle.fss_write.specs.Text.{doubled, doubled_behind, joined, leaf_text, node_parts, parts, parts_of, written_form, written_forms}
+use Rattle.fss_write.proofs.Joins.{joined2, longer_by, longer_behind}
+
+-- parts behind parts
+behind_first : (x : List ℕ) (ys : List (List ℕ)) → joined (x ∷ ys) ≡ x ++ flat_map spaced ys
+behind_first x [] = sym (append-nil x)
+behind_first x (y ∷ ys) = ap (λ (z : List ℕ). x ++ (codes " " ++ z)) (behind_first y ys)
+
+behind_spaced : (xs ys : List (List ℕ)) → flat_map spaced (xs ++ ys) ≡ flat_map spaced xs ++ flat_map spaced ys
+behind_spaced [] ys = refl
+behind_spaced (x ∷ xs) ys = ap (λ (z : List ℕ). spaced x ++ z) (behind_spaced xs ys) ∙ sym (append_assoc (spaced x) (flat_map spaced xs) (flat_map spaced ys))
+
+pub behind_append : (some : Bool) (xs ys : List (List ℕ)) → behind some (xs ++ ys) ≡ behind some xs ++ behind (has_parts some xs) ys
+behind_append true [] ys = refl
+behind_append false [] ys = refl
+behind_append true (x ∷ xs) ys = behind_spaced (x ∷ xs) ys
+behind_append false (x ∷ xs) ys =
+    behind_first x (xs ++ ys)
+    ∙ ap (λ (z : List ℕ). x ++ z) (behind_spaced xs ys)
+    ∙ sym (append_assoc x (flat_map spaced xs) (flat_map spaced ys))
+    ∙ ap (λ (z : List ℕ). z ++ flat_map spaced ys) (sym (behind_first x xs))
+
+pub has_append : (some : Bool) (xs ys : List (List ℕ)) → has_parts some (xs ++ ys) ≡ has_parts (has_parts some xs) ys
+has_append some [] ys = refl
+has_append some (x ∷ xs) [] = refl
+has_append some (x ∷ xs) (y ∷ ys) = refl
+
+flat_append : {X : Type 0} (f : X → List (List ℕ)) (xs ys : List X) → flat_map f (xs ++ ys) ≡ flat_map f xs ++ flat_map f ys
+flat_append f [] ys = refl
+flat_append f (x ∷ xs) ys = ap (λ (z : List (List ℕ)). f x ++ z) (flat_append f xs ys) ∙ sym (append_assoc (f x) (flat_map f xs) (flat_map f ys))
+
+flat_one : {X : Type 0} (f : X → List (List ℕ)) (x : X) → flat_map f (x ∷ []) ≡ f x
+flat_one f x = append-nil (f x)
+
+-- the parts of these were added, and whether some part stands there now
+pub record AreAdded (pieces : ℕ → List (List ℕ)) (start : List ℕ) (before : Bool) (ids : List ℕ) (now : List ℕ) (after : Bool) : Type 0 where
+  pub text : now ≡ start ++ behind before (flat_map pieces ids)
+  pub some : after ≡ has_parts before (flat_map pieces ids)
+
+module _ (pieces : ℕ → List (List ℕ)) (start : List ℕ) (before : Bool) where
+  pub added_none : AreAdded pieces start before [] start before
+  added_none = record { text = sym (append-nil start) ∙ none before; some = refl } where
+    none : (some : Bool) → start ++ [] ≡ start ++ behind some []
+    none true = refl
+    none false = refl
+
+  grown : (ids : List ℕ) (id : ℕ) → flat_map pieces (ids ++ id ∷ []) ≡ flat_map pieces ids ++ pieces id
+  grown ids id = flat_append pieces ids (id ∷ []) ∙ ap (λ (z : List (List ℕ)). flat_map pieces ids ++ z) (flat_one pieces id)
+
+  grown_text : (ids : List ℕ) (id : ℕ) → behind before (flat_map pieces (ids ++ id ∷ [])) ≡ behind before (flat_map pieces ids) ++ behind (has_parts before (flat_map pieces ids)) (pieces id)
+  grown_text ids id = ap (behind before) (grown ids id) ∙ behind_append before (flat_map pieces ids) (pieces id)
+
+  pub added_one : (ids : List ℕ) (now : List ℕ) (after : Bool) (id : ℕ) (later : List ℕ) (some : Bool) → AreAdded pieces start before ids now after → later ≡ now ++ behind after (pieces id) → some ≡ has_parts after (pieces id) → AreAdded pieces start before (ids ++ id ∷ []) later some
+  added_one ids now after id later some h text is = record {
+    text =
+      joined2 start (behind before (flat_map pieces ids)) (behind (has_parts before (flat_map pieces ids)) (pieces id)) now later h.text (text ∙ ap (λ (b : Bool). now ++ behind b (pieces id)) h.some)
+      ∙ ap (λ (z : List ℕ). start ++ z) (sym (grown_text ids id));
+    some =
+      is
+      ∙ ap (λ (b : Bool). has_parts b (pieces id)) h.some
+      ∙ sym (has_append before (flat_map pieces ids) (pieces id))
+      ∙ ap (has_parts before) (sym (grown ids id));
+  }
+
+  pub added_too_long : (ids : List ℕ) (now : List ℕ) (after : Bool) (id : ℕ) (rest : List ℕ) → AreAdded pieces start before ids now after → IsTooLong (now ++ behind after (pieces id)) → IsTooLong (start ++ behind before (flat_map pieces ((ids ++ id ∷ []) ++ rest)))
+  added_too_long ids now after id rest h long =
+      let next = added_one ids now after id _ _ h refl refl in
+      let here = subst IsTooLong next.text long in
+      let whole = ap (behind before) (flat_append pieces (ids ++ id ∷ []) rest) ∙ behind_append before (flat_map pieces (ids ++ id ∷ [])) (flat_map pieces rest) in
+      subst (λ (z : List ℕ). IsTooLong (start ++ z)) (sym whole) (longer_by start (behind before (flat_map pieces (ids ++ id ∷ []))) (behind (has_parts before (flat_map pieces (ids ++ id ∷ []))) (flat_map pieces rest)) here)
+
+-- kids as they are written
+doubled_behind_is : (n : ℕ) (ts : List Tree) → doubled_behind n ts ≡ ts ++ option_to_list (only_behind n ts)
+doubled_behind_is zero [] = refl
+doubled_behind_is zero (t ∷ []) = refl
+doubled_behind_is zero (t ∷ u ∷ ts) = sym (append-nil (t ∷ u ∷ ts))
+doubled_behind_is (suc n) [] = refl
+doubled_behind_is (suc n) (t ∷ ts) = ap (λ (us : List Tree). t ∷ us) (doubled_behind_is n ts)
+
+doubled_set : (b : Bool) (n : ℕ) (ts : List Tree) → (if b then doubled_behind n ts else ts) ≡ ts ++ option_to_list (if b then only_behind n ts else None)
+doubled_set true n ts = doubled_behind_is n ts
+doubled_set false n ts = sym (append-nil ts)
+
+doubled_is : (row : Row) (ts : List Tree) → doubled row ts ≡ ts ++ option_to_list (repeated row ts)
+doubled_is (Leaf sort) ts = sym (append-nil ts)
+doubled_is (Node front Nothing) ts = sym (append-nil ts)
+doubled_is (Node front (Optional sort)) ts = sym (append-nil ts)
+doubled_is (Node front (AtLeast sort least)) ts = sym (append-nil ts)
+doubled_is (Node front (SomeThen sort last)) ts = sym (append-nil ts)
+doubled_is (Node front (Set sort least)) ts = doubled_set (nat_le 2 least) (length front) ts
+
+only_map : {X Y : Type 0} (f : X → Y) (n : ℕ) (xs : List X) → only_behind n (map f xs) ≡ option_map f (only_behind n xs)
+only_map f zero [] = refl
+only_map f zero (x ∷ []) = refl
+only_map f zero (x ∷ y ∷ zs) = refl
+only_map f (suc n) [] = refl
+only_map f (suc n) (x ∷ xs) = only_map f n xs
+
+set_map : {X Y : Type 0} (f : X → Y) (b : Bool) (n : ℕ) (xs : List X) → (if b then only_behind n (map f xs) else None) ≡ option_map f (if b then only_behind n xs else None)
+set_map f true n xs = only_map f n xs
+set_map f false n xs = refl
+
+repeated_map : {X Y : Type 0} (f : X → Y) (row : Row) (xs : List X) → repeated row (map f xs) ≡ option_map f (repeated row xs)
+repeated_map f (Leaf sort) xs = refl
+repeated_map f (Node front Nothing) xs = refl
+repeated_map f (Node front (Optional sort)) xs = refl
+repeated_map f (Node front (AtLeast sort least)) xs = refl
+repeated_map f (Node front (SomeThen sort last)) xs = refl
+repeated_map f (Node front (Set sort least)) xs = set_map f (nat_le 2 least) (length front) xs
+
+forms_map : (ks : Kids) → written_forms ks ≡ map written_form (list_of ks)
+forms_map no_kids = refl
+forms_map (kid k ks) = ap (λ (ts : List Tree). written_form k ∷ ts) (forms_map ks)
+
+kids_written : (t : Tag) (ks : Kids) → kids_in (written_form (node t ks)) ≡ doubled (row_of t) (map written_form (list_of ks))
+kids_written t ks = list_of_kids_of (doubled (row_of t) (written_forms ks)) ∙ ap (doubled (row_of t)) (forms_map ks)
+
+map_both : {X Y Z : Type 0} (f : X → Y) (g : Y → Z) (xs : List X) → map g (map f xs) ≡ map (λ (x : X). g (f x)) xs
+map_both f g [] = refl
+map_both f g (x ∷ xs) = ap (λ (zs : List _). g (f x) ∷ zs) (map_both f g xs)
+
+flat_of_map : {X Y : Type 0} (f : X → Y) (g : Y → List (List ℕ)) (xs : List X) → flat_map g (map f xs) ≡ flat_map (λ (x : X). g (f x)) xs
+flat_of_map f g [] = refl
+flat_of_map f g (x ∷ xs) = ap (λ (z : List (List ℕ)). g (f x) ++ z) (flat_of_map f g xs)
+
+flat_of_option : {X Y : Type 0} (f : X → Y) (g : Y → List (List ℕ)) (o : Option X) → flat_map g (option_to_list (option_map f o)) ≡ flat_map (λ (x : X). g (f x)) (option_to_list o)
+flat_of_option f g None = refl
+flat_of_option f g (Some x) = refl
+
+-- the parts of the kids of a node are those of their numbers, and of the one that stands twice
+node_kids : (prefixes : List Prefix) (trees : List Tree) (t : Tag) (ks : Kids) (ids : List ℕ) → trees_at trees ids ≡ list_of ks → kids_parts prefixes (node t ks) ≡ flat_map (parts_at prefixes trees t) (ids ++ option_to_list (repeated (row_of t) ids))
+node_kids prefixes trees t ks ids e =
+    let form : ℕ → Tree = λ id. written_form (tree_at trees id) in
+    let forms : map written_form (list_of ks) ≡ map form ids = ap (map written_form) (sym e) ∙ map_both (tree_at trees) written_form ids in
+    let written : kids_in (written_form (node t ks)) ≡ map form ids ++ option_to_list (option_map form (repeated (row_of t) ids)) =
+    kids_written t ks ∙ ap (doubled (row_of t)) forms ∙ doubled_is (row_of t) (map form ids) ∙ ap (λ (o : Option Tree). map form ids ++ option_to_list o) (repeated_map form (row_of t) ids) in
+    ap (flat_map (parts prefixes t)) written
+    ∙ flat_append (parts prefixes t) (map form ids) (option_to_list (option_map form (repeated (row_of t) ids)))
+    ∙ ap (λ (z : List (List ℕ)). z ++ flat_map (parts prefixes t) (option_to_list (option_map form (repeated (row_of t) ids)))) (flat_of_map form (parts prefixes t) ids)
+    ∙ ap (λ (z : List (List ℕ)). flat_map (parts_at prefixes trees t) ids ++ z) (flat_of_option form (parts prefixes t) (repeated (row_of t) ids))
+    ∙ sym (flat_append (parts_at prefixes trees t) ids (option_to_list (repeated (row_of t) ids)))
+
+parts_list : (prefixes : List Prefix) (t : Tag) (ks : Kids) → parts_of prefixes t ks ≡ flat_map (parts prefixes t) (list_of ks)
+parts_list prefixes t no_kids = refl
+parts_list prefixes t (kid k ks) = ap (λ (z : List (List ℕ)). parts prefixes t k ++ z) (parts_list prefixes t ks)
+
+-- the parts of a tree by its root
+pub leaf_parts : (prefixes : List Prefix) (within : Tag) (t : Tree) (a : Atom) → atom_in t ≡ Some a → parts prefixes within (written_form t) ≡ leaf_text prefixes within (tag_of t) a ∷ []
+leaf_parts prefixes within (leaf u b) a e = let same : b ≡ a = cc in ap (λ (x : Atom). leaf_text prefixes within u x ∷ []) same
+leaf_parts prefixes within (node u ks) a e = absurd (cc)
+
+pub other_parts : (prefixes : List Prefix) (within : Tag) (t : Tree) → atom_in t ≡ None → parts prefixes within (written_form t) ≡ node_parts (tag_of t) (kids_parts prefixes t)
+other_parts prefixes within (leaf u b) e = absurd (cc)
+other_parts prefixes within (node u ks) e = ap (node_parts u) (parts_list prefixes u (kids_of (doubled (row_of u) (written_forms ks))))
