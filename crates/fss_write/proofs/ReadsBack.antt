@@ -1,0 +1,184 @@
+-- The text of a document reads back to the same ontology, under the same prefixes.
+use Rattle.std.proofs.Common.{◌≡◌, ◌⊎◌, inl, inr, ℕ, Bool, true, false, List, [], ◌∷◌, ◌++◌, map, codes, Option, Some, None, Contains, refl, sym, ap, ◌∙◌, subst}
+use Rattle.std.specs.Prelude.{flat_map, if◌then◌else◌, IfSome}
+use Rattle.std.specs.Char.{IsScalar, encode_utf8}
+use Rattle.std.specs.List.{AllByRecursion}
+use Rattle.std.specs.Str.{all_scalars, encode_utf8_all}
+use Rattle.std.proofs.lemmas.List.{append_assoc, append-nil}
+use Rattle.owl_list.specs.Ascending.{by_order}
+use Rattle.owl_list.specs.AscendingLaws.{all_from, all_in, all_map, ascending_holds, from_map, hold_same, in_map, same_from_equal}
+use Rattle.owl_text.specs.Iri.{IsIri}
+use Rattle.owl_text.specs.Names.{IsPrefixName}
+use Rattle.owl_text.specs.Tokens.{Splits, SplitsFrom, behind_mark, mark_size}
+use Rattle.owl_text.specs.Utf8.{BeginsNoCharacter}
+use Rattle.owl_text.specs.declared.token.Placed.{Placed}
+use Rattle.owl_text.specs.declared.token.Sign.TheVariants as sign
+use Rattle.owl_text.specs.declared.token.Token.{Token}
+use Rattle.owl_text.specs.declared.token.Token.TheVariants as token
+use Rattle.owl_atom.specs.declared.prefixes.Prefix.{Prefix}
+use Rattle.owl_atom.specs.Prefixes.{IsTable}
+use Rattle.owl_tree.specs.declared.atom.Atom.{Atom}
+use Rattle.owl_tree.specs.declared.atom.Atom.TheVariants.{Iri}
+use Rattle.owl_tree.specs.declared.tag.Tag.{Tag}
+use Rattle.owl_tree.specs.declared.tag.Tag.TheVariants as tag
+use Rattle.owl_tree.specs.Canonical.{canonical}
+use Rattle.owl_tree.specs.CanonicalLaws.{canonical_again}
+use Rattle.owl_tree.specs.Equivalence.{IsEquivalent}
+use Rattle.owl_tree.specs.Ontologies.{AreAmong, Head, HoldEquivalent, IsAnnotation, IsAxiom, IsHead, IsName, IsOntology, IsSameOntology, Ontology, OntologyName, canonical_list, canonical_ontology}
+use Rattle.owl_tree.specs.Order.{tree_cmp}
+use Rattle.owl_tree.specs.OrderLaws.{only_equal_trees_tie, trees_total}
+use Rattle.owl_tree.specs.Rows.{is_tag}
+use Rattle.owl_tree.specs.Shape.{IsShaped}
+use Rattle.owl_tree.specs.Tags.{is_axiom, keyword_of}
+use Rattle.owl_tree.specs.Trees.{Tree, Kids, leaf, node, no_kids, kid, tag_of}
+use Rattle.owl_doc.specs.Functional.{IsWrittenAnnotation, IsWrittenAxiom, IsWrittenOntology, PrefixDeclaration, SpellsFunctional, body_terms, declaration_tokens, import_terms, iri_term, item_terms, name_terms, ontology_terms, version_terms}
+use Rattle.owl_doc.specs.Spelling.{IsWritten, closed, is_bare, is_group, leaf_spelling, opened, spelling, spellings}
+use Rattle.owl_doc.specs.Terms.{AreTerms, tokens_of}
+use Rattle.owl_doc.specs.declared.term.Term.{Term}
+use Rattle.owl_doc.specs.declared.term.Term.TheVariants as term
+use Rattle.fss_write.specs.Text.{declared_prefixes, full_iri, header_line, import_line, item_line, item_text, joined, lines_of, name_text, parts, prefix_line, text_of, tree_text, version_text, with_prefix, written_form, written_prefixes}
+use Rattle.fss_write.proofs.DeclaredTables.{AreKnown, are_declarable, are_known, declaration, declared_table, written_iris, written_table}
+use Rattle.fss_write.proofs.Pieces.{Cuts, Says, cuts_space, cuts_token, says_close, says_line, says_none, says_opening, says_space}
+use Rattle.fss_write.proofs.Stops.{iri_is_longest, sign_is_longest, token_longest}
+use Rattle.fss_write.proofs.WrittenForms.{equivalent_written, is_written, written_equivalent, written_tag}
+use Rattle.fss_write.proofs.WrittenIris.{spells_nothing}
+use Rattle.fss_write.proofs.WrittenTables.{HaveIris}
+use Rattle.fss_write.proofs.WrittenTerms.{allows_end, import_word, ontology_word, prefix_word, say_tree}
+
+-- what stands behind a tree stands behind its terms
+
+leaf_append : (b : Bool) (t : Tag) (held : Term) (more rest : List Term) → (if b then term.Keyword (keyword_of t) ∷ term.Opening ∷ held ∷ term.Closing ∷ (more ++ rest) else held ∷ (more ++ rest)) ≡ (if b then term.Keyword (keyword_of t) ∷ term.Opening ∷ held ∷ term.Closing ∷ more else held ∷ more) ++ rest
+leaf_append true t held more rest = refl
+leaf_append false t held more rest = refl
+
+closed_append : (t : Tag) (more rest : List Term) → closed t (more ++ rest) ≡ closed t more ++ rest
+closed_append t more rest = by_test (is_bare t)
+  where
+    by_test : (b : Bool) → (if b then more ++ rest else term.Closing ∷ (more ++ rest)) ≡ (if b then more else term.Closing ∷ more) ++ rest
+    by_test true = refl
+    by_test false = refl
+
+opened_append : (t : Tag) (more rest : List Term) → opened t (more ++ rest) ≡ opened t more ++ rest
+opened_append t more rest = by_tests (is_bare t) (is_group t)
+  where
+    by_tests : (b g : Bool) → (if b then more ++ rest else (if g then term.Opening ∷ (more ++ rest) else term.Keyword (keyword_of t) ∷ term.Opening ∷ (more ++ rest))) ≡ (if b then more else (if g then term.Opening ∷ more else term.Keyword (keyword_of t) ∷ term.Opening ∷ more)) ++ rest
+    by_tests true g = refl
+    by_tests false true = refl
+    by_tests false false = refl
+
+mutual
+  spelling_append : (within : Tag) (t : Tree) (more rest : List Term) → spelling within t (more ++ rest) ≡ spelling within t more ++ rest
+  spelling_append within (leaf t a) more rest = leaf_append (is_tag tag.Declaration within) t (term.Atom a) more rest
+  spelling_append within (node t ks) more rest =
+      ap (λ (x : List Term). opened t (spellings t ks x)) (closed_append t more rest)
+      ∙ ap (opened t) (spellings_append t ks (closed t more) rest)
+      ∙ opened_append t (spellings t ks (closed t more)) rest
+
+  spellings_append : (within : Tag) (ks : Kids) (more rest : List Term) → spellings within ks (more ++ rest) ≡ spellings within ks more ++ rest
+  spellings_append within no_kids more rest = refl
+  spellings_append within (kid t ks) more rest = ap (spelling within t) (spellings_append within ks more rest) ∙ spelling_append within t (spellings within ks more) rest
+
+-- the lines of an ontology
+
+module _ (written read : List Prefix) (known : AreKnown written read) where
+  says_item : (t : Tree) (cs : List ℕ) (more : List Term) → IsShaped (written_form t) → Says read cs more → Says read (item_line written t ++ cs) (item_terms (written_form t) ++ more)
+  says_item t cs more h k =
+      let form = written_form t in
+      let whole = say_tree written read known (tag_of form) form h (10 ∷ cs) more (allows_end (parts written (tag_of form) form) (10 ∷ cs) refl) (says_line read cs more k) in
+      subst (λ (x : List ℕ). Says read x (item_terms form ++ more)) (sym (append_assoc (item_text written t) (10 ∷ []) cs))
+      (subst (λ (x : List Term). Says read (item_text written t ++ (10 ∷ cs)) x) (spelling_append (tag_of form) form [] more) whole)
+
+  says_items : (ts : List Tree) (cs : List ℕ) (more : List Term) → AllByRecursion (λ t. IsShaped (written_form t)) ts → Says read cs more → Says read (flat_map (item_line written) ts ++ cs) (flat_map item_terms (map written_form ts) ++ more)
+  says_items [] cs more h k = k
+  says_items (t ∷ ts) cs more h k =
+      let whole = says_item t (flat_map (item_line written) ts ++ cs) (flat_map item_terms (map written_form ts) ++ more) h.0 (says_items ts cs more h.1 k) in
+      subst (λ (x : List ℕ). Says read x (flat_map item_terms (map written_form (t ∷ ts)) ++ more)) (sym (append_assoc (item_line written t) (flat_map (item_line written) ts) cs))
+      (subst (λ (x : List Term). Says read (item_line written t ++ (flat_map (item_line written) ts ++ cs)) x) (sym (append_assoc (item_terms (written_form t)) (flat_map item_terms (map written_form ts)) more)) whole)
+
+says_full : (read : List Prefix) (iri cs : List ℕ) (more : List Term) → IsIri iri → Says read cs more → Says read (full_iri iri ++ cs) (iri_term iri ∷ more)
+says_full read iri cs more h k =
+    cuts_token (λ tokens. AreTerms read tokens (iri_term iri ∷ more)) (λ tokens. AreTerms read tokens more) (token.Iri iri) (full_iri iri) cs (h, refl)
+    (iri_is_longest iri (full_iri iri) cs (h, refl)) (λ ts m. (ts, (token.Iri iri, refl, refl), m)) k
+
+says_import : (read : List Prefix) (iri cs : List ℕ) (more : List Term) → IsIri iri → Says read cs more → Says read (import_line iri ++ cs) (import_terms iri ++ more)
+says_import read iri cs more h k =
+    let inner = says_full read iri (41 ∷ 10 ∷ cs) (term.Closing ∷ more) h (says_close read (10 ∷ cs) more (says_line read cs more k)) in
+    let whole = says_opening read (codes "Import") (full_iri iri ++ (41 ∷ 10 ∷ cs)) (iri_term iri ∷ term.Closing ∷ more) import_word inner in
+    subst (λ (x : List ℕ). Says read (codes "Import(" ++ x) (import_terms iri ++ more)) (sym (append_assoc (full_iri iri) (codes ")\n") cs)) whole
+
+says_imports : (read : List Prefix) (iris : List (List ℕ)) (cs : List ℕ) (more : List Term) → AllByRecursion IsIri iris → Says read cs more → Says read (flat_map import_line iris ++ cs) (flat_map import_terms iris ++ more)
+says_imports read [] cs more h k = k
+says_imports read (iri ∷ iris) cs more h k =
+    let whole = says_import read iri (flat_map import_line iris ++ cs) (flat_map import_terms iris ++ more) h.0 (says_imports read iris cs more h.1 k) in
+    subst (λ (x : List ℕ). Says read x (import_terms iri ++ (flat_map import_terms iris ++ more))) (sym (append_assoc (import_line iri) (flat_map import_line iris) cs)) whole
+
+says_version : (read : List Prefix) (version : Option (List ℕ)) (cs : List ℕ) (more : List Term) → IfSome version IsIri → Says read cs more → Says read (version_text version ++ cs) (version_terms version ++ more)
+says_version read None cs more h k = k
+says_version read (Some iri) cs more h k = says_space read (full_iri iri ++ cs) (iri_term iri ∷ more) (says_full read iri cs more h k)
+
+says_name : (read : List Prefix) (name : Option OntologyName) (cs : List ℕ) (more : List Term) → IfSome name IsName → Says read cs more → Says read (name_text name ++ cs) (name_terms name ++ more)
+says_name read None cs more h k = k
+says_name read (Some name) cs more h k =
+    subst (λ (x : List ℕ). Says read x (name_terms (Some name) ++ more)) (sym (append_assoc (full_iri name.iri) (version_text name.version) cs))
+    (says_full read name.iri (version_text name.version ++ cs) (version_terms name.version ++ more) h.iri (says_version read name.version cs more h.version k))
+
+says_header : (read : List Prefix) (name : Option OntologyName) (cs : List ℕ) (more : List Term) → IfSome name IsName → Says read cs more → Says read (header_line name ++ cs) (term.Keyword (codes "Ontology") ∷ term.Opening ∷ (name_terms name ++ more))
+says_header read name cs more h k =
+    let whole = says_opening read (codes "Ontology") (name_text name ++ (10 ∷ cs)) (name_terms name ++ more) ontology_word (says_name read name (10 ∷ cs) more h (says_line read cs more k)) in
+    subst (λ (x : List ℕ). Says read (codes "Ontology(" ++ x) (term.Keyword (codes "Ontology") ∷ term.Opening ∷ (name_terms name ++ more))) (sym (append_assoc (name_text name) (codes "\n") cs)) whole
+
+-- the ontology as it is written
+abbrev pub written_ontology : Ontology → Ontology
+written_ontology o = record { head = o.head; annotations = map written_form o.annotations; axioms = map written_form o.axioms }
+
+abbrev AreShapedForms : List Tree → Type 0
+AreShapedForms ts = AllByRecursion (λ t. IsShaped (written_form t)) ts
+
+-- the lines behind the prefixes
+abbrev ontology_lines : List Prefix → Ontology → List ℕ
+ontology_lines written o =
+    header_line o.head.name ++ (flat_map import_line o.head.imports ++ (flat_map (item_line written) o.annotations ++ (flat_map (item_line written) o.axioms ++ codes ")\n")))
+
+says_ontology : (written read : List Prefix) → AreKnown written read → (o : Ontology) → IsHead o.head → AreShapedForms o.annotations → AreShapedForms o.axioms → Says read (ontology_lines written o) (ontology_terms (written_ontology o))
+says_ontology written read known o head annotations axioms =
+    let last = says_close read (10 ∷ []) [] (says_line read [] [] (says_none read)) in
+    says_header read o.head.name _ (body_terms (written_ontology o)) head.name
+    (says_imports read o.head.imports _ _ head.imports
+    (says_items written read known o.annotations _ _ annotations
+    (says_items written read known o.axioms (codes ")\n") (term.Closing ∷ []) axioms last)))
+
+-- the lines of the prefixes, and what stands behind them
+
+abbrev Declares : List Prefix → List PrefixDeclaration → List Term → List Token → Type 0
+Declares read ds terms tokens = (body : List Token) × (tokens ≡ flat_map declaration_tokens ds ++ body) × AreTerms read body terms
+
+declares_one : (read : List Prefix) (p : Prefix) (ds : List PrefixDeclaration) (terms : List Term) (cs : List ℕ) → IsPrefixName p.name → IsIri p.iri
+    → Cuts cs (Declares read ds terms) → Cuts (prefix_line p ++ cs) (Declares read (declaration p ∷ ds) terms)
+declares_one read p ds terms cs name iri k =
+    let fact : List Token → Type 0 = Declares read (declaration p ∷ ds) terms in
+    let close = λ (tokens : List Token). fact (token.Word (codes "Prefix") ∷ token.Sign sign.Open ∷ token.Name p.name [] ∷ token.Sign sign.Equals ∷ token.Iri p.iri ∷ tokens) in
+    let ending =
+    cuts_token close (Declares read ds terms) (token.Sign sign.Close) (codes ")") (10 ∷ cs) refl (sign_is_longest sign.Close (codes ")") (10 ∷ cs) refl)
+    (λ ts m. (m.0, ap (λ (x : List Token). declaration_tokens (declaration p) ++ x) m.1, m.2)) (cuts_space (Declares read ds terms) 10 cs refl k) in
+    let full = λ (tokens : List Token). fact (token.Word (codes "Prefix") ∷ token.Sign sign.Open ∷ token.Name p.name [] ∷ token.Sign sign.Equals ∷ tokens) in
+    let with_iri = cuts_token full close (token.Iri p.iri) (full_iri p.iri) (41 ∷ 10 ∷ cs) (iri, refl) (iri_is_longest p.iri (full_iri p.iri) (41 ∷ 10 ∷ cs) (iri, refl)) (λ ts m. m) ending in
+    let named = λ (tokens : List Token). fact (token.Word (codes "Prefix") ∷ token.Sign sign.Open ∷ token.Name p.name [] ∷ tokens) in
+    let with_equals = cuts_token named full (token.Sign sign.Equals) (codes "=") (full_iri p.iri ++ (41 ∷ 10 ∷ cs)) refl (sign_is_longest sign.Equals (codes "=") (full_iri p.iri ++ (41 ∷ 10 ∷ cs)) refl) (λ ts m. m) with_iri in
+    let begun = λ (tokens : List Token). fact (token.Word (codes "Prefix") ∷ token.Sign sign.Open ∷ tokens) in
+    let after = 61 ∷ (full_iri p.iri ++ (41 ∷ 10 ∷ cs)) in
+    let with_name = cuts_token begun named (token.Name p.name []) (p.name ++ (58 ∷ [])) after ([], name, spells_nothing, refl) (token_longest (token.Name p.name []) (p.name ++ (58 ∷ [])) after ([], name, spells_nothing, refl) refl) (λ ts m. m) with_equals in
+    let word = λ (tokens : List Token). fact (token.Word (codes "Prefix") ∷ tokens) in
+    let inside = (p.name ++ (58 ∷ [])) ++ after in
+    let with_open = cuts_token word begun (token.Sign sign.Open) (codes "(") inside refl (sign_is_longest sign.Open (codes "(") inside refl) (λ ts m. m) with_name in
+    let whole = cuts_token fact word (token.Word (codes "Prefix")) (codes "Prefix") (40 ∷ inside) (prefix_word, refl) (token_longest (token.Word (codes "Prefix")) (codes "Prefix") (40 ∷ inside) (prefix_word, refl) refl) (λ ts m. m) with_open in
+    let same : (p.name ++ (codes ":=" ++ (full_iri p.iri ++ codes ")\n"))) ++ cs ≡ inside =
+    append_assoc p.name (codes ":=" ++ (full_iri p.iri ++ codes ")\n")) cs
+    ∙ ap (λ (x : List ℕ). p.name ++ (codes ":=" ++ x)) (append_assoc (full_iri p.iri) (codes ")\n") cs)
+    ∙ sym (append_assoc p.name (58 ∷ []) after) in
+    subst (λ (x : List ℕ). Cuts (codes "Prefix(" ++ x) fact) (sym same) whole
+
+declares_all : (read : List Prefix) (ps : List Prefix) (terms : List Term) (cs : List ℕ) → AllByRecursion (λ p. IsPrefixName p.name) ps → HaveIris ps → Says read cs terms → Cuts (flat_map prefix_line ps ++ cs) (Declares read (map declaration ps) terms)
+declares_all read [] terms cs names iris k = λ place. let others = k place in (others.0, others.1, (tokens_of others.0, refl, others.2))
+declares_all read (p ∷ ps) terms cs names iris k =
+    subst (λ (x : List ℕ). Cuts x (Declares read (map declaration (p ∷ ps)) terms)) (sym (append_assoc (prefix_line p) (flat_map prefix_line ps) cs))
+    (declares_one read p (map declaration ps) terms (flat_map prefix_line ps ++ cs) names.0 iris.0 (declares_all read ps terms cs names.1 iris.1 k))
