@@ -1,14 +1,18 @@
 -- The text of a document reads back to the same ontology, under the same prefixes.
-use Rattle.std.proofs.Common.{◌≡◌, ◌⊎◌, inl, inr, ℕ, Bool, true, false, List, [], ◌∷◌, ◌++◌, map, codes, Option, Some, None, Contains, refl, sym, ap, ◌∙◌, subst}
+use Rattle.std.proofs.Common.{◌≡◌, ◌⊎◌, inl, inr, ℕ, Bool, true, false, List, [], ◌∷◌, ◌++◌, map, codes, Option, Some, None, Contains, refl, sym, ap, ◌∙◌, subst, length, length-append, arith}
 use Rattle.std.specs.Prelude.{flat_map, if◌then◌else◌, IfSome}
+use Rattle.std.specs.declared.cmp.Ordering.{Ordering}
+use Rattle.std.specs.declared.cmp.Ordering.TheVariants.{Less, Equal, Greater}
 use Rattle.std.specs.Char.{IsScalar, encode_utf8}
 use Rattle.std.specs.List.{AllByRecursion}
 use Rattle.std.specs.Str.{all_scalars, encode_utf8_all}
 use Rattle.std.proofs.lemmas.List.{append_assoc, append-nil}
+use Rattle.std.proofs.lemmas.Str.{length-le-encodes}
 use Rattle.owl_list.specs.Ascending.{by_order}
 use Rattle.owl_list.specs.AscendingLaws.{all_from, all_in, all_map, ascending_holds, from_map, hold_same, in_map, same_from_equal}
 use Rattle.owl_text.specs.Iri.{IsIri}
 use Rattle.owl_text.specs.Names.{IsPrefixName}
+use Rattle.owl_text.specs.Order.{text_cmp}
 use Rattle.owl_text.specs.Tokens.{Splits, SplitsFrom, behind_mark, mark_size}
 use Rattle.owl_text.specs.Utf8.{BeginsNoCharacter}
 use Rattle.owl_text.specs.declared.token.Placed.{Placed}
@@ -17,6 +21,7 @@ use Rattle.owl_text.specs.declared.token.Token.{Token}
 use Rattle.owl_text.specs.declared.token.Token.TheVariants as token
 use Rattle.owl_atom.specs.declared.prefixes.Prefix.{Prefix}
 use Rattle.owl_atom.specs.Prefixes.{IsTable}
+use Rattle.owl_atom.specs.Vocabulary.{xsd}
 use Rattle.owl_tree.specs.declared.atom.Atom.{Atom}
 use Rattle.owl_tree.specs.declared.atom.Atom.TheVariants.{Iri}
 use Rattle.owl_tree.specs.declared.tag.Tag.{Tag}
@@ -182,3 +187,107 @@ declares_all read [] terms cs names iris k = λ place. let others = k place in (
 declares_all read (p ∷ ps) terms cs names iris k =
     subst (λ (x : List ℕ). Cuts x (Declares read (map declaration (p ∷ ps)) terms)) (sym (append_assoc (prefix_line p) (flat_map prefix_line ps) cs))
     (declares_one read p (map declaration ps) terms (flat_map prefix_line ps ++ cs) names.0 iris.0 (declares_all read ps terms cs names.1 iris.1 k))
+
+-- what is written of an ontology in canonical form may be written, and is the same ontology
+
+each_canonical : (ts : List Tree) → canonical_list ts ≡ ts → AllByRecursion (λ t. canonical t ≡ t) ts
+each_canonical ts e = all_from (λ t. canonical t ≡ t) ts (λ t m.
+    let inside = subst (λ (us : List Tree). Contains us t) (sym e) m in
+    let form = from_map canonical ts t ((ascending_holds tree_cmp trees_total only_equal_trees_tie (map canonical ts) t).0 inside) in
+    ap canonical (sym form.value) ∙ canonical_again form.element ∙ form.value)
+
+annotations_written : (ts : List Tree) → AllByRecursion IsAnnotation ts → AllByRecursion (λ t. canonical t ≡ t) ts → AllByRecursion IsWrittenAnnotation (map written_form ts)
+annotations_written [] h e = tt
+annotations_written (t ∷ ts) h e = (record { tag = written_tag t ∙ h.0.tag; written = is_written t h.0.shaped e.0 }, annotations_written ts h.1 e.1)
+
+axioms_written : (ts : List Tree) → AllByRecursion IsAxiom ts → AllByRecursion (λ t. canonical t ≡ t) ts → AllByRecursion IsWrittenAxiom (map written_form ts)
+axioms_written [] h e = tt
+axioms_written (t ∷ ts) h e = (record { tag = ap is_axiom (written_tag t) ∙ h.0.tag; written = is_written t h.0.shaped e.0 }, axioms_written ts h.1 e.1)
+
+annotation_forms : (ts : List Tree) → AllByRecursion IsWrittenAnnotation (map written_form ts) → AreShapedForms ts
+annotation_forms [] h = tt
+annotation_forms (t ∷ ts) h = (h.0.written.shaped, annotation_forms ts h.1)
+
+axiom_forms : (ts : List Tree) → AllByRecursion IsWrittenAxiom (map written_form ts) → AreShapedForms ts
+axiom_forms [] h = tt
+axiom_forms (t ∷ ts) h = (h.0.written.shaped, axiom_forms ts h.1)
+
+hold_written : (ts : List Tree) → HoldEquivalent (map written_form ts) ts
+hold_written ts = record {
+  there = λ t m.
+      let form = from_map written_form ts t m in
+      (form.element, form.inside, subst (λ (u : Tree). IsEquivalent u form.element) form.value (written_equivalent form.element));
+  back = λ t m. (written_form t, in_map written_form ts t m, equivalent_written t);
+}
+
+pub written_same : (o : Ontology) → IsSameOntology (written_ontology o) o
+written_same o = record {
+  head = record { name = refl; imports = hold_same o.head.imports };
+  annotations = hold_written o.annotations;
+  axioms = hold_written o.axioms;
+}
+
+pub ontology_is_written : (o : Ontology) → IsOntology o → canonical_ontology o ≡ o → IsWrittenOntology (written_ontology o)
+ontology_is_written o h e = record {
+  head = h.head;
+  annotations = annotations_written o.annotations h.annotations (each_canonical o.annotations (ap (λ (q : Ontology). q.annotations) e));
+  axioms = axioms_written o.axioms h.axioms (each_canonical o.axioms (ap (λ (q : Ontology). q.axioms) e));
+}
+
+-- the text begins with a prefix, and so with no byte order mark
+
+abbrev IsUnmarked : List ℕ → Type 0
+IsUnmarked cs = (behind_mark cs ≡ cs) × (mark_size cs ≡ 0)
+
+unmarked_by : (name iri : List ℕ) (p : Prefix) (ps : List Prefix) (o : Ordering) (rest : List ℕ)
+    → IsUnmarked (flat_map prefix_line (by_order o (record { name = name; iri = iri; fixed = false; declared = false } ∷ p ∷ ps) (record p { iri = iri } ∷ ps) (p ∷ with_prefix name iri ps)) ++ rest)
+unmarked_by name iri p ps Less rest = (refl, refl)
+unmarked_by name iri p ps Equal rest = (refl, refl)
+unmarked_by name iri p ps Greater rest = (refl, refl)
+
+unmarked : (name iri : List ℕ) (ps : List Prefix) (rest : List ℕ) → IsUnmarked (flat_map prefix_line (with_prefix name iri ps) ++ rest)
+unmarked name iri [] rest = (refl, refl)
+unmarked name iri (p ∷ ps) rest = unmarked_by name iri p ps (text_cmp name p.name) rest
+
+no_character : BeginsNoCharacter []
+no_character c rest h e =
+    absurd (omega (arith, ap (λ (x : List ℕ). length x) e, length-append (encode_utf8 c) rest, length-append (encode_utf8 c) [], length-le-encodes (c ∷ [])))
+
+-- the text is cut into tokens that are prefixes and then the ontology, or an equivalent one
+pub record SpellsText (prefixes : List Prefix) (o : Ontology) : Type 0 where
+  pub placed : List Placed
+  pub splits : Splits (encode_utf8_all (text_of prefixes o)) placed None
+  pub spells : SpellsFunctional (declared_prefixes prefixes) o (tokens_of placed)
+
+splits_text : (cs : List ℕ) (placed : List Placed) → IsUnmarked cs → all_scalars cs ≡ true → SplitsFrom 0 cs [] placed None → Splits (encode_utf8_all cs) placed None
+splits_text cs placed unmarked scalars splits = record {
+  characters = cs;
+  tail = [];
+  decodes = record { parts = sym (append-nil (encode_utf8_all cs)); scalars = scalars; stops = no_character };
+  splits =
+      subst (λ (n : ℕ). SplitsFrom n (behind_mark cs) [] placed None) (sym unmarked.1)
+      (subst (λ (x : List ℕ). SplitsFrom 0 x [] placed None) (sym unmarked.0) splits);
+}
+
+pub text_reads_back : (prefixes : List Prefix) (o : Ontology) → IsTable prefixes → HaveIris prefixes → IsOntology o → canonical_ontology o ≡ o → all_scalars (text_of prefixes o) ≡ true → SpellsText prefixes o
+text_reads_back prefixes o table iris h e scalars =
+    let written = written_prefixes prefixes in
+    let read = declared_prefixes prefixes in
+    let is = ontology_is_written o h e in
+    let ontology = says_ontology written read (are_known prefixes table) o h.head (annotation_forms o.annotations is.annotations) (axiom_forms o.axioms is.axioms) in
+    let cut = declares_all read written (ontology_terms (written_ontology o)) (ontology_lines written o) (written_table prefixes table).names (written_iris prefixes iris) ontology 0 in
+    record {
+      placed = cut.0;
+      splits = splits_text (text_of prefixes o) cut.0 (unmarked (codes "xsd") (xsd []) _ (ontology_lines written o)) scalars cut.1;
+      spells = record {
+        declarations = map declaration written;
+        body = cut.2.0;
+        written = written_ontology o;
+        parts = cut.2.1;
+        declarable = are_declarable prefixes table iris;
+        table = declared_table prefixes table;
+        terms = cut.2.2;
+        is_written = is;
+        same = written_same o;
+      };
+    }
