@@ -1,14 +1,14 @@
 -- The first character of a token tells of which kind it can be.
-use Rattle.std.proofs.Common.{◌≡◌, ◌⊎◌, inl, inr, ℕ, ◌<◌, ◌≤◌, Bool, true, false, ◌&&◌, ◌||◌, List, [], ◌∷◌, ◌++◌, refl, sym, ap, ◌∙◌, subst, arith}
+use Rattle.std.proofs.Common.{◌≡◌, ◌⊎◌, inl, inr, ℕ, ◌<◌, ◌≤◌, Bool, true, false, ◌||◌, List, [], ◌∷◌, ◌++◌, refl, sym, ap, ◌∙◌, arith}
 use Rattle.std.specs.Prelude.{codes, nat_lt, nat_le, ◌==◌, if◌then◌else◌}
 use Rattle.std.specs.Char.{is_ascii_digit}
 use Rattle.std.specs.Int.{is_in_range}
 use Rattle.std.specs.List.{list_all}
-use Rattle.std.proofs.lemmas.Bool.{and_parts, or_cases, both_ways, cond-true, cond-false, false_from_ne_true, leb-true, ltb-true, eqb-true}
+use Rattle.std.proofs.lemmas.Bool.{and_parts, or_cases, cond-true, cond-false, false_from_ne_true, leb-true, ltb-true, eqb-true}
 use Rattle.owl_text.specs.Iri.{is_among}
 use Rattle.owl_text.proofs.Spans.{both}
 use Rattle.owl_text.specs.Names.{in_ranges, base_ranges, start_ranges, is_base, is_start, IsNameFrom, IsRunOf, IsPrefixName}
-use Rattle.owl_text.specs.Tokens.{Spells, is_space, is_comment_start}
+use Rattle.owl_text.specs.Tokens.{Spells}
 use Rattle.owl_text.specs.declared.token.Token.{Token}
 use Rattle.owl_text.specs.declared.token.Token.TheVariants.{Iri, Name, Blank, Str, At, Word, Int, Sign}
 use Rattle.owl_text.specs.declared.token.Sign.{Sign as Mark}

@@ -5,3 +5,5 @@ pub mod Spans
 pub mod Leads
 pub mod Spelled
 pub mod OneWay
+pub mod LongestNames
+pub mod LongestTokens

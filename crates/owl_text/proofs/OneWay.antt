@@ -1,19 +1,19 @@
 -- Bytes are one list of tokens at most, and they end in one way.
-use Rattle.std.proofs.Common.{◌≡◌, ◌⊎◌, inl, inr, ℕ, ◌+◌, ◌≤◌, Bool, true, false, Option, Some, None, List, [], ◌∷◌, ◌++◌, length, refl, sym, ap, ◌∙◌, subst, arith}
+use Rattle.std.proofs.Common.{◌≡◌, ◌⊎◌, inl, inr, ℕ, ◌+◌, Bool, true, false, Option, List, [], ◌∷◌, ◌++◌, refl, sym, ap, ◌∙◌, subst}
 use Rattle.std.specs.Prelude.{◌==◌}
-use Rattle.std.specs.Char.{is_ascii_digit, encode_utf8, IsScalar}
+use Rattle.std.specs.Char.{encode_utf8, IsScalar}
 use Rattle.std.specs.Str.{all_scalars, encode_utf8_all}
-use Rattle.std.proofs.lemmas.Bool.{both_ways, and_parts, eqb-true, or_cases, false_from_ne_true}
+use Rattle.std.proofs.lemmas.Bool.{and_parts, eqb-true, or_cases, false_from_ne_true}
 use Rattle.std.proofs.lemmas.Str.{encode_same}
 use Rattle.std.proofs.lemmas.List.{append_assoc}
 use Rattle.owl_text.specs.Iri.{is_among}
 use Rattle.owl_text.specs.Utf8.{BeginsNoCharacter, Decodes, size}
-use Rattle.owl_text.specs.Tokens.{Spells, IsLongest, IsGap, IsComment, is_space, is_line_end, is_comment_start, Begins, BeginsNoToken, Stops, Ends, SplitsFrom, SplitsAt, Splits, mark_size, behind_mark}
+use Rattle.owl_text.specs.Tokens.{Spells, IsGap, IsComment, is_space, is_line_end, is_comment_start, Begins, Stops, Ends, SplitsFrom, SplitsAt, Splits, mark_size, behind_mark}
 use Rattle.owl_text.specs.Lexing.{Begun, Continues, SplitsBehind}
 use Rattle.owl_text.specs.declared.fault.LexFault.{LexFault}
 use Rattle.owl_text.specs.declared.token.Token.{Token}
 use Rattle.owl_text.specs.declared.token.Placed.{Placed}
-use Rattle.owl_text.proofs.Leads.{HasLead, spelled_lead, lead, fits, no_other}
+use Rattle.owl_text.proofs.Leads.{spelled_lead, lead, fits, no_other}
 use Rattle.owl_text.proofs.Spelled.{same_spelled}
 use Rattle.owl_text.proofs.Spans.{both, same_seam}
 
@@ -24,13 +24,19 @@ pub record SameDecoded (cs ds s t : List ℕ) : Type 0 where
   pub characters : cs ≡ ds
   pub tail : s ≡ t
 
+pub head_scalar : (c : ℕ) (cs : List ℕ) → all_scalars (c ∷ cs) ≡ true → IsScalar c
+head_scalar c cs h = (and_parts _ _ h).0
+
+pub tail_scalars : (c : ℕ) (cs : List ℕ) → all_scalars (c ∷ cs) ≡ true → all_scalars cs ≡ true
+tail_scalars c cs h = (and_parts _ _ h).1
+
 pub same_parts : (cs ds s t : List ℕ) → all_scalars cs ≡ true → all_scalars ds ≡ true → BeginsNoCharacter s → BeginsNoCharacter t → encode_utf8_all cs ++ s ≡ encode_utf8_all ds ++ t → SameDecoded cs ds s t
 same_parts [] [] s t h k n m e = record { characters = refl; tail = e }
-same_parts [] (d ∷ ds) s t h k n m e = absurd (n d (encode_utf8_all ds ++ t) (and_parts _ _ k).0 (e ∙ append_assoc (encode_utf8 d) (encode_utf8_all ds) t))
-same_parts (c ∷ cs) [] s t h k n m e = absurd (m c (encode_utf8_all cs ++ s) (and_parts _ _ h).0 (sym e ∙ append_assoc (encode_utf8 c) (encode_utf8_all cs) s))
+same_parts [] (d ∷ ds) s t h k n m e = absurd (n d (encode_utf8_all ds ++ t) (head_scalar d ds k) (e ∙ append_assoc (encode_utf8 d) (encode_utf8_all ds) t))
+same_parts (c ∷ cs) [] s t h k n m e = absurd (m c (encode_utf8_all cs ++ s) (head_scalar c cs h) (sym e ∙ append_assoc (encode_utf8 c) (encode_utf8_all cs) s))
 same_parts (c ∷ cs) (d ∷ ds) s t h k n m e =
     let first = encode_same c d (encode_utf8_all cs ++ s) (encode_utf8_all ds ++ t) (sym (append_assoc (encode_utf8 c) (encode_utf8_all cs) s) ∙ e ∙ append_assoc (encode_utf8 d) (encode_utf8_all ds) t) in
-    let others : SameDecoded cs ds s t = same_parts cs ds s t (and_parts _ _ h).1 (and_parts _ _ k).1 n m first.1 in
+    let others : SameDecoded cs ds s t = same_parts cs ds s t (tail_scalars c cs h) (tail_scalars d ds k) n m first.1 in
     let e1 : c ≡ d = first.0 in
     let e2 : cs ≡ ds = others.characters in
     let e3 : c ∷ cs ≡ d ∷ ds = cc in

@@ -1,19 +1,18 @@
 -- What is written is the spelling of one token at most.
-use Rattle.std.proofs.Common.{◌≡◌, ◌⊎◌, inl, inr, ℕ, Bool, true, false, ◌||◌, List, [], ◌∷◌, ◌++◌, refl, sym, ap, ◌∙◌, subst, arith}
-use Rattle.std.specs.Prelude.{codes, flat_map, ◌==◌, if◌then◌else◌}
-use Rattle.std.specs.Char.{is_ascii_digit}
+use Rattle.std.proofs.Common.{◌≡◌, inl, inr, ℕ, Bool, true, false, ◌||◌, List, [], ◌∷◌, ◌++◌, refl, sym, ap, ◌∙◌, subst}
+use Rattle.std.specs.Prelude.{codes, flat_map, ◌==◌}
 use Rattle.std.specs.List.{AllByRecursion}
-use Rattle.std.proofs.lemmas.Bool.{cases_Bool, cond-true, cond-false, or_cases, or_left, both_ways, false_from_ne_true}
-use Rattle.std.proofs.lemmas.List.{append_assoc, append-nil, append_cancel_right}
-use Rattle.owl_text.specs.Iri.{AllAre, IsIri, is_among}
-use Rattle.owl_text.specs.Names.{in_ranges, start_ranges, part_ranges, is_base, is_start, is_part, is_inner, IsNameFrom, IsPrefixName, IsLabel, Piece, plain, percent, escaped, piece_spelling, piece_text, IsPieceOf, is_local_start, is_local_inner, AreLocalPieces, SpellsLocal}
+use Rattle.std.proofs.lemmas.Bool.{cases_Bool, cond-true, cond-false, or_left}
+use Rattle.std.proofs.lemmas.List.{append_assoc, append_cancel_right}
+use Rattle.owl_text.specs.Iri.{AllAre, is_among}
+use Rattle.owl_text.specs.Names.{in_ranges, start_ranges, part_ranges, is_base, is_start, is_part, is_inner, IsNameFrom, IsPrefixName, Piece, plain, percent, escaped, piece_spelling, piece_text, IsPieceOf, is_local_start, is_local_inner, AreLocalPieces, SpellsLocal}
 use Rattle.owl_text.specs.Tokens.{Spells, character_spelling, is_escaped}
 use Rattle.owl_text.specs.declared.token.Token.{Token}
 use Rattle.owl_text.specs.declared.token.Token.TheVariants.{Iri, Name, Blank, Str, At, Word, Int, Sign}
 use Rattle.owl_text.specs.declared.token.Sign.{Sign as Mark}
 use Rattle.owl_text.specs.declared.token.Sign.TheVariants.{Open, Close, Equals, Carets}
 use Rattle.owl_text.proofs.Leads.{Lead, lead, lead_digit, lead_letter, fits, spelled_lead, only_iri, only_str, only_at, only_int, only_sign, only_name, name_or_word, blank_or_word}
-use Rattle.owl_text.proofs.Spans.{both, heads, found, same_cut, AllAre-append}
+use Rattle.owl_text.proofs.Spans.{both, heads, found, same_cut}
 
 -- names
 
