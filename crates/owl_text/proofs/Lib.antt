@@ -7,3 +7,4 @@ pub mod Spelled
 pub mod OneWay
 pub mod LongestNames
 pub mod LongestTokens
+pub mod Utf8Bytes

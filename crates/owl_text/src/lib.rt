@@ -7,6 +7,9 @@ mod lexer;
 mod names;
 mod text;
 mod token;
+mod utf8;
+mod utf8_states;
+mod utf8_step;
 
 pub use fault::LexFault;
 pub use laws::tokens_come_one_way;
@@ -14,6 +17,8 @@ pub use lexer::Lexer;
 pub use names::{is_base, is_part, is_start};
 pub use text::{NoMemory, Text};
 pub use token::{Dialect, Placed, Sign, Token};
+pub use utf8::Utf8Feed;
+pub use utf8_step::{BadUtf8, Utf8Step};
 
 #[cfg(test)]
 mod tests;
