@@ -17,6 +17,7 @@ use Rattle.owl_text.specs.declared.token.Sign.TheVariants as sign
 use Rattle.owl_text.specs.declared.token.Token.{Token}
 use Rattle.owl_text.specs.declared.token.Token.TheVariants as token
 use Rattle.owl_text.proofs.Spans.{AllAre-append}
+use Rattle.owl_text.proofs.LongestTokens.{sign_longest, str_longest}
 use Rattle.owl_atom.specs.declared.prefixes.Prefix.{Prefix}
 use Rattle.owl_atom.specs.Characters.{begins_with}
 use Rattle.owl_atom.specs.Literals.{FitsTag, IsLiteral, LiteralParts, of_datatype, string, with_tag}
@@ -37,7 +38,7 @@ use Rattle.owl_doc.specs.declared.term.Term.TheVariants as term
 use Rattle.fss_write.specs.Text.{atom_text, bracketed, iri_text, joined, leaf_text, literal_end, literal_text, node_name, node_parts, parts, parts_of, string_text, tree_text}
 use Rattle.fss_write.proofs.DeclaredTables.{AreKnown}
 use Rattle.fss_write.proofs.Pieces.{Cuts, Says, cuts_token, says_close, says_open, says_opening, says_space}
-use Rattle.fss_write.proofs.Stops.{Ends, sign_is_longest, str_is_longest, token_longest}
+use Rattle.fss_write.proofs.Stops.{Ends, token_longest}
 use Rattle.fss_write.proofs.WrittenIris.{IsIriToken, iri_token}
 
 -- keywords are words
@@ -99,7 +100,7 @@ module _ (written read : List Prefix) (known : AreKnown written read) where
   says_string : (form rest : List ℕ) (literal : LiteralParts) (terms : List Term) → Cuts rest (λ tokens. AreTerms read (token.Str form ∷ tokens) (term.Atom (Literal literal) ∷ terms)) → Says read (string_text form ++ rest) (term.Atom (Literal literal) ∷ terms)
   says_string form rest literal terms k =
       cuts_token (λ tokens. AreTerms read tokens (term.Atom (Literal literal) ∷ terms)) (λ tokens. AreTerms read (token.Str form ∷ tokens) (term.Atom (Literal literal) ∷ terms)) (token.Str form) (string_text form) rest refl
-      (str_is_longest form (string_text form) rest refl) (λ ts m. m) k
+      (str_longest form (string_text form) rest refl) (λ ts m. m) k
 
   says_end : (form datatype : List ℕ) (b : Bool) (rest : List ℕ) (terms : List Term) → text_eq datatype string ≡ b → IsIri datatype → FitsTag None datatype → Ends rest → Says read rest terms
       → Cuts ((if b then [] else codes "^^" ++ iri_text written datatype) ++ rest) (λ tokens. AreTerms read (token.Str form ∷ tokens) (term.Atom (Literal (of_datatype form datatype)) ∷ terms))
@@ -111,7 +112,7 @@ module _ (written read : List Prefix) (known : AreKnown written read) where
       let one = iri_token written read datatype known i in
       let literal = of_datatype form datatype in
       cuts_token (λ tokens. AreTerms read (token.Str form ∷ tokens) (term.Atom (Literal literal) ∷ terms)) (λ tokens. AreTerms read (token.Str form ∷ token.Sign sign.Carets ∷ tokens) (term.Atom (Literal literal) ∷ terms))
-      (token.Sign sign.Carets) (codes "^^") (iri_text written datatype ++ rest) refl (sign_is_longest sign.Carets (codes "^^") (iri_text written datatype ++ rest) refl) (λ ts m. m)
+      (token.Sign sign.Carets) (codes "^^") (iri_text written datatype ++ rest) refl (sign_longest sign.Carets (codes "^^") (iri_text written datatype ++ rest) refl) (λ ts m. m)
       (cuts_token (λ tokens. AreTerms read (token.Str form ∷ token.Sign sign.Carets ∷ tokens) (term.Atom (Literal literal) ∷ terms)) (λ tokens. AreTerms read tokens terms) one.token (iri_text written datatype) rest one.spells
       (token_longest one.token (iri_text written datatype) rest one.spells e) (λ ts m. (ts, typed form datatype one.token refl one.stands (inr (fits.0, fits.1, refl)), m)) k)
 
