@@ -1,15 +1,11 @@
 -- Characters that are cut into tokens, one token or one space at a time.
-use Rattle.std.proofs.Common.{◌≡◌, ℕ, ◌+◌, true, Option, None, List, [], ◌∷◌, ◌++◌, inl, refl, sym, ap, ◌∙◌, subst, arith}
+use Rattle.std.proofs.Common.{◌≡◌, ℕ, ◌+◌, true, None, List, [], ◌∷◌, ◌++◌, inl, refl, sym, ap, subst, arith}
 use Rattle.std.specs.Prelude.{codes}
 use Rattle.std.specs.Char.{len_utf8}
-use Rattle.std.proofs.lemmas.List.{append_assoc}
-use Rattle.owl_text.specs.Iri.{IsIri}
 use Rattle.owl_text.specs.Names.{IsNameFrom, is_start}
 use Rattle.owl_text.specs.Tokens.{Begins, Ends as Ending, IsLongest, Spells, SplitsFrom, Stops, is_space}
 use Rattle.owl_text.specs.Utf8.{size}
-use Rattle.owl_text.specs.declared.fault.LexFault.{LexFault}
 use Rattle.owl_text.specs.declared.token.Placed.{Placed}
-use Rattle.owl_text.specs.declared.token.Sign.{Sign as Mark}
 use Rattle.owl_text.specs.declared.token.Sign.TheVariants as sign
 use Rattle.owl_text.specs.declared.token.Token.{Token}
 use Rattle.owl_text.specs.declared.token.Token.TheVariants as token
@@ -18,7 +14,7 @@ use Rattle.owl_atom.specs.declared.prefixes.Prefix.{Prefix}
 use Rattle.owl_doc.specs.Terms.{AreTerms, tokens_of}
 use Rattle.owl_doc.specs.declared.term.Term.{Term}
 use Rattle.owl_doc.specs.declared.term.Term.TheVariants.{Keyword, Opening, Closing}
-use Rattle.fss_write.proofs.Stops.{Ends, token_longest}
+use Rattle.fss_write.proofs.Stops.{token_longest}
 
 -- the characters are cut into tokens of which this is so, wherever they stand
 abbrev pub Cuts : List ℕ → (List Token → Type 0) → Type 0

@@ -1,15 +1,15 @@
 -- The text of a document reads back to the same ontology, under the same prefixes.
-use Rattle.std.proofs.Common.{◌≡◌, ◌⊎◌, inl, inr, ℕ, Bool, true, false, List, [], ◌∷◌, ◌++◌, map, codes, Option, Some, None, Contains, refl, sym, ap, ◌∙◌, subst, length, length-append, arith}
+use Rattle.std.proofs.Common.{◌≡◌, ◌≤◌, ℕ, Bool, true, false, List, [], ◌∷◌, ◌++◌, map, codes, Option, Some, None, Contains, refl, sym, ap, ◌∙◌, subst, length, length-append, arith}
 use Rattle.std.specs.Prelude.{flat_map, if◌then◌else◌, IfSome}
 use Rattle.std.specs.declared.cmp.Ordering.{Ordering}
 use Rattle.std.specs.declared.cmp.Ordering.TheVariants.{Less, Equal, Greater}
-use Rattle.std.specs.Char.{IsScalar, encode_utf8}
+use Rattle.std.specs.Char.{encode_utf8}
 use Rattle.std.specs.List.{AllByRecursion}
 use Rattle.std.specs.Str.{all_scalars, encode_utf8_all}
 use Rattle.std.proofs.lemmas.List.{append_assoc, append-nil}
 use Rattle.std.proofs.lemmas.Str.{length-le-encodes}
 use Rattle.owl_list.specs.Ascending.{by_order}
-use Rattle.owl_list.specs.AscendingLaws.{all_from, all_in, all_map, ascending_holds, from_map, hold_same, in_map, same_from_equal}
+use Rattle.owl_list.specs.AscendingLaws.{all_from, ascending_holds, from_map, hold_same, in_map}
 use Rattle.owl_text.specs.Iri.{IsIri}
 use Rattle.owl_text.specs.Names.{IsPrefixName}
 use Rattle.owl_text.specs.Order.{text_cmp}
@@ -23,26 +23,28 @@ use Rattle.owl_text.proofs.LongestTokens.{iri_longest, sign_longest}
 use Rattle.owl_atom.specs.declared.prefixes.Prefix.{Prefix}
 use Rattle.owl_atom.specs.Prefixes.{IsTable}
 use Rattle.owl_atom.specs.Vocabulary.{xsd}
-use Rattle.owl_tree.specs.declared.atom.Atom.{Atom}
-use Rattle.owl_tree.specs.declared.atom.Atom.TheVariants.{Iri}
 use Rattle.owl_tree.specs.declared.tag.Tag.{Tag}
 use Rattle.owl_tree.specs.declared.tag.Tag.TheVariants as tag
 use Rattle.owl_tree.specs.Canonical.{canonical}
 use Rattle.owl_tree.specs.CanonicalLaws.{canonical_again}
 use Rattle.owl_tree.specs.Equivalence.{IsEquivalent}
-use Rattle.owl_tree.specs.Ontologies.{AreAmong, Head, HoldEquivalent, IsAnnotation, IsAxiom, IsHead, IsName, IsOntology, IsSameOntology, Ontology, OntologyName, canonical_list, canonical_ontology}
+use Rattle.owl_tree.specs.Ontologies.{HoldEquivalent, IsAnnotation, IsAxiom, IsHead, IsName, IsOntology, IsSameOntology, Ontology, OntologyName, canonical_list, canonical_ontology}
 use Rattle.owl_tree.specs.Order.{tree_cmp}
 use Rattle.owl_tree.specs.OrderLaws.{only_equal_trees_tie, trees_total}
 use Rattle.owl_tree.specs.Rows.{is_tag}
 use Rattle.owl_tree.specs.Shape.{IsShaped}
 use Rattle.owl_tree.specs.Tags.{is_axiom, keyword_of}
-use Rattle.owl_tree.specs.Trees.{Tree, Kids, leaf, node, no_kids, kid, tag_of}
-use Rattle.owl_doc.specs.Functional.{IsWrittenAnnotation, IsWrittenAxiom, IsWrittenOntology, PrefixDeclaration, SpellsFunctional, body_terms, declaration_tokens, import_terms, iri_term, item_terms, name_terms, ontology_terms, version_terms}
-use Rattle.owl_doc.specs.Spelling.{IsWritten, closed, is_bare, is_group, leaf_spelling, opened, spelling, spellings}
+use Rattle.owl_tree.specs.Trees.{Tree, Kids, leaf, node, no_kids, kid, depth, tag_of}
+use Rattle.owl_arena.specs.Held.{AreHeld, trees_at}
+use Rattle.owl_arena.specs.HeldLaws.{entry_at}
+use Rattle.owl_arena.specs.Shared.{AreShared, deepest}
+use Rattle.owl_doc.specs.Documents.{Document, IsDocument, ontology_of}
+use Rattle.owl_doc.specs.Functional.{IsWithinLimits, Reads, longest, IsWrittenAnnotation, IsWrittenAxiom, IsWrittenOntology, PrefixDeclaration, SpellsFunctional, body_terms, declaration_tokens, import_terms, iri_term, item_terms, name_terms, ontology_terms, version_terms}
+use Rattle.owl_doc.specs.Spelling.{closed, is_bare, is_group, opened, spelling, spellings}
 use Rattle.owl_doc.specs.Terms.{AreTerms, tokens_of}
 use Rattle.owl_doc.specs.declared.term.Term.{Term}
 use Rattle.owl_doc.specs.declared.term.Term.TheVariants as term
-use Rattle.fss_write.specs.Text.{declared_prefixes, full_iri, header_line, import_line, item_line, item_text, joined, lines_of, name_text, parts, prefix_line, text_of, tree_text, version_text, with_prefix, written_form, written_prefixes}
+use Rattle.fss_write.specs.Text.{declared_prefixes, full_iri, header_line, import_line, item_line, item_text, name_text, parts, prefix_line, text_of, version_text, with_prefix, written_form, written_prefixes}
 use Rattle.fss_write.proofs.DeclaredTables.{AreKnown, are_declarable, are_known, declaration, declared_table, written_iris, written_table}
 use Rattle.fss_write.proofs.Pieces.{Cuts, Says, cuts_space, cuts_token, says_close, says_line, says_none, says_opening, says_space}
 use Rattle.fss_write.proofs.Stops.{token_longest}
@@ -270,13 +272,14 @@ splits_text cs placed unmarked scalars splits = record {
       (subst (λ (x : List ℕ). SplitsFrom 0 x [] placed None) (sym unmarked.0) splits);
 }
 
-pub text_reads_back : (prefixes : List Prefix) (o : Ontology) → IsTable prefixes → HaveIris prefixes → IsOntology o → canonical_ontology o ≡ o → all_scalars (text_of prefixes o) ≡ true → SpellsText prefixes o
-text_reads_back prefixes o table iris h e scalars =
+-- where what is written is a table of IRIs
+pub written_reads_back : (prefixes : List Prefix) (o : Ontology) → IsTable prefixes → HaveIris (written_prefixes prefixes) → IsOntology o → canonical_ontology o ≡ o → all_scalars (text_of prefixes o) ≡ true → SpellsText prefixes o
+written_reads_back prefixes o table iris h e scalars =
     let written = written_prefixes prefixes in
     let read = declared_prefixes prefixes in
     let is = ontology_is_written o h e in
     let ontology = says_ontology written read (are_known prefixes table) o h.head (annotation_forms o.annotations is.annotations) (axiom_forms o.axioms is.axioms) in
-    let cut = declares_all read written (ontology_terms (written_ontology o)) (ontology_lines written o) (written_table prefixes table).names (written_iris prefixes iris) ontology 0 in
+    let cut = declares_all read written (ontology_terms (written_ontology o)) (ontology_lines written o) (written_table prefixes table).names iris ontology 0 in
     record {
       placed = cut.0;
       splits = splits_text (text_of prefixes o) cut.0 (unmarked (codes "xsd") (xsd []) _ (ontology_lines written o)) scalars cut.1;
@@ -292,3 +295,27 @@ text_reads_back prefixes o table iris h e scalars =
         same = written_same o;
       };
     }
+
+pub text_reads_back : (prefixes : List Prefix) (o : Ontology) → IsTable prefixes → HaveIris prefixes → IsOntology o → canonical_ontology o ≡ o → all_scalars (text_of prefixes o) ≡ true → SpellsText prefixes o
+text_reads_back prefixes o table iris h e scalars = written_reads_back prefixes o table (written_iris prefixes iris) h e scalars
+
+-- documents
+
+each_depth : (ts : List Tree) (ids : List ℕ) → AreShared ts → AreHeld ts ids → AllByRecursion (λ t. depth t ≤ deepest) (trees_at ts ids)
+each_depth ts [] shared held = tt
+each_depth ts (id ∷ ids) shared held = ((entry_at ts id shared held.0).depth, each_depth ts ids shared held.1)
+
+within_limits : (d : Document) → IsDocument d → AreShared d.arena.trees → IsWithinLimits (ontology_of d)
+within_limits d h shared = record {
+  annotations = each_depth d.arena.trees d.notes shared h.notes;
+  axioms = each_depth d.arena.trees d.axioms shared h.axioms;
+  weight = h.weight;
+}
+
+-- a document's text that is not too long is read as the same ontology
+pub document_reads_back : (d : Document) → IsDocument d → AreShared d.arena.trees → IsTable d.prefixes → HaveIris (written_prefixes d.prefixes)
+    → all_scalars (text_of d.prefixes (ontology_of d)) ≡ true → length (encode_utf8_all (text_of d.prefixes (ontology_of d))) ≤ longest
+    → Reads (encode_utf8_all (text_of d.prefixes (ontology_of d))) (declared_prefixes d.prefixes) (ontology_of d)
+document_reads_back d h shared table iris scalars few =
+    let back = written_reads_back d.prefixes (ontology_of d) table iris h.ontology h.canonical scalars in
+    record { placed = back.placed; few = few; splits = back.splits; spells = back.spells; within = within_limits d h shared }

@@ -1,20 +1,17 @@
 -- What is written of atoms and trees is their terms.
-use Rattle.std.proofs.Common.{◌≡◌, ◌≢◌, ◌<◌, ◌≤◌, ◌+◌, ◌^◌, ◌/◌, ◌%◌, inl, inr, ℕ, suc, Bool, true, false, not, List, [], ◌∷◌, ◌++◌, codes, Option, Some, None, refl, sym, ap, ◌∙◌, subst, arith}
-use Rattle.std.specs.Prelude.{flat_map, if◌then◌else◌, ◌&&◌, nat_le}
+use Rattle.std.proofs.Common.{◌≡◌, ◌<◌, ◌+◌, ◌^◌, ◌%◌, inr, ℕ, Bool, true, false, not, List, [], ◌∷◌, ◌++◌, codes, Option, Some, None, refl, sym, ap, ◌∙◌, subst, arith}
+use Rattle.std.specs.Prelude.{if◌then◌else◌, ◌&&◌, nat_le}
 use Rattle.std.specs.Char.{is_ascii_digit}
 use Rattle.std.specs.Fmt.{decimal}
 use Rattle.std.specs.List.{list_all}
-use Rattle.std.specs.Str.Parse.{digits_value}
-use Rattle.std.proofs.lemmas.Bool.{and_from, and_parts, cases_Bool, le-leb, not-true}
+use Rattle.std.proofs.lemmas.Bool.{and_from, and_parts, le-leb, not-true}
 use Rattle.std.proofs.lemmas.Fmt.{decimal_by_steps, decimal_is_IsNumeral}
 use Rattle.std.proofs.lemmas.List.{append_assoc, append-nil}
 use Rattle.std.proofs.lemmas.Slice.Eq.{bytes_eq-Decides}
-use Rattle.owl_text.specs.Iri.{AllAre, IsIri}
-use Rattle.owl_text.specs.Names.{IsLabel, IsNameFrom, IsRunOf, ends_in_dot, is_inner, is_start}
+use Rattle.owl_text.specs.Iri.{IsIri}
+use Rattle.owl_text.specs.Names.{IsNameFrom, IsRunOf, ends_in_dot, is_inner, is_start}
 use Rattle.owl_text.specs.Order.{text_eq}
-use Rattle.owl_text.specs.Tokens.{Spells, character_spelling}
 use Rattle.owl_text.specs.declared.token.Sign.TheVariants as sign
-use Rattle.owl_text.specs.declared.token.Token.{Token}
 use Rattle.owl_text.specs.declared.token.Token.TheVariants as token
 use Rattle.owl_text.proofs.Spans.{AllAre-append}
 use Rattle.owl_text.proofs.LongestTokens.{sign_longest, str_longest}
@@ -30,16 +27,16 @@ use Rattle.owl_tree.specs.Atoms.{IsAtom}
 use Rattle.owl_tree.specs.Rows.{is_tag}
 use Rattle.owl_tree.specs.Shape.{AreShaped, IsShaped}
 use Rattle.owl_tree.specs.Tags.{keyword_of}
-use Rattle.owl_tree.specs.Trees.{Tree, Kids, leaf, node, no_kids, kid, tag_of}
-use Rattle.owl_doc.specs.Spelling.{closed, is_bare, is_group, leaf_spelling, opened, spelling, spellings}
-use Rattle.owl_doc.specs.Terms.{AreTerms, BeginsLiteral, plain, tagged, typed}
+use Rattle.owl_tree.specs.Trees.{Tree, Kids, leaf, node, no_kids, kid}
+use Rattle.owl_doc.specs.Spelling.{is_bare, is_group, spelling, spellings}
+use Rattle.owl_doc.specs.Terms.{AreTerms, plain, tagged, typed}
 use Rattle.owl_doc.specs.declared.term.Term.{Term}
 use Rattle.owl_doc.specs.declared.term.Term.TheVariants as term
-use Rattle.fss_write.specs.Text.{atom_text, bracketed, iri_text, joined, leaf_text, literal_end, literal_text, node_name, node_parts, parts, parts_of, string_text, tree_text}
+use Rattle.fss_write.specs.Text.{atom_text, bracketed, iri_text, joined, literal_end, literal_text, parts, parts_of, string_text}
 use Rattle.fss_write.proofs.DeclaredTables.{AreKnown}
 use Rattle.fss_write.proofs.Pieces.{Cuts, Says, cuts_token, says_close, says_open, says_opening, says_space}
 use Rattle.fss_write.proofs.Stops.{Ends, token_longest}
-use Rattle.fss_write.proofs.WrittenIris.{IsIriToken, iri_token}
+use Rattle.fss_write.proofs.WrittenIris.{iri_token}
 
 -- keywords are words
 
