@@ -1,11 +1,10 @@
 -- The best prefix for an IRI is the one that a table answers.
-use Rattle.std.proofs.Common.{◌≡◌, ◌⊎◌, ◌<◌, ◌≤◌, inl, inr, ℕ, Bool, true, false, List, [], ◌∷◌, ◌++◌, length, drop, Option, Some, None, Contains, refl, sym, ap, ◌∙◌, subst, arith}
-use Rattle.std.specs.Prelude.{nat_eq, nat_le, slice_get, if◌then◌else◌}
-use Rattle.std.specs.declared.cmp.Ordering.{Ordering}
+use Rattle.std.proofs.Common.{◌≡◌, ◌⊎◌, ◌<◌, ◌≤◌, inl, inr, ℕ, Bool, true, false, List, [], ◌∷◌, length, Option, Some, None, Contains, refl, sym, ap, ◌∙◌, subst, arith}
+use Rattle.std.specs.Prelude.{nat_eq, nat_le, if◌then◌else◌}
 use Rattle.std.specs.declared.cmp.Ordering.TheVariants.{Less}
 use Rattle.std.specs.List.{AllByRecursion, list_all, starts_with}
 use Rattle.std.specs.Ordering.{ordering_reverse}
-use Rattle.std.proofs.lemmas.Bool.{and_from, and_parts, both_ways, cases_Bool, cond-false, cond-true, cases_order, leb-false, leb-true}
+use Rattle.std.proofs.lemmas.Bool.{and_from, and_parts, both_ways, leb-false, leb-true}
 use Rattle.std.proofs.lemmas.Bool.Decides.{Decides-eqb}
 use Rattle.std.proofs.lemmas.List.Prefix.{front_rest}
 use Rattle.std.proofs.lemmas.Option.{get_or_from_slice_get, slice_get_within}
@@ -16,6 +15,7 @@ use Rattle.owl_atom.specs.declared.prefixes.Prefix.{Prefix}
 use Rattle.owl_atom.specs.LiteralLaws.{texts_total}
 use Rattle.owl_atom.specs.Prefixes.{AreAscending, Cuts, IsBetter, IsPlainLocal, Shortens, is_plain_character}
 use Rattle.owl_atom.proofs.Characters.{all_are}
+use Rattle.owl_atom.proofs.Shortening.{earlier_better}
 use Rattle.owl_doc.specs.Abbreviations.{best_prefix, cuts, is_plain_local, local_behind, longer_of}
 
 -- the test and the fact that a prefix cuts an IRI
@@ -45,21 +45,14 @@ cuts_test iri prefix local h =
 
 -- which of two is better
 
-turned : (a b : List ℕ) → text_cmp a b ≡ Less → text_cmp b a ≡ Less → ⊥
-turned a b h k = let e : text_cmp a b ≡ ordering_reverse (text_cmp b a) = texts_total.antisymm a b in absurd (cc)
+less_once : (a b : List ℕ) → text_cmp a b ≡ Less → text_cmp b a ≡ Less → ⊥
+less_once a b h k = let e : text_cmp a b ≡ ordering_reverse (text_cmp b a) = texts_total.antisymm a b in absurd (cc)
 
 one_better : (p q : Prefix) → IsBetter p q → IsBetter q p → ⊥
 one_better p q (inl h) (inl k) = absurd (omega arith)
 one_better p q (inl h) (inr k) = let e = k.0 in absurd (omega arith)
 one_better p q (inr h) (inl k) = let e = h.0 in absurd (omega arith)
-one_better p q (inr h) (inr k) = turned p.name q.name h.1 k.1
-
-earlier_better : (p q : Prefix) → length q.iri ≤ length p.iri → text_cmp p.name q.name ≡ Less → IsBetter p q
-earlier_better p q le less = elim (cases_order (length q.iri) (length p.iri)) as (λ _. IsBetter p q) [
-  | inl e ↦ inr (e, less)
-  | inr (inl lt) ↦ inl lt
-  | inr (inr gt) ↦ absurd (omega arith)
-]
+one_better p q (inr h) (inr k) = less_once p.name q.name h.1 k.1
 
 -- what the best prefix is
 

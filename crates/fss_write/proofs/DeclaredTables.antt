@@ -1,12 +1,11 @@
 -- The declarations of a written text make the table that is written, with each prefix declared.
-use Rattle.std.proofs.Common.{◌≡◌, ◌≢◌, ◌⊎◌, inl, inr, ℕ, Bool, true, false, cond, List, [], ◌∷◌, ◌++◌, map, codes, Option, Some, None, Contains, refl, sym, ap, ◌∙◌, subst}
-use Rattle.std.specs.Prelude.{find, unwrap_or}
+use Rattle.std.proofs.Common.{◌≡◌, ◌≢◌, ◌⊎◌, inl, inr, ℕ, Bool, true, false, cond, List, [], ◌∷◌, map, codes, Option, Some, None, Contains, refl, sym, ap, ◌∙◌, subst}
+use Rattle.std.specs.Prelude.{unwrap_or}
 use Rattle.std.specs.declared.cmp.Ordering.TheVariants.{Less, Equal}
 use Rattle.std.specs.List.{AllByRecursion}
 use Rattle.std.specs.Option.{option_map}
-use Rattle.std.proofs.lemmas.Bool.{both_ways, cases_Bool, cond-false, cond-true, false≢true}
+use Rattle.std.proofs.lemmas.Bool.{both_ways, cases_Bool, false≢true}
 use Rattle.std.proofs.lemmas.Cmp.{tied_itself}
-use Rattle.std.proofs.lemmas.Option.{same_Some}
 use Rattle.std.proofs.lemmas.Slice.Eq.{bytes_eq-Decides}
 use Rattle.owl_list.specs.Ascending.{AreApart}
 use Rattle.owl_list.specs.AscendingLaws.{all_from, all_in, in_cases, in_none}
@@ -18,11 +17,11 @@ use Rattle.owl_atom.specs.LiteralLaws.{texts_total}
 use Rattle.owl_atom.specs.Prefixes.{AreAscending, IsTable, fixed_prefixes, iri_of, is_fixed, prefix_in}
 use Rattle.owl_atom.specs.Vocabulary.{owl, rdf, rdfs, xsd}
 use Rattle.owl_atom.proofs.Iris.{written_iri}
-use Rattle.owl_atom.proofs.PrefixTables.{SetsOnly, equal, unequal}
+use Rattle.owl_atom.proofs.PrefixTables.{equal}
 use Rattle.owl_atom.proofs.Words.{written_name}
 use Rattle.owl_doc.specs.Functional.{AreDeclarable, IsDeclarable, IsTableOf, PrefixDeclaration, declaration_of, declared_prefix}
 use Rattle.fss_write.specs.Text.{as_declared, declared_prefixes, with_prefix, written_prefixes}
-use Rattle.fss_write.proofs.WrittenTables.{HaveIris, looked_up, set_prefix, with_prefix_iris, with_prefix_sets, with_prefix_table}
+use Rattle.fss_write.proofs.WrittenTables.{HaveIris, looked_up, with_prefix_iris, with_prefix_sets, with_prefix_table}
 
 -- the four names and their IRIs
 
@@ -145,14 +144,14 @@ module _ (prefixes : List Prefix) (h : IsTable prefixes) where
 abbrev pub declaration : Prefix → PrefixDeclaration
 declaration prefix = record { name = prefix.name; iri = prefix.iri }
 
-declarable : (prefixes : List Prefix) (h : IsTable prefixes) → HaveIris prefixes → (prefix : Prefix) → Contains (written_prefixes prefixes) prefix → IsDeclarable (declaration prefix)
+declarable : (prefixes : List Prefix) (h : IsTable prefixes) → HaveIris (written_prefixes prefixes) → (prefix : Prefix) → Contains (written_prefixes prefixes) prefix → IsDeclarable (declaration prefix)
 declarable prefixes h iris prefix m =
     let table = written_table prefixes h in
     let at = looked_up (written_prefixes prefixes) prefix table.ascending m in
     let own : iri_of (written_prefixes prefixes) prefix.name ≡ Some prefix.iri = ap (λ (o : Option Prefix). option_map (λ (q : Prefix). q.iri) o) at in
     record {
       name = all_in (λ (q : Prefix). IsPrefixName q.name) (written_prefixes prefixes) prefix table.names m;
-      iri = all_in (λ (q : Prefix). IsIri q.iri) (written_prefixes prefixes) prefix (written_iris prefixes iris) m;
+      iri = all_in (λ (q : Prefix). IsIri q.iri) (written_prefixes prefixes) prefix iris m;
       fixed = λ t. elim (fixed_stands prefixes h prefix.name) as (λ _. iri_of fixed_prefixes prefix.name ≡ Some prefix.iri) [
         | inl none ↦ absurd (false≢true (sym (ap (λ (o : Option Prefix). unwrap_or (option_map (λ (q : Prefix). q.fixed) o) false) none) ∙ t))
         | inr at_fixed ↦ at_fixed.1 ∙ sym at_fixed.2 ∙ own
@@ -180,7 +179,7 @@ names_apart : (ps : List Prefix) → AreAscending ps → AreApart (names_of ps)
 names_apart [] up = tt
 names_apart (p ∷ ps) up = (not_among p.name ps up.0, names_apart ps up.1)
 
-pub are_declarable : (prefixes : List Prefix) → IsTable prefixes → HaveIris prefixes → AreDeclarable (map declaration (written_prefixes prefixes))
+pub are_declarable : (prefixes : List Prefix) → IsTable prefixes → HaveIris (written_prefixes prefixes) → AreDeclarable (map declaration (written_prefixes prefixes))
 are_declarable prefixes h iris = record {
   each = each_declarable (written_prefixes prefixes) (all_from (λ p. IsDeclarable (declaration p)) (written_prefixes prefixes) (declarable prefixes h iris));
   once = names_apart (written_prefixes prefixes) (written_table prefixes h).ascending;

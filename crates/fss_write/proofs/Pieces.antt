@@ -1,23 +1,20 @@
 -- Characters that are cut into tokens, one token or one space at a time.
-use Rattle.std.proofs.Common.{◌≡◌, ℕ, ◌+◌, true, Option, None, List, [], ◌∷◌, ◌++◌, inl, refl, sym, ap, ◌∙◌, subst, arith}
+use Rattle.std.proofs.Common.{◌≡◌, ℕ, ◌+◌, true, None, List, [], ◌∷◌, ◌++◌, inl, refl, sym, ap, subst, arith}
 use Rattle.std.specs.Prelude.{codes}
 use Rattle.std.specs.Char.{len_utf8}
-use Rattle.std.proofs.lemmas.List.{append_assoc}
-use Rattle.owl_text.specs.Iri.{IsIri}
 use Rattle.owl_text.specs.Names.{IsNameFrom, is_start}
 use Rattle.owl_text.specs.Tokens.{Begins, Ends as Ending, IsLongest, Spells, SplitsFrom, Stops, is_space}
 use Rattle.owl_text.specs.Utf8.{size}
-use Rattle.owl_text.specs.declared.fault.LexFault.{LexFault}
 use Rattle.owl_text.specs.declared.token.Placed.{Placed}
-use Rattle.owl_text.specs.declared.token.Sign.{Sign as Mark}
 use Rattle.owl_text.specs.declared.token.Sign.TheVariants as sign
 use Rattle.owl_text.specs.declared.token.Token.{Token}
 use Rattle.owl_text.specs.declared.token.Token.TheVariants as token
+use Rattle.owl_text.proofs.LongestTokens.{sign_longest}
 use Rattle.owl_atom.specs.declared.prefixes.Prefix.{Prefix}
 use Rattle.owl_doc.specs.Terms.{AreTerms, tokens_of}
 use Rattle.owl_doc.specs.declared.term.Term.{Term}
 use Rattle.owl_doc.specs.declared.term.Term.TheVariants.{Keyword, Opening, Closing}
-use Rattle.fss_write.proofs.Stops.{Ends, sign_is_longest, token_longest}
+use Rattle.fss_write.proofs.Stops.{token_longest}
 
 -- the characters are cut into tokens of which this is so, wherever they stand
 abbrev pub Cuts : List ℕ → (List Token → Type 0) → Type 0
@@ -84,11 +81,11 @@ module _ (prefixes : List Prefix) where
 
   pub says_open : (cs : List ℕ) (terms : List Term) → Says prefixes cs terms → Says prefixes (40 ∷ cs) (Opening ∷ terms)
   says_open cs terms k =
-      cuts_token (λ tokens. AreTerms prefixes tokens (Opening ∷ terms)) (λ tokens. AreTerms prefixes tokens terms) (token.Sign sign.Open) (codes "(") cs refl (sign_is_longest sign.Open (codes "(") cs refl) (λ ts h. (ts, refl, h)) k
+      cuts_token (λ tokens. AreTerms prefixes tokens (Opening ∷ terms)) (λ tokens. AreTerms prefixes tokens terms) (token.Sign sign.Open) (codes "(") cs refl (sign_longest sign.Open (codes "(") cs refl) (λ ts h. (ts, refl, h)) k
 
   pub says_close : (cs : List ℕ) (terms : List Term) → Says prefixes cs terms → Says prefixes (41 ∷ cs) (Closing ∷ terms)
   says_close cs terms k =
-      cuts_token (λ tokens. AreTerms prefixes tokens (Closing ∷ terms)) (λ tokens. AreTerms prefixes tokens terms) (token.Sign sign.Close) (codes ")") cs refl (sign_is_longest sign.Close (codes ")") cs refl) (λ ts h. (ts, refl, h)) k
+      cuts_token (λ tokens. AreTerms prefixes tokens (Closing ∷ terms)) (λ tokens. AreTerms prefixes tokens terms) (token.Sign sign.Close) (codes ")") cs refl (sign_longest sign.Close (codes ")") cs refl) (λ ts h. (ts, refl, h)) k
 
   -- a keyword, and the bracket behind it
   pub says_opening : (word cs : List ℕ) (terms : List Term) → IsNameFrom is_start word → Says prefixes cs terms → Says prefixes (word ++ 40 ∷ cs) (Keyword word ∷ Opening ∷ terms)

@@ -1,10 +1,10 @@
 -- What is written of a tree is equivalent to it, and has as many members as have to be written.
-use Rattle.std.proofs.Common.{◌≡◌, ◌⊎◌, ◌<◌, ◌≤◌, ◌+◌, ◌-◌, inl, inr, ℕ, zero, suc, min, Bool, true, false, IsTrue, List, [], ◌∷◌, length, map, drop, refl, sym, ap, ◌∙◌, subst, arith}
-use Rattle.std.specs.Prelude.{if◌then◌else◌, nat_le, ◌&&◌}
+use Rattle.std.proofs.Common.{◌≡◌, ◌⊎◌, ◌<◌, ◌≤◌, ◌+◌, ◌-◌, inl, inr, ℕ, zero, suc, min, Bool, true, false, List, [], ◌∷◌, length, map, drop, refl, sym, ap, ◌∙◌, subst, arith}
+use Rattle.std.specs.Prelude.{if◌then◌else◌, nat_le}
 use Rattle.std.specs.declared.cmp.Ordering.{Ordering}
 use Rattle.std.specs.declared.cmp.Ordering.TheVariants.{Less, Equal}
 use Rattle.std.specs.List.{AllByRecursion}
-use Rattle.std.proofs.lemmas.Bool.{and_parts, cases_Bool, leb-true, leb-false}
+use Rattle.std.proofs.lemmas.Bool.{and_parts, leb-true, leb-false}
 use Rattle.std.proofs.lemmas.Cmp.{tied_itself}
 use Rattle.std.proofs.lemmas.List.{length-map}
 use Rattle.owl_list.specs.Ascending.{IsAscending, by_order}
@@ -12,7 +12,6 @@ use Rattle.owl_list.specs.AscendingLaws.{head_below, nothing_ascends, tail_ascen
 use Rattle.owl_tree.specs.declared.tag.Tag.{Tag}
 use Rattle.owl_tree.specs.declared.tag.Tag.TheVariants as tag
 use Rattle.owl_tree.specs.declared.row.Sort.{Sort}
-use Rattle.owl_tree.specs.declared.row.Rest.{Rest}
 use Rattle.owl_tree.specs.declared.row.Rest.TheVariants.{Nothing, Optional, AtLeast, SomeThen, Set}
 use Rattle.owl_tree.specs.Canonical.{canonical, canonicals, arranged, arranged_from, AscendsFrom, SetAscends, SetsAscend, EachSetsAscend}
 use Rattle.owl_tree.specs.CanonicalLaws.{ascends_is_canonical, canonicals_kids_of}
@@ -20,9 +19,9 @@ use Rattle.owl_tree.specs.Equivalence.{IsEquivalent}
 use Rattle.owl_tree.specs.EquivalenceLaws.{equivalent_is_equal_form}
 use Rattle.owl_tree.specs.Order.{tree_cmp}
 use Rattle.owl_tree.specs.OrderLaws.{trees_total}
-use Rattle.owl_tree.specs.Places.{admits_from, counts, counts_rest}
+use Rattle.owl_tree.specs.Places.{admits_from, counts}
 use Rattle.owl_tree.specs.PlacesLaws.{fits_by_place}
-use Rattle.owl_tree.specs.Rows.{Row, Leaf, Node, fits, row_of, set_start}
+use Rattle.owl_tree.specs.Rows.{Row, Leaf, Node, row_of, set_start}
 use Rattle.owl_tree.specs.Shape.{AreAtMostTwo, AreShaped, FitsRow, IsShaped}
 use Rattle.owl_tree.specs.ShapeLaws.{equivalent_shape}
 use Rattle.owl_tree.specs.TreeLaws.{list_of_kids_of}

@@ -1,5 +1,5 @@
 -- An IRI that is written is one token, which stands for the IRI.
-use Rattle.std.proofs.Common.{◌≡◌, ◌⊎◌, inl, inr, ℕ, Bool, true, false, List, [], ◌∷◌, ◌++◌, map, codes, Option, Some, None, Contains, refl, sym, ap, ◌∙◌, subst}
+use Rattle.std.proofs.Common.{◌≡◌, inl, inr, ℕ, Bool, true, false, List, [], ◌∷◌, ◌++◌, map, codes, Option, Some, None, refl, sym, ap, ◌∙◌}
 use Rattle.std.specs.Prelude.{flat_map, ◌||◌, ◌==◌}
 use Rattle.std.specs.Char.{is_ascii_digit}
 use Rattle.std.specs.Int.{is_in_range}
@@ -8,19 +8,18 @@ use Rattle.std.specs.Option.{option_map}
 use Rattle.std.proofs.lemmas.Bool.{cases_Bool, eqb-true, false_from_ne_true, or_cases, or_left, or_right}
 use Rattle.owl_list.specs.AscendingLaws.{all_in}
 use Rattle.owl_text.specs.Iri.{AllAre, IsIri, is_among}
-use Rattle.owl_text.specs.Names.{AreLocalPieces, IsPieceOf, IsPrefixName, Piece, SpellsLocal, ends_in_plain_dot, in_ranges, is_base, is_local_inner, is_local_start, is_part, is_start, part_ranges, piece_spelling, piece_text, plain, start_ranges}
-use Rattle.owl_text.specs.Tokens.{IsLongest, Spells}
+use Rattle.owl_text.specs.Names.{AreLocalPieces, IsPieceOf, IsPrefixName, SpellsLocal, ends_in_plain_dot, in_ranges, is_base, is_local_inner, is_local_start, is_part, is_start, part_ranges, piece_spelling, piece_text, plain, start_ranges}
+use Rattle.owl_text.specs.Tokens.{Spells}
 use Rattle.owl_text.specs.declared.token.Token.{Token}
 use Rattle.owl_text.specs.declared.token.Token.TheVariants as token
 use Rattle.owl_text.proofs.Spans.{both}
 use Rattle.owl_atom.specs.declared.prefixes.Prefix.{Prefix}
-use Rattle.owl_atom.specs.Prefixes.{IsPlainLocal, iri_of, is_plain_character, is_plain_start}
-use Rattle.owl_doc.specs.Abbreviations.{best_prefix, cuts, local_behind}
+use Rattle.owl_atom.specs.Prefixes.{IsPlainLocal, is_plain_character, is_plain_start}
+use Rattle.owl_doc.specs.Abbreviations.{best_prefix, local_behind}
 use Rattle.owl_doc.specs.Terms.{iri_of_token}
 use Rattle.fss_write.specs.Text.{full_iri, iri_text, shortened_by}
 use Rattle.fss_write.proofs.Abbreviated.{IsAnswer, best_answer, cuts_fact}
 use Rattle.fss_write.proofs.DeclaredTables.{AreKnown}
-use Rattle.fss_write.proofs.Stops.{Ends, token_longest}
 
 -- characters of plain local parts
 

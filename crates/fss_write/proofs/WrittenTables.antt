@@ -1,63 +1,31 @@
 -- The table of prefixes that is written, and what it is when it is read.
-use Rattle.std.proofs.Common.{◌≡◌, ◌≢◌, ◌⊎◌, ◌<◌, inl, inr, ℕ, zero, suc, Bool, true, false, cond, List, [], ◌∷◌, ◌++◌, length, map, codes, Option, Some, None, Contains, refl, sym, ap, ◌∙◌, subst, set, arith}
-use Rattle.std.specs.Prelude.{find, insert, slice_get, unwrap_or}
+use Rattle.std.proofs.Common.{◌≡◌, ◌≢◌, inl, inr, ℕ, suc, true, false, List, [], ◌∷◌, codes, Option, Some, None, Contains, refl, sym, ap, ◌∙◌, subst, set}
+use Rattle.std.specs.Prelude.{insert, slice_get, unwrap_or}
 use Rattle.std.specs.declared.cmp.Ordering.{Ordering}
 use Rattle.std.specs.declared.cmp.Ordering.TheVariants.{Less, Equal, Greater}
-use Rattle.std.specs.FinMap.{nat_cmp-IsAntisymmetric, slice_cmp-IsAntisymmetric}
 use Rattle.std.specs.List.{AllByRecursion, list_all}
 use Rattle.std.specs.Option.{option_map}
-use Rattle.std.specs.Ordering.{ordering_reverse}
-use Rattle.std.proofs.lemmas.Bool.{both_ways, cases_Bool, cond-false, cond-true}
-use Rattle.std.proofs.lemmas.Cmp.{tied_itself}
-use Rattle.std.proofs.lemmas.Option.{same_Some, slice_get-get_or}
+use Rattle.std.specs.Str.{chars}
+use Rattle.std.proofs.lemmas.Bool.{both_ways, cases_Bool}
+use Rattle.std.proofs.lemmas.Option.{same_Some}
 use Rattle.std.proofs.lemmas.Slice.Eq.{bytes_eq-Decides}
-use Rattle.std.proofs.lemmas.Str.{encodes_same}
-use Rattle.owl_list.specs.Ascending.{AreApart, by_order}
-use Rattle.owl_list.specs.AscendingLaws.{all_in, from_map, in_cases, in_none}
-use Rattle.owl_text.specs.Iri.{IsIri, is_iri_character}
+use Rattle.owl_list.specs.Ascending.{by_order}
+use Rattle.owl_text.specs.Iri.{IsIri, is_ascii}
 use Rattle.owl_text.specs.Names.{IsPrefixName}
 use Rattle.owl_text.specs.Order.{text_cmp, text_eq}
 use Rattle.owl_atom.specs.declared.prefixes.Prefix.{Prefix}
-use Rattle.owl_atom.specs.LiteralLaws.{texts_total}
 use Rattle.owl_atom.specs.Places.{IsGapFor, IsPlaceOf}
-use Rattle.owl_atom.specs.Prefixes.{AreAscending, IsTable, fixed_prefixes, iri_of, is_declared, is_fixed, prefix_in}
+use Rattle.owl_atom.specs.Prefixes.{AreAscending, IsTable, is_declared, is_fixed, prefix_in}
 use Rattle.owl_atom.specs.Vocabulary.{owl, rdf, rdfs, xsd}
-use Rattle.owl_atom.proofs.Iris.{written_iri}
-use Rattle.owl_atom.proofs.PrefixTables.{IsFound, SetsOnly, absent, equal, found, insert_at, set_at, stands, unequal}
-use Rattle.owl_atom.proofs.Words.{written_name}
-use Rattle.owl_doc.specs.Functional.{AreDeclarable, IsDeclarable, IsTableOf, PrefixDeclaration, declaration_of, declared_prefix}
-use Rattle.fss_write.specs.Text.{as_declared, declared_prefixes, with_prefix, written_prefixes}
-
--- the order of names
-
-same_names : (a b : List ℕ) → text_cmp a b ≡ Equal → a ≡ b
-same_names a b e = encodes_same a b (slice_cmp-IsAntisymmetric nat_cmp-IsAntisymmetric _ _ e)
-
-turned : (a b : List ℕ) → text_cmp a b ≡ Greater → text_cmp b a ≡ Less
-turned a b e = texts_total.antisymm b a ∙ ap ordering_reverse e
-
-less_differs : (a b : List ℕ) → text_cmp a b ≡ Less → a ≢ b
-less_differs a b e same =
-    let tie : text_cmp a b ≡ Equal = subst (λ (n : List ℕ). text_cmp a n ≡ Equal) same (tied_itself texts_total a) in
-    absurd (cc)
-
--- looking up at the first prefix, and past it
-
-met : (prefix : Prefix) (others : List Prefix) (name : List ℕ) → prefix.name ≡ name → prefix_in (prefix ∷ others) name ≡ Some prefix
-met prefix others name e = ap (λ (b : Bool). cond b (Some prefix) (prefix_in others name)) (equal prefix.name name e)
-
-passed : (prefix : Prefix) (others : List Prefix) (name : List ℕ) → prefix.name ≢ name → prefix_in (prefix ∷ others) name ≡ prefix_in others name
-passed prefix others name ne = ap (λ (b : Bool). cond b (Some prefix) (prefix_in others name)) (unequal prefix.name name ne)
-
--- a name that is below those of these prefixes is not among them
-below_none : (name : List ℕ) (prefixes : List Prefix) → AreAscending prefixes → AllByRecursion (λ other. text_cmp name other.name ≡ Less) prefixes → prefix_in prefixes name ≡ None
-below_none name [] up h = refl
-below_none name (x ∷ xs) up h = absent (x ∷ xs) name 0 up h.0
+use Rattle.owl_atom.proofs.PrefixTables.{IsFound, SetsOnly, absent, below_none, equal, found, insert_at, met, passed, same_names, set_at, stands, turned}
+use Rattle.owl_atom.proofs.Shortening.{contained}
+use Rattle.owl_atom.proofs.Words.{own}
+use Rattle.fss_write.specs.Text.{with_prefix, written_prefixes}
 
 -- each prefix of a table is what its name is looked up to be
 pub looked_up : (prefixes : List Prefix) (prefix : Prefix) → AreAscending prefixes → Contains prefixes prefix → prefix_in prefixes prefix.name ≡ Some prefix
 looked_up prefixes prefix up m =
-    let at : slice_get prefixes m.0 ≡ Some prefix = slice_get-get_or prefixes m.0 prefix m.1 ∙ ap Some m.2 in
+    let at = contained prefixes prefix m in
     (found prefixes prefix.name m.0 prefix (stands prefixes m.0 prefix up at) at).looked_up
 
 -- how a table changes where a name is given an IRI
@@ -140,11 +108,9 @@ tails_same : (x y : Prefix) (xs ys : List Prefix) → AreAscending (x ∷ xs) �
 tails_same x y xs ys up_x up_y e h name = elim (cases_Bool (text_eq x.name name)) as (λ _. prefix_in xs name ≡ prefix_in ys name) [
   | inl t ↦
       let same : x.name ≡ name = (bytes_eq-Decides x.name name).0 t in
-      ap (prefix_in xs) (sym same) ∙ below_none x.name xs up_x.1 up_x.0
-      ∙ sym (below_none y.name ys up_y.1 up_y.0) ∙ ap (prefix_in ys) (sym e ∙ same)
-  | inr f ↦
-      let x_other : x.name ≢ name = λ same. both_ways (text_eq x.name name) f (equal x.name name same) in
-      sym (passed x xs name x_other) ∙ h name ∙ passed y ys name (λ same. x_other (e ∙ same))
+      ap (prefix_in xs) (sym same) ∙ below_none x.name xs up_x.0
+      ∙ sym (below_none y.name ys up_y.0) ∙ ap (prefix_in ys) (sym e ∙ same)
+  | inr f ↦ sym (passed x xs name f) ∙ h name ∙ passed y ys name (ap (λ (n : List ℕ). text_eq n name) (sym e) ∙ f)
 ]
 
 heads_by : (x y : Prefix) (xs ys : List Prefix) (o : Ordering) → text_cmp x.name y.name ≡ o → AreAscending (x ∷ xs) → AreAscending (y ∷ ys)
@@ -172,20 +138,33 @@ same_tables (x ∷ xs) (y ∷ ys) up_a up_b h =
     cc
 
 -- where a name is given an IRI and all other look-ups stay, the table is that with the prefix
-pub set_is_with_prefix : (name iri : List ℕ) (old new : List Prefix) → IsTable old → IsTable new → prefix_in new name ≡ Some (set_prefix name iri old)
-    → ((other : List ℕ) → other ≢ name → prefix_in new other ≡ prefix_in old other) → new ≡ with_prefix name iri old
-set_is_with_prefix name iri old new is_old is_new here others =
+pub record IsSet (name iri : List ℕ) (old new : List Prefix) : Type 0 where
+  pub table : IsTable new
+  pub here : prefix_in new name ≡ Some (set_prefix name iri old)
+  pub others : (other : List ℕ) → other ≢ name → prefix_in new other ≡ prefix_in old other
+
+pub set_is_with_prefix : (name iri : List ℕ) (old new : List Prefix) → IsTable old → IsSet name iri old new → new ≡ with_prefix name iri old
+set_is_with_prefix name iri old new is_old h =
     let sets = with_prefix_sets name iri old is_old.ascending in
-    same_tables new (with_prefix name iri old) is_new.ascending sets.ascending (λ other. elim (cases_Bool (text_eq other name)) as (λ _. prefix_in new other ≡ prefix_in (with_prefix name iri old) other) [
+    same_tables new (with_prefix name iri old) h.table.ascending sets.ascending (λ other. elim (cases_Bool (text_eq other name)) as (λ _. prefix_in new other ≡ prefix_in (with_prefix name iri old) other) [
       | inl t ↦
           let same : other ≡ name = (bytes_eq-Decides other name).0 t in
-          ap (prefix_in new) same ∙ here ∙ sym sets.here ∙ ap (prefix_in (with_prefix name iri old)) (sym same)
+          ap (prefix_in new) same ∙ h.here ∙ sym sets.here ∙ ap (prefix_in (with_prefix name iri old)) (sym same)
       | inr f ↦
           let differs : other ≢ name = λ same. both_ways (text_eq other name) f (equal other name same) in
-          others other differs ∙ sym (sets.others other differs)
+          h.others other differs ∙ sym (sets.others other differs)
     ])
 
+-- the name and the IRI may be given as the characters of words
+pub own_set : (name iri : List ℕ) (old new : List Prefix) → list_all is_ascii name ≡ true → list_all is_ascii iri ≡ true → IsSet (chars name) (chars iri) old new → IsSet name iri old new
+own_set name iri old new h k set = subst (λ (n : List ℕ). IsSet n iri old new) (own name h) (subst (λ (i : List ℕ). IsSet (chars name) i old new) (own iri k) set)
+
 -- the four prefixes in turn
-pub four_set : (p0 p1 p2 p3 p4 : List Prefix) → p1 ≡ with_prefix (codes "owl") (owl []) p0 → p2 ≡ with_prefix (codes "rdf") (rdf []) p1 → p3 ≡ with_prefix (codes "rdfs") (rdfs []) p2
-    → p4 ≡ with_prefix (codes "xsd") (xsd []) p3 → p4 ≡ written_prefixes p0
-four_set p0 p1 p2 p3 p4 a b c d = rw (d, c, b, a)
+pub four_set : (p0 p1 p2 p3 p4 : List Prefix) → IsTable p0 → IsSet (codes "owl") (owl []) p0 p1 → IsSet (codes "rdf") (rdf []) p1 p2 → IsSet (codes "rdfs") (rdfs []) p2 p3
+    → IsSet (codes "xsd") (xsd []) p3 p4 → p4 ≡ written_prefixes p0
+four_set p0 p1 p2 p3 p4 table first second third fourth =
+    let a = set_is_with_prefix (codes "owl") (owl []) p0 p1 table first in
+    let b = set_is_with_prefix (codes "rdf") (rdf []) p1 p2 first.table second in
+    let d = set_is_with_prefix (codes "rdfs") (rdfs []) p2 p3 second.table third in
+    let e = set_is_with_prefix (codes "xsd") (xsd []) p3 p4 third.table fourth in
+    rw (e, d, b, a)

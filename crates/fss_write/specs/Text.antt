@@ -1,6 +1,6 @@
 -- The text of a document in Functional-Style Syntax, in characters: one for the prefixes and the ontology (Structural
 -- Specification, section 3.7).
-use Rattle.std.specs.Prelude.{ℕ, zero, suc, Bool, true, false, nat_le, if◌then◌else◌, List, [], ◌∷◌, ◌++◌, length, map, codes, flat_map, Option, None, Some}
+use Rattle.std.specs.Prelude.{ℕ, zero, suc, true, false, nat_le, if◌then◌else◌, List, [], ◌∷◌, ◌++◌, length, map, codes, flat_map, Option, None, Some}
 use Rattle.std.specs.Fmt.{decimal}
 use Rattle.owl_text.specs.Order.{text_cmp, text_eq}
 use Rattle.owl_text.specs.Tokens.{character_spelling}

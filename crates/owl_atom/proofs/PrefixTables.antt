@@ -21,10 +21,10 @@ use Rattle.owl_atom.specs.Places.{IsPlaceOf, IsGapFor}
 
 -- the order of names
 
-same_names : (a b : List ℕ) → text_cmp a b ≡ Equal → a ≡ b
+pub same_names : (a b : List ℕ) → text_cmp a b ≡ Equal → a ≡ b
 same_names a b e = encodes_same a b (slice_cmp-IsAntisymmetric nat_cmp-IsAntisymmetric _ _ e)
 
-turned : (a b : List ℕ) → text_cmp a b ≡ Greater → text_cmp b a ≡ Less
+pub turned : (a b : List ℕ) → text_cmp a b ≡ Greater → text_cmp b a ≡ Less
 turned a b e = texts_total.antisymm b a ∙ ap ordering_reverse e
 
 less_differs : (a b : List ℕ) → text_cmp a b ≡ Less → a ≢ b
@@ -46,22 +46,22 @@ greater_unequal a b e = unequal a b (λ same. less_differs b a e (sym same))
 
 -- looking up past the first prefix, and at it
 
-passed : (prefix : Prefix) (others : List Prefix) (name : List ℕ) → text_eq prefix.name name ≡ false → prefix_in (prefix ∷ others) name ≡ prefix_in others name
+pub passed : (prefix : Prefix) (others : List Prefix) (name : List ℕ) → text_eq prefix.name name ≡ false → prefix_in (prefix ∷ others) name ≡ prefix_in others name
 passed prefix others name e = ap (λ b. cond b (Some prefix) (prefix_in others name)) e
 
-met : (prefix : Prefix) (others : List Prefix) (name : List ℕ) → prefix.name ≡ name → prefix_in (prefix ∷ others) name ≡ Some prefix
+pub met : (prefix : Prefix) (others : List Prefix) (name : List ℕ) → prefix.name ≡ name → prefix_in (prefix ∷ others) name ≡ Some prefix
 met prefix others name e = ap (λ b. cond b (Some prefix) (prefix_in others name)) (equal prefix.name name e)
 
 -- a name that is less than those of these prefixes
 
-abbrev Below : List ℕ → List Prefix → Type 0
+abbrev pub Below : List ℕ → List Prefix → Type 0
 Below name prefixes = AllByRecursion (λ other. text_cmp name other.name ≡ Less) prefixes
 
 below_too : (a b : List ℕ) (prefixes : List Prefix) → text_cmp a b ≡ Less → Below b prefixes → Below a prefixes
 below_too a b [] e h = tt
 below_too a b (x ∷ xs) e h = (texts_total.trans a b x.name e h.0, below_too a b xs e h.1)
 
-below_none : (name : List ℕ) (prefixes : List Prefix) → Below name prefixes → prefix_in prefixes name ≡ None
+pub below_none : (name : List ℕ) (prefixes : List Prefix) → Below name prefixes → prefix_in prefixes name ≡ None
 below_none name [] h = refl
 below_none name (x ∷ xs) h = passed x xs name (greater_unequal x.name name h.0) ∙ below_none name xs h.1
 

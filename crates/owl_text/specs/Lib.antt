@@ -5,3 +5,4 @@ pub mod OrderLaws
 pub mod Utf8
 pub mod Tokens
 pub mod Lexing
+pub mod Feeding
