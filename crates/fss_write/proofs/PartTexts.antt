@@ -1,9 +1,9 @@
 -- Parts that are added one behind another.
-use Rattle.std.proofs.Common.{◌≡◌, ℕ, zero, suc, ◌+◌, ◌<◌, ◌≤◌, Bool, true, false, List, [], ◌∷◌, ◌++◌, length, take, drop, get_or, Option, None, Some, refl, sym, ap, ◌∙◌, subst, arith, codes}
+use Rattle.std.proofs.Common.{◌≡◌, ◌≢◌, ◌-◌, ℕ, zero, suc, ◌+◌, ◌<◌, ◌≤◌, Bool, true, false, List, [], ◌∷◌, ◌++◌, length, take, drop, get_or, Option, None, Some, Result, Ok, Err, IfOk, OnOk, refl, sym, ap, ◌∙◌, subst, arith, add-one, codes}
 use Rattle.std.specs.Prelude.{map, nat_le, if◌then◌else◌}
-use Rattle.std.specs.List.{flat_map}
+use Rattle.std.specs.List.{AllByRecursion, flat_map}
 use Rattle.std.specs.Option.{option_map, option_to_list}
-use Rattle.std.proofs.lemmas.List.{append-nil, append_assoc}
+use Rattle.std.proofs.lemmas.List.{append-nil, append_assoc, take_all}
 use Rattle.owl_atom.specs.declared.prefixes.Prefix.{Prefix}
 use Rattle.owl_arena.specs.Held.{tree_at, trees_at}
 use Rattle.owl_tree.specs.declared.atom.Atom.{Atom}
@@ -12,7 +12,7 @@ use Rattle.owl_tree.specs.declared.row.Rest.TheVariants.{Nothing, Optional, AtLe
 use Rattle.owl_tree.specs.Rows.{Row, Leaf, Node, row_of}
 use Rattle.owl_tree.specs.Trees.{Tree, Kids, leaf, node, no_kids, kid, atom_in, kids_in, kids_of, list_of, tag_of}
 use Rattle.owl_tree.specs.TreeLaws.{list_of_kids_of}
-use Rattle.fss_write.specs.Parts.{IsTooLong, behind, has_parts, kids_parts, kids_parts_at, node_parts_at, only_behind, parts_at, repeated, spaced}
+use Rattle.fss_write.specs.Parts.{IsTooLong, behind, has_parts, kids_parts, kids_parts_at, node_parts_at, only_behind, parts_at, repeated, spaced, spacing}
 use Rattle.fss_write.specs.Text.{doubled, doubled_behind, joined, leaf_text, node_parts, parts, parts_of, written_form, written_forms}
 use Rattle.fss_write.proofs.Joins.{joined2, longer_by, longer_behind}
 
@@ -84,6 +84,26 @@ module _ (pieces : ℕ → List (List ℕ)) (start : List ℕ) (before : Bool) w
       let whole = ap (behind before) (flat_append pieces (ids ++ id ∷ []) rest) ∙ behind_append before (flat_map pieces (ids ++ id ∷ [])) (flat_map pieces rest) in
       subst (λ (z : List ℕ). IsTooLong (start ++ z)) (sym whole) (longer_by start (behind before (flat_map pieces (ids ++ id ∷ []))) (behind (has_parts before (flat_map pieces (ids ++ id ∷ []))) (flat_map pieces rest)) here)
 
+  pub added_all : (ids : List ℕ) (i : ℕ) (now : List ℕ) (after : Bool) → AreAdded pieces start before (take i ids) now after → length ids ≤ i → AreAdded pieces start before ids now after
+  added_all ids i now after h l = subst (λ (xs : List ℕ). AreAdded pieces start before xs now after) (take_all i ids l) h
+
+  pub last_some : {E : Type 0} (r : Result Bool E) (ids : List ℕ) (now : List ℕ) (after : Bool) (id : ℕ) → AreAdded pieces start before ids now after → IfOk r (λ some. some ≡ has_parts after (pieces id)) → IfOk r (λ some. some ≡ has_parts before (flat_map pieces (ids ++ id ∷ [])))
+  last_some (Ok some) ids now after id h is = (added_one ids now after id _ some h refl is).some
+  last_some (Err e) ids now after id h is = is
+
+  pub last_text : {E : Type 0} (r : Result Bool E) (ids : List ℕ) (now : List ℕ) (after : Bool) (id : ℕ) (later : List ℕ) → AreAdded pieces start before ids now after → OnOk r (later ≡ now ++ behind after (pieces id)) → OnOk r (later ≡ start ++ behind before (flat_map pieces (ids ++ id ∷ [])))
+  last_text (Ok some) ids now after id later h is = (added_one ids now after id later _ h is refl).text
+  last_text (Err e) ids now after id later h is = is
+
+  pub last_too_long : (ids : List ℕ) (now : List ℕ) (after : Bool) (id : ℕ) → AreAdded pieces start before ids now after → IsTooLong (now ++ behind after (pieces id)) → IsTooLong (start ++ behind before (flat_map pieces (ids ++ id ∷ [])))
+  last_too_long ids now after id h long =
+      subst (λ (xs : List ℕ). IsTooLong (start ++ behind before (flat_map pieces xs))) (append-nil (ids ++ id ∷ [])) (added_too_long ids now after id [] h long)
+
+-- one part behind some or none
+pub one_behind : (some : Bool) (part : List ℕ) → behind some (part ∷ []) ≡ spacing some ++ part
+one_behind true part = append-nil (spaced part)
+one_behind false part = refl
+
 -- kids as they are written
 doubled_behind_is : (n : ℕ) (ts : List Tree) → doubled_behind n ts ≡ ts ++ option_to_list (only_behind n ts)
 doubled_behind_is zero [] = refl
@@ -103,6 +123,21 @@ doubled_is (Node front (Optional sort)) ts = sym (append-nil ts)
 doubled_is (Node front (AtLeast sort least)) ts = sym (append-nil ts)
 doubled_is (Node front (SomeThen sort last)) ts = sym (append-nil ts)
 doubled_is (Node front (Set sort least)) ts = doubled_set (nat_le 2 least) (length front) ts
+
+-- by how many there are
+pub only_there : (n : ℕ) (xs : List ℕ) → n < length xs → length xs - n ≡ 1 → only_behind n xs ≡ Some (get_or xs n 0)
+only_there zero [] l e = absurd (omega arith)
+only_there zero (x ∷ []) l e = refl
+only_there zero (x ∷ y ∷ zs) l e = absurd (omega arith)
+only_there (suc n) [] l e = absurd (omega arith)
+only_there (suc n) (x ∷ xs) l e = only_there n xs (omega arith) (omega arith)
+
+pub only_not : (n : ℕ) (xs : List ℕ) → length xs ≢ n + 1 → only_behind n xs ≡ None
+only_not zero [] l = refl
+only_not zero (x ∷ []) l = absurd (l refl)
+only_not zero (x ∷ y ∷ zs) l = refl
+only_not (suc n) [] l = refl
+only_not (suc n) (x ∷ xs) l = only_not n xs (λ e. l (omega arith))
 
 only_map : {X Y : Type 0} (f : X → Y) (n : ℕ) (xs : List X) → only_behind n (map f xs) ≡ option_map f (only_behind n xs)
 only_map f zero [] = refl
@@ -167,3 +202,66 @@ leaf_parts prefixes within (node u ks) a e = absurd (cc)
 pub other_parts : (prefixes : List Prefix) (within : Tag) (t : Tree) → atom_in t ≡ None → parts prefixes within (written_form t) ≡ node_parts (tag_of t) (kids_parts prefixes t)
 other_parts prefixes within (leaf u b) e = absurd (cc)
 other_parts prefixes within (node u ks) e = ap (node_parts u) (parts_list prefixes u (kids_of (doubled (row_of u) (written_forms ks))))
+
+-- no kids are written of a leaf
+none_repeated : (row : Row) → repeated {X = ℕ} row [] ≡ None
+none_repeated (Leaf sort) = refl
+none_repeated (Node front Nothing) = refl
+none_repeated (Node front (Optional sort)) = refl
+none_repeated (Node front (AtLeast sort least)) = refl
+none_repeated (Node front (SomeThen sort last)) = refl
+none_repeated (Node front (Set sort least)) = of_set (nat_le 2 least) (length front) where
+  none_behind : (n : ℕ) → only_behind {X = ℕ} n [] ≡ None
+  none_behind zero = refl
+  none_behind (suc n) = refl
+
+  of_set : (b : Bool) (n : ℕ) → (if b then only_behind {X = ℕ} n [] else None) ≡ None
+  of_set true n = none_behind n
+  of_set false n = refl
+
+empty_numbers : (trees : List Tree) (ids : List ℕ) → trees_at trees ids ≡ [] → ids ≡ []
+empty_numbers trees [] e = refl
+empty_numbers trees (id ∷ ids) e = absurd (cc)
+
+tree_kids : (prefixes : List Prefix) (trees : List Tree) (t : Tree) (ids : List ℕ) → trees_at trees ids ≡ kids_in t → kids_parts prefixes t ≡ flat_map (parts_at prefixes trees (tag_of t)) (ids ++ option_to_list (repeated (row_of (tag_of t)) ids))
+tree_kids prefixes trees (leaf t a) ids e =
+    let none = empty_numbers trees ids e in
+    sym (ap (λ (xs : List ℕ). flat_map (parts_at prefixes trees t) (xs ++ option_to_list (repeated (row_of t) xs))) none ∙ ap (λ (o : Option ℕ). flat_map (parts_at prefixes trees t) (option_to_list o)) (none_repeated (row_of t)))
+tree_kids prefixes trees (node t ks) ids e = node_kids prefixes trees t ks ids e
+
+pub kids_at : (prefixes : List Prefix) (trees : List Tree) (id : ℕ) (t : Tag) (ids : List ℕ) → t ≡ tag_of (tree_at trees id) → trees_at trees ids ≡ kids_in (tree_at trees id) → kids_parts_at prefixes trees id ≡ flat_map (parts_at prefixes trees t) (ids ++ option_to_list (repeated (row_of t) ids))
+kids_at prefixes trees id t ids e f =
+    tree_kids prefixes trees (tree_at trees id) ids f ∙ ap (λ (u : Tag). flat_map (parts_at prefixes trees u) (ids ++ option_to_list (repeated (row_of u) ids))) (sym e)
+
+-- the one that stands twice is one of the kids
+only_kept : (P : ℕ → Type 0) (n : ℕ) (ids : List ℕ) (id : ℕ) → only_behind n ids ≡ Some id → AllByRecursion P ids → P id
+only_kept P zero [] id e h = absurd (cc)
+only_kept P zero (x ∷ []) id e h = let same : x ≡ id = cc in subst P same h.0
+only_kept P zero (x ∷ y ∷ zs) id e h = absurd (cc)
+only_kept P (suc n) [] id e h = absurd (cc)
+only_kept P (suc n) (x ∷ xs) id e h = only_kept P n xs id e h.1
+
+set_kept : (P : ℕ → Type 0) (b : Bool) (n : ℕ) (ids : List ℕ) (id : ℕ) → (if b then only_behind n ids else None) ≡ Some id → AllByRecursion P ids → P id
+set_kept P true n ids id e h = only_kept P n ids id e h
+set_kept P false n ids id e h = absurd (cc)
+
+pub repeated_kept : (P : ℕ → Type 0) (row : Row) (ids : List ℕ) (id : ℕ) → repeated row ids ≡ Some id → AllByRecursion P ids → P id
+repeated_kept P (Leaf sort) ids id e h = absurd (cc)
+repeated_kept P (Node front Nothing) ids id e h = absurd (cc)
+repeated_kept P (Node front (Optional sort)) ids id e h = absurd (cc)
+repeated_kept P (Node front (AtLeast sort least)) ids id e h = absurd (cc)
+repeated_kept P (Node front (SomeThen sort last)) ids id e h = absurd (cc)
+repeated_kept P (Node front (Set sort least)) ids id e h = set_kept P (nat_le 2 least) (length front) ids id e h
+
+-- the kids around a place
+pub around : (ids : List ℕ) (i : ℕ) (id : ℕ) (rest : List ℕ) → i < length ids → id ≡ get_or ids i id → (take i ids ++ id ∷ []) ++ (drop (suc i) ids ++ rest) ≡ ids ++ rest
+around [] i id rest l e = absurd (omega arith)
+around (x ∷ xs) zero id rest l e = ap (λ (y : ℕ). y ∷ (xs ++ rest)) e
+around (x ∷ xs) (suc i) id rest l e = ap (λ (ys : List ℕ). x ∷ ys) (around xs i id rest (omega arith) e)
+
+pub taken_one : (ids : List ℕ) (i : ℕ) (id : ℕ) → i < length ids → id ≡ get_or ids i id → take (i + 1) ids ≡ take i ids ++ id ∷ []
+taken_one ids i id l e = ap (λ (n : ℕ). take n ids) (add-one i) ∙ step ids i id l e where
+  step : (xs : List ℕ) (j : ℕ) (x : ℕ) → j < length xs → x ≡ get_or xs j x → take (suc j) xs ≡ take j xs ++ x ∷ []
+  step [] j x l e = absurd (omega arith)
+  step (y ∷ ys) zero x l e = ap (λ (z : ℕ). z ∷ []) (sym e)
+  step (y ∷ ys) (suc j) x l e = ap (λ (zs : List ℕ). y ∷ zs) (step ys j x (omega arith) e)

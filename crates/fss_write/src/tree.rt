@@ -1,6 +1,7 @@
 //! How trees are written.
 
-ghost use Rattle.std.specs.Prelude.{◌≡◌, ◌<◌, ◌++◌, IfOk, IsErrOf, OnOk, length};
+ghost use Rattle.std.specs.Prelude.{◌≡◌, ◌<◌, ◌++◌, codes, IfOk, IsErrOf, OnOk, length};
+ghost use Rattle.std.specs.Str.{chars};
 ghost use Rattle.owl_arena.specs.Held.{tree_at};
 ghost use Rattle.owl_doc.specs.Spelling.{is_bare, is_group};
 ghost use Rattle.owl_tree.specs.Rows.{row_of};
@@ -31,7 +32,7 @@ fn is_group(tag: Tag) -> bool
 
 /// What stands before the bracket of a node.
 fn node_name(tag: Tag) -> &'static str
-    ensures name { result.now ≡ node_name tag }
+    ensures { chars result.now ≡ node_name tag }
 {
     if is_group(tag) { "" } else { tag.keyword() }
 }
@@ -46,11 +47,12 @@ fn repeated(tag: Tag, kids: &[ExprId]) -> Option<ExprId>
     }
 }
 
-/// The kid behind so many, where there is one.
+/// The kid behind so many, where it is the only one.
+#[tactic(auto, using(crate::proofs::PartTexts::only_there, crate::proofs::PartTexts::only_not))]
 fn only_behind(count: usize, kids: &[ExprId]) -> Option<ExprId>
     ensures { result ≡ only_behind count kids.now }
 {
-    if kids.len() == count + 1 {
+    if count < kids.len() && kids.len() - count == 1 {
         Some(kids[count])
     } else {
         None
@@ -99,6 +101,16 @@ impl Draft {
         self.add_ascii("(")?;
         self.add_atom(prefixes, atom)?;
         self.add_ascii(")")
+    }
+
+    /// Adds what stands before the kids of a node.
+    #[tactic(auto, using(crate::proofs::Sizes::size_append))]
+    fn open_node(&mut self, tag: Tag) -> Result<(), WriteFault>
+        ensures ok { OnOk result (self.new ≡ self.old ++ (node_name tag ++ codes "(")) }
+        ensures too_long { IsErrOf result WriteFault.TooLong → IsTooLong (self.old ++ (node_name tag ++ codes "(")) }
+    {
+        self.add(node_name(tag))?;
+        self.add_ascii("(")
     }
 
     /// Adds the parts of a tree that stands in a node with the tag `within`, behind some part or behind none, and tells
@@ -165,8 +177,7 @@ impl Draft {
         ensures ok { OnOk result (self.new ≡ self.old ++ node_text_at prefixes.now arena.now.trees id) }
         ensures too_long { IsErrOf result WriteFault.TooLong → IsTooLong (self.old ++ node_text_at prefixes.now arena.now.trees id) }
     {
-        self.add(node_name(arena.tag(id)))?;
-        self.add_ascii("(")?;
+        self.open_node(arena.tag(id))?;
         self.add_kids(arena, prefixes, false, id)?;
         self.add_ascii(")")
     }
