@@ -14,7 +14,7 @@ use Rattle.owl_tree.specs.Trees.{Tree, Kids, leaf, node, no_kids, kid, atom_in, 
 use Rattle.owl_tree.specs.TreeLaws.{list_of_kids_of}
 use Rattle.fss_write.specs.Parts.{IsTooLong, behind, has_parts, kids_parts, kids_parts_at, node_parts_at, only_behind, parts_at, repeated, spaced, spacing}
 use Rattle.fss_write.specs.Text.{doubled, doubled_behind, joined, leaf_text, node_parts, parts, parts_of, written_form, written_forms}
-use Rattle.fss_write.proofs.Joins.{joined2, longer_by, longer_behind}
+use Rattle.fss_write.proofs.Joins.{flat_of_map, joined2, longer_by}
 
 -- parts behind parts
 behind_first : (x : List ℕ) (ys : List (List ℕ)) → joined (x ∷ ys) ≡ x ++ flat_map spaced ys
@@ -68,13 +68,13 @@ module _ (pieces : ℕ → List (List ℕ)) (start : List ℕ) (before : Bool) w
   pub added_one : (ids : List ℕ) (now : List ℕ) (after : Bool) (id : ℕ) (later : List ℕ) (some : Bool) → AreAdded pieces start before ids now after → later ≡ now ++ behind after (pieces id) → some ≡ has_parts after (pieces id) → AreAdded pieces start before (ids ++ id ∷ []) later some
   added_one ids now after id later some h text is = record {
     text =
-      joined2 start (behind before (flat_map pieces ids)) (behind (has_parts before (flat_map pieces ids)) (pieces id)) now later h.text (text ∙ ap (λ (b : Bool). now ++ behind b (pieces id)) h.some)
-      ∙ ap (λ (z : List ℕ). start ++ z) (sym (grown_text ids id));
+        joined2 start (behind before (flat_map pieces ids)) (behind (has_parts before (flat_map pieces ids)) (pieces id)) now later h.text (text ∙ ap (λ (b : Bool). now ++ behind b (pieces id)) h.some)
+        ∙ ap (λ (z : List ℕ). start ++ z) (sym (grown_text ids id));
     some =
-      is
-      ∙ ap (λ (b : Bool). has_parts b (pieces id)) h.some
-      ∙ sym (has_append before (flat_map pieces ids) (pieces id))
-      ∙ ap (has_parts before) (sym (grown ids id));
+        is
+        ∙ ap (λ (b : Bool). has_parts b (pieces id)) h.some
+        ∙ sym (has_append before (flat_map pieces ids) (pieces id))
+        ∙ ap (has_parts before) (sym (grown ids id));
   }
 
   pub added_too_long : (ids : List ℕ) (now : List ℕ) (after : Bool) (id : ℕ) (rest : List ℕ) → AreAdded pieces start before ids now after → IsTooLong (now ++ behind after (pieces id)) → IsTooLong (start ++ behind before (flat_map pieces ((ids ++ id ∷ []) ++ rest)))
@@ -168,10 +168,6 @@ kids_written t ks = list_of_kids_of (doubled (row_of t) (written_forms ks)) ∙ 
 map_both : {X Y Z : Type 0} (f : X → Y) (g : Y → Z) (xs : List X) → map g (map f xs) ≡ map (λ (x : X). g (f x)) xs
 map_both f g [] = refl
 map_both f g (x ∷ xs) = ap (λ (zs : List _). g (f x) ∷ zs) (map_both f g xs)
-
-flat_of_map : {X Y : Type 0} (f : X → Y) (g : Y → List (List ℕ)) (xs : List X) → flat_map g (map f xs) ≡ flat_map (λ (x : X). g (f x)) xs
-flat_of_map f g [] = refl
-flat_of_map f g (x ∷ xs) = ap (λ (z : List (List ℕ)). g (f x) ++ z) (flat_of_map f g xs)
 
 flat_of_option : {X Y : Type 0} (f : X → Y) (g : Y → List (List ℕ)) (o : Option X) → flat_map g (option_to_list (option_map f o)) ≡ flat_map (λ (x : X). g (f x)) (option_to_list o)
 flat_of_option f g None = refl

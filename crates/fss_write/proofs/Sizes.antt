@@ -13,6 +13,8 @@ use Rattle.std.proofs.lemmas.Str.Ascii.{IsAscii-cons, IsAscii-nil}
 use Rattle.std.specs.Cmp.{first_so, second_so}
 use Rattle.owl_text.specs.Iri.{is_ascii}
 use Rattle.owl_text.specs.Utf8.{size}
+use Rattle.owl_doc.specs.Functional.{longest}
+use Rattle.fss_write.specs.Parts.{IsTooLong}
 
 pub size_append : (xs ys : List ℕ) → size (xs ++ ys) ≡ size xs + size ys
 size_append [] ys = omega arith
@@ -45,3 +47,10 @@ digit_ascii d h = grind (arith, nat_tests)
 
 pub decimal_ascii : (n : ℕ) → n < 2 ^ 64 → list_all is_ascii (decimal n) ≡ true
 decimal_ascii = decimal_by_steps (λ n ds. list_all is_ascii ds ≡ true) (λ n h. digit_ascii n h) (λ n ds h k. all_both is_ascii ds ((48 + n % 10) ∷ []) k (digit_ascii (n % 10) (omega arith)))
+
+-- the limit in bytes
+pub too_long_in_bytes : (text : List ℕ) → IsTooLong text → longest < length (encode_utf8_all text)
+too_long_in_bytes text h = omega (arith, size_is text)
+
+pub within_in_bytes : (text : List ℕ) → size text ≤ longest → length (encode_utf8_all text) ≤ longest
+within_in_bytes text h = omega (arith, size_is text)

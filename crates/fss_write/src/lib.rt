@@ -4,6 +4,7 @@
 mod atoms;
 mod draft;
 mod fault;
+mod lines;
 mod tree;
 mod writer;
 

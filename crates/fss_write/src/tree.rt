@@ -7,7 +7,7 @@ ghost use Rattle.owl_doc.specs.Spelling.{is_bare, is_group};
 ghost use Rattle.owl_tree.specs.Rows.{row_of};
 ghost use Rattle.owl_tree.specs.Tags.{keyword_of};
 ghost use Rattle.fss_write.specs.Parts.{IsTooLong, behind, has_parts, kids_parts_at, node_parts_at, node_text_at, only_behind, parts_at, repeated, spacing};
-ghost use Rattle.fss_write.specs.Text.{atom_text, bracketed, leaf_text, node_name};
+ghost use Rattle.fss_write.specs.Text.{atom_text, bracketed, item_text, leaf_text, node_name};
 ghost use Rattle.fss_write.specs.declared.fault.WriteFault.{WriteFault};
 
 use crate::draft::Draft;
@@ -103,6 +103,21 @@ impl Draft {
         self.add_ascii(")")
     }
 
+    /// Adds an annotation or an axiom.
+    pub fn add_item(
+        &mut self,
+        arena: &Arena,
+        prefixes: &Prefixes,
+        id: ExprId,
+    ) -> Result<(), WriteFault>
+        requires { id < length arena.now.trees }
+        ensures ok { OnOk result (self.new ≡ self.old ++ item_text prefixes.now (tree_at arena.now.trees id)) }
+        ensures too_long { IsErrOf result WriteFault.TooLong → IsTooLong (self.old ++ item_text prefixes.now (tree_at arena.now.trees id)) }
+    {
+        self.add_parts(arena, prefixes, arena.tag(id), false, id)?;
+        Ok(())
+    }
+
     /// Adds what stands before the kids of a node.
     #[tactic(auto, using(crate::proofs::Sizes::size_append))]
     fn open_node(&mut self, tag: Tag) -> Result<(), WriteFault>
@@ -167,12 +182,7 @@ impl Draft {
     /// Adds a node with its brackets.
     #[cycle(tree)]
     #[tactic(auto, using(crate::proofs::Sizes::size_append))]
-    fn add_node(
-        &mut self,
-        arena: &Arena,
-        prefixes: &Prefixes,
-        id: ExprId,
-    ) -> Result<(), WriteFault>
+    fn add_node(&mut self, arena: &Arena, prefixes: &Prefixes, id: ExprId) -> Result<(), WriteFault>
         requires { id < length arena.now.trees }
         ensures ok { OnOk result (self.new ≡ self.old ++ node_text_at prefixes.now arena.now.trees id) }
         ensures too_long { IsErrOf result WriteFault.TooLong → IsTooLong (self.old ++ node_text_at prefixes.now arena.now.trees id) }

@@ -8,8 +8,11 @@ ghost use Rattle.owl_doc.specs.Functional.{Reads, longest};
 ghost use Rattle.fss_write.specs.Text.{axiom_text, declared_prefixes, text_of};
 ghost use Rattle.fss_write.specs.declared.fault.WriteFault.{WriteFault};
 
+use crate::draft::Draft;
 use crate::fault::WriteFault;
+use crate::lines::written_prefixes;
 use owl_arena::ExprId;
+use owl_atom::Prefixes;
 use owl_doc::Doc;
 use owl_text::Text;
 use std::alloc::Global;
@@ -24,9 +27,16 @@ pub fn write(alloc: Global, doc: &Doc) -> Result<Text, WriteFault>
     ensures too_long { IsErrOf result WriteFault.TooLong → longest < length (encode_utf8_all (text_of doc.now.prefixes (ontology_of doc.now))) }
     ensures reads_back { IfOk result (λ text. Reads (encode_utf8_all text) (declared_prefixes doc.now.prefixes) (ontology_of doc.now)) }
 {
-    Text::new(alloc);
+    // What is known of every document and of every arena.
+    doc.arena().distinct();
     doc.head();
-    Err(WriteFault::Memory)
+    doc.prefixes().len();
+    let prefixes = written_prefixes(alloc, doc.prefixes())?;
+    let mut draft = Draft::new(alloc);
+    draft.add_document(&prefixes, doc)?;
+    let text = draft.into_text();
+    text.as_str();
+    Ok(text)
 }
 
 /// The text of an axiom in Functional-Style Syntax, with all IRIs in full.
@@ -38,7 +48,7 @@ pub fn axiom_text(alloc: Global, doc: &Doc, id: ExprId) -> Result<Text, WriteFau
     ensures within { IfOk result (λ text. length (encode_utf8_all text) ≤ longest) }
     ensures too_long { IsErrOf result WriteFault.TooLong → longest < length (encode_utf8_all (axiom_text (tree_at doc.now.arena.trees id))) }
 {
-    Text::new(alloc);
-    doc.arena().tag(id);
-    Err(WriteFault::Memory)
+    let mut draft = Draft::new(alloc);
+    draft.add_item(doc.arena(), &Prefixes::empty(alloc), id)?;
+    Ok(draft.into_text())
 }
