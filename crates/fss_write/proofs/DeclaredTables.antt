@@ -21,7 +21,8 @@ use Rattle.owl_atom.proofs.PrefixTables.{equal}
 use Rattle.owl_atom.proofs.Words.{written_name}
 use Rattle.owl_doc.specs.Functional.{AreDeclarable, IsDeclarable, IsTableOf, PrefixDeclaration, declaration_of, declared_prefix}
 use Rattle.fss_write.specs.Text.{as_declared, declared_prefixes, with_prefix, written_prefixes}
-use Rattle.fss_write.proofs.WrittenTables.{HaveIris, looked_up, with_prefix_iris, with_prefix_sets, with_prefix_table}
+use Rattle.fss_write.specs.Parts.{HaveIris}
+use Rattle.fss_write.proofs.WrittenTables.{looked_up, with_prefix_iris, with_prefix_sets, with_prefix_table}
 
 -- the four names and their IRIs
 

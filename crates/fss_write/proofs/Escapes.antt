@@ -1,11 +1,10 @@
 -- Characters of a text that are written one by one.
-use Rattle.std.proofs.Common.{◌≡◌, ℕ, ◌≤◌, ◌<◌, List, [], ◌∷◌, ◌++◌, length, refl, sym, ap, ◌∙◌, arith, subst}
+use Rattle.std.proofs.Common.{◌≡◌, ℕ, List, [], ◌∷◌, ◌++◌, length, refl, sym, ap, ◌∙◌, arith, subst}
 use Rattle.std.specs.Char.{encode_utf8}
 use Rattle.std.specs.List.{flat_map}
 use Rattle.std.specs.Str.{IsUtf8, chars, encode_utf8_all}
 use Rattle.std.proofs.lemmas.List.{append_assoc, append-nil}
 use Rattle.std.proofs.lemmas.Str.{cons_from_encodes, encodes-chars, length-le-encodes}
-use Rattle.owl_text.specs.Utf8.{size}
 use Rattle.fss_write.specs.Parts.{IsTooLong}
 use Rattle.fss_write.proofs.Joins.{longer}
 

@@ -5,6 +5,8 @@ use Rattle.std.proofs.Common.{Result, Err, Some, zero, suc, ◌+◌, ◌<◌, le
 use Rattle.std.specs.Result.{IsErrAnd}
 use Rattle.std.proofs.lemmas.Result.{err_from_is_err_and}
 use Rattle.std.proofs.lemmas.List.{append_assoc, append-nil, take_more}
+use Rattle.std.proofs.lemmas.Grind.{flat_map-append}
+use Rattle.owl_list.specs.AscendingLaws.{all_pushed}
 use Rattle.owl_text.specs.Utf8.{size}
 use Rattle.fss_write.specs.Parts.{IsTooLong}
 use Rattle.fss_write.proofs.Sizes.{size_append}
@@ -60,8 +62,7 @@ pub taken_one : {X : Type 0} (xs : List X) (i : ℕ) (x : X) → i < length xs �
 taken_one xs i x h e = take_more xs i x h ∙ ap (λ (y : _). take i xs ++ y ∷ []) (sym e)
 
 flat_one : {X : Type 0} (line : X → List ℕ) (xs : List X) (x : X) → flat_map line (xs ++ x ∷ []) ≡ flat_map line xs ++ line x
-flat_one line [] x = append-nil (line x)
-flat_one line (y ∷ ys) x = ap (λ (z : List ℕ). line y ++ z) (flat_one line ys x) ∙ sym (append_assoc (line y) (flat_map line ys) (line x))
+flat_one line xs x = flat_map-append line xs (x ∷ []) ∙ ap (λ (z : List ℕ). flat_map line xs ++ z) (append-nil (line x))
 
 -- one line more
 pub line_more : {X : Type 0} (line : X → List ℕ) (start now after : List ℕ) (xs : List X) (i : ℕ) (x : X) → now ≡ start ++ flat_map line (take i xs) → i < length xs → x ≡ get_or xs i x → after ≡ now ++ line x → after ≡ start ++ flat_map line (take (i + 1) xs)
@@ -69,9 +70,5 @@ line_more line start now after xs i x e h is f =
     joined2 start (flat_map line (take i xs)) (line x) now after e f
     ∙ ap (λ (z : List ℕ). start ++ z) (sym (flat_one line (take i xs) x) ∙ ap (flat_map line) (sym (taken_one xs i x h is)))
 
-all_one : {X : Type 0} (P : X → Type 0) (xs : List X) (x : X) → AllByRecursion P xs → P x → AllByRecursion P (xs ++ x ∷ [])
-all_one P [] x h k = (k, tt)
-all_one P (y ∷ ys) x h k = (h.0, all_one P ys x h.1 k)
-
 pub all_more : {X : Type 0} (P : X → Type 0) (xs : List X) (i : ℕ) (x : X) → AllByRecursion P (take i xs) → i < length xs → x ≡ get_or xs i x → P x → AllByRecursion P (take (i + 1) xs)
-all_more P xs i x h l is k = subst (AllByRecursion P) (sym (taken_one xs i x l is)) (all_one P (take i xs) x h k)
+all_more P xs i x h l is k = subst (AllByRecursion P) (sym (taken_one xs i x l is)) (all_pushed P (take i xs) x h k)

@@ -1,8 +1,9 @@
 -- Parts that are added one behind another.
-use Rattle.std.proofs.Common.{◌≡◌, ◌≢◌, ◌-◌, ℕ, zero, suc, ◌+◌, ◌<◌, ◌≤◌, Bool, true, false, List, [], ◌∷◌, ◌++◌, length, take, drop, get_or, Option, None, Some, Result, Ok, Err, IfOk, OnOk, refl, sym, ap, ◌∙◌, subst, arith, add-one, codes}
+use Rattle.std.proofs.Common.{◌≡◌, ◌≢◌, ◌-◌, ℕ, zero, suc, ◌+◌, ◌<◌, ◌≤◌, Bool, true, false, List, [], ◌∷◌, ◌++◌, length, take, drop, get_or, Option, None, Some, Result, Ok, Err, IfOk, OnOk, refl, sym, ap, ◌∙◌, subst, arith, codes}
 use Rattle.std.specs.Prelude.{map, nat_le, if◌then◌else◌}
 use Rattle.std.specs.List.{AllByRecursion, flat_map}
 use Rattle.std.specs.Option.{option_map, option_to_list}
+use Rattle.std.proofs.lemmas.Grind.{flat_map-append}
 use Rattle.std.proofs.lemmas.List.{append-nil, append_assoc, take_all}
 use Rattle.owl_atom.specs.declared.prefixes.Prefix.{Prefix}
 use Rattle.owl_arena.specs.Held.{tree_at, trees_at}
@@ -12,7 +13,7 @@ use Rattle.owl_tree.specs.declared.row.Rest.TheVariants.{Nothing, Optional, AtLe
 use Rattle.owl_tree.specs.Rows.{Row, Leaf, Node, row_of}
 use Rattle.owl_tree.specs.Trees.{Tree, Kids, leaf, node, no_kids, kid, atom_in, kids_in, kids_of, list_of, tag_of}
 use Rattle.owl_tree.specs.TreeLaws.{list_of_kids_of}
-use Rattle.fss_write.specs.Parts.{IsTooLong, behind, has_parts, kids_parts, kids_parts_at, node_parts_at, only_behind, parts_at, repeated, spaced, spacing}
+use Rattle.fss_write.specs.Parts.{IsTooLong, behind, has_parts, kids_parts, kids_parts_at, only_behind, parts_at, repeated, spaced, spacing}
 use Rattle.fss_write.specs.Text.{doubled, doubled_behind, joined, leaf_text, node_parts, parts, parts_of, written_form, written_forms}
 use Rattle.fss_write.proofs.Joins.{flat_of_map, joined2, longer_by}
 
@@ -21,17 +22,13 @@ behind_first : (x : List ℕ) (ys : List (List ℕ)) → joined (x ∷ ys) ≡ x
 behind_first x [] = sym (append-nil x)
 behind_first x (y ∷ ys) = ap (λ (z : List ℕ). x ++ (codes " " ++ z)) (behind_first y ys)
 
-behind_spaced : (xs ys : List (List ℕ)) → flat_map spaced (xs ++ ys) ≡ flat_map spaced xs ++ flat_map spaced ys
-behind_spaced [] ys = refl
-behind_spaced (x ∷ xs) ys = ap (λ (z : List ℕ). spaced x ++ z) (behind_spaced xs ys) ∙ sym (append_assoc (spaced x) (flat_map spaced xs) (flat_map spaced ys))
-
 pub behind_append : (some : Bool) (xs ys : List (List ℕ)) → behind some (xs ++ ys) ≡ behind some xs ++ behind (has_parts some xs) ys
 behind_append true [] ys = refl
 behind_append false [] ys = refl
-behind_append true (x ∷ xs) ys = behind_spaced (x ∷ xs) ys
+behind_append true (x ∷ xs) ys = flat_map-append spaced (x ∷ xs) ys
 behind_append false (x ∷ xs) ys =
     behind_first x (xs ++ ys)
-    ∙ ap (λ (z : List ℕ). x ++ z) (behind_spaced xs ys)
+    ∙ ap (λ (z : List ℕ). x ++ z) (flat_map-append spaced xs ys)
     ∙ sym (append_assoc x (flat_map spaced xs) (flat_map spaced ys))
     ∙ ap (λ (z : List ℕ). z ++ flat_map spaced ys) (sym (behind_first x xs))
 
@@ -39,13 +36,6 @@ pub has_append : (some : Bool) (xs ys : List (List ℕ)) → has_parts some (xs 
 has_append some [] ys = refl
 has_append some (x ∷ xs) [] = refl
 has_append some (x ∷ xs) (y ∷ ys) = refl
-
-flat_append : {X : Type 0} (f : X → List (List ℕ)) (xs ys : List X) → flat_map f (xs ++ ys) ≡ flat_map f xs ++ flat_map f ys
-flat_append f [] ys = refl
-flat_append f (x ∷ xs) ys = ap (λ (z : List (List ℕ)). f x ++ z) (flat_append f xs ys) ∙ sym (append_assoc (f x) (flat_map f xs) (flat_map f ys))
-
-flat_one : {X : Type 0} (f : X → List (List ℕ)) (x : X) → flat_map f (x ∷ []) ≡ f x
-flat_one f x = append-nil (f x)
 
 -- the parts of these were added, and whether some part stands there now
 pub record AreAdded (pieces : ℕ → List (List ℕ)) (start : List ℕ) (before : Bool) (ids : List ℕ) (now : List ℕ) (after : Bool) : Type 0 where
@@ -60,7 +50,7 @@ module _ (pieces : ℕ → List (List ℕ)) (start : List ℕ) (before : Bool) w
     none false = refl
 
   grown : (ids : List ℕ) (id : ℕ) → flat_map pieces (ids ++ id ∷ []) ≡ flat_map pieces ids ++ pieces id
-  grown ids id = flat_append pieces ids (id ∷ []) ∙ ap (λ (z : List (List ℕ)). flat_map pieces ids ++ z) (flat_one pieces id)
+  grown ids id = flat_map-append pieces ids (id ∷ []) ∙ ap (λ (z : List (List ℕ)). flat_map pieces ids ++ z) (append-nil (pieces id))
 
   grown_text : (ids : List ℕ) (id : ℕ) → behind before (flat_map pieces (ids ++ id ∷ [])) ≡ behind before (flat_map pieces ids) ++ behind (has_parts before (flat_map pieces ids)) (pieces id)
   grown_text ids id = ap (behind before) (grown ids id) ∙ behind_append before (flat_map pieces ids) (pieces id)
@@ -81,7 +71,7 @@ module _ (pieces : ℕ → List (List ℕ)) (start : List ℕ) (before : Bool) w
   added_too_long ids now after id rest h long =
       let next = added_one ids now after id _ _ h refl refl in
       let here = subst IsTooLong next.text long in
-      let whole = ap (behind before) (flat_append pieces (ids ++ id ∷ []) rest) ∙ behind_append before (flat_map pieces (ids ++ id ∷ [])) (flat_map pieces rest) in
+      let whole = ap (behind before) (flat_map-append pieces (ids ++ id ∷ []) rest) ∙ behind_append before (flat_map pieces (ids ++ id ∷ [])) (flat_map pieces rest) in
       subst (λ (z : List ℕ). IsTooLong (start ++ z)) (sym whole) (longer_by start (behind before (flat_map pieces (ids ++ id ∷ []))) (behind (has_parts before (flat_map pieces (ids ++ id ∷ []))) (flat_map pieces rest)) here)
 
   pub added_all : (ids : List ℕ) (i : ℕ) (now : List ℕ) (after : Bool) → AreAdded pieces start before (take i ids) now after → length ids ≤ i → AreAdded pieces start before ids now after
@@ -181,10 +171,10 @@ node_kids prefixes trees t ks ids e =
     let written : kids_in (written_form (node t ks)) ≡ map form ids ++ option_to_list (option_map form (repeated (row_of t) ids)) =
     kids_written t ks ∙ ap (doubled (row_of t)) forms ∙ doubled_is (row_of t) (map form ids) ∙ ap (λ (o : Option Tree). map form ids ++ option_to_list o) (repeated_map form (row_of t) ids) in
     ap (flat_map (parts prefixes t)) written
-    ∙ flat_append (parts prefixes t) (map form ids) (option_to_list (option_map form (repeated (row_of t) ids)))
+    ∙ flat_map-append (parts prefixes t) (map form ids) (option_to_list (option_map form (repeated (row_of t) ids)))
     ∙ ap (λ (z : List (List ℕ)). z ++ flat_map (parts prefixes t) (option_to_list (option_map form (repeated (row_of t) ids)))) (flat_of_map form (parts prefixes t) ids)
     ∙ ap (λ (z : List (List ℕ)). flat_map (parts_at prefixes trees t) ids ++ z) (flat_of_option form (parts prefixes t) (repeated (row_of t) ids))
-    ∙ sym (flat_append (parts_at prefixes trees t) ids (option_to_list (repeated (row_of t) ids)))
+    ∙ sym (flat_map-append (parts_at prefixes trees t) ids (option_to_list (repeated (row_of t) ids)))
 
 parts_list : (prefixes : List Prefix) (t : Tag) (ks : Kids) → parts_of prefixes t ks ≡ flat_map (parts prefixes t) (list_of ks)
 parts_list prefixes t no_kids = refl
@@ -254,10 +244,3 @@ pub around : (ids : List ℕ) (i : ℕ) (id : ℕ) (rest : List ℕ) → i < len
 around [] i id rest l e = absurd (omega arith)
 around (x ∷ xs) zero id rest l e = ap (λ (y : ℕ). y ∷ (xs ++ rest)) e
 around (x ∷ xs) (suc i) id rest l e = ap (λ (ys : List ℕ). x ∷ ys) (around xs i id rest (omega arith) e)
-
-pub taken_one : (ids : List ℕ) (i : ℕ) (id : ℕ) → i < length ids → id ≡ get_or ids i id → take (i + 1) ids ≡ take i ids ++ id ∷ []
-taken_one ids i id l e = ap (λ (n : ℕ). take n ids) (add-one i) ∙ step ids i id l e where
-  step : (xs : List ℕ) (j : ℕ) (x : ℕ) → j < length xs → x ≡ get_or xs j x → take (suc j) xs ≡ take j xs ++ x ∷ []
-  step [] j x l e = absurd (omega arith)
-  step (y ∷ ys) zero x l e = ap (λ (z : ℕ). z ∷ []) (sym e)
-  step (y ∷ ys) (suc j) x l e = ap (λ (zs : List ℕ). y ∷ zs) (step ys j x (omega arith) e)

@@ -50,7 +50,7 @@ use Rattle.fss_write.proofs.Pieces.{Cuts, Says, cuts_space, cuts_token, says_clo
 use Rattle.fss_write.proofs.Stops.{token_longest}
 use Rattle.fss_write.proofs.WrittenForms.{equivalent_written, is_written, written_equivalent, written_tag}
 use Rattle.fss_write.proofs.WrittenIris.{spells_nothing}
-use Rattle.fss_write.proofs.WrittenTables.{HaveIris}
+use Rattle.fss_write.specs.Parts.{HaveIris}
 use Rattle.fss_write.proofs.WrittenTerms.{allows_end, import_word, ontology_word, prefix_word, say_tree}
 
 -- what stands behind a tree stands behind its terms

@@ -1,5 +1,5 @@
 -- Abbreviated IRIs.
-use Rattle.std.proofs.Common.{◌≡◌, ℕ, true, List, [], ◌∷◌, ◌++◌, length, drop, Option, Some, None, sym, ap, ◌∙◌, codes}
+use Rattle.std.proofs.Common.{◌≡◌, ℕ, true, List, [], ◌∷◌, ◌++◌, length, drop, Option, Some, sym, ap, ◌∙◌, codes}
 use Rattle.std.specs.Prelude.{slice_get}
 use lib.Utf8.{scalar}
 use Rattle.std.specs.Cmp.{second_so}

@@ -3,7 +3,7 @@ use Rattle.std.proofs.Common.{◌≡◌, ◌≢◌, inl, inr, ℕ, suc, true, fa
 use Rattle.std.specs.Prelude.{insert, slice_get, unwrap_or}
 use Rattle.std.specs.declared.cmp.Ordering.{Ordering}
 use Rattle.std.specs.declared.cmp.Ordering.TheVariants.{Less, Equal, Greater}
-use Rattle.std.specs.List.{AllByRecursion, list_all}
+use Rattle.std.specs.List.{list_all}
 use Rattle.std.specs.Option.{option_map}
 use Rattle.std.specs.Str.{chars}
 use Rattle.std.proofs.lemmas.Bool.{both_ways, cases_Bool}
@@ -20,6 +20,7 @@ use Rattle.owl_atom.specs.Vocabulary.{owl, rdf, rdfs, xsd}
 use Rattle.owl_atom.proofs.PrefixTables.{IsFound, SetsOnly, absent, below_none, equal, found, insert_at, met, passed, same_names, set_at, stands, turned}
 use Rattle.owl_atom.proofs.Shortening.{contained}
 use Rattle.owl_atom.proofs.Words.{own}
+use Rattle.fss_write.specs.Parts.{HaveIris}
 use Rattle.fss_write.specs.Text.{with_prefix, written_prefixes}
 
 -- each prefix of a table is what its name is looked up to be
@@ -88,9 +89,6 @@ with_prefix_table name iri old named h =
     record { ascending = sets.ascending; names = sets.names h.names named }
 
 -- all IRIs stay IRIs
-abbrev pub HaveIris : List Prefix → Type 0
-HaveIris prefixes = AllByRecursion (λ prefix. IsIri prefix.iri) prefixes
-
 iris_by : (name iri : List ℕ) (p : Prefix) (old : List Prefix) (o : Ordering) → IsIri iri → HaveIris (p ∷ old) → HaveIris (with_prefix name iri old)
     → HaveIris (by_order o (new_prefix name iri ∷ p ∷ old) (record p { iri = iri } ∷ old) (p ∷ with_prefix name iri old))
 iris_by name iri p old Less i h rest = (i, h)

@@ -1,4 +1,4 @@
-use Rattle.std.proofs.Common.{◌≡◌, ap, ◌∙◌}
+use Rattle.std.proofs.Common.{ap, ◌∙◌}
 use Rattle.std.specs.Str.{chars}
 use Rattle.fss_write.proofs.ShortIris.{local_chars}
 use Rattle.fss_write.proofs.atoms.local_part.Goals as goal

@@ -1,6 +1,5 @@
-use Rattle.std.proofs.Common.{◌≡◌, ◌<◌, List, ℕ, length, arith, ap, ◌∙◌, sym, subst}
+use Rattle.std.proofs.Common.{◌≡◌, ◌<◌, List, ℕ, length, arith, ap, ◌∙◌, subst}
 use Rattle.std.specs.Prelude.{slice_get, Some}
-use Rattle.std.specs.Str.{chars}
 use Rattle.owl_atom.specs.declared.prefixes.Prefix.{Prefix}
 use Rattle.owl_atom.specs.Prefixes.{fixed_prefixes}
 use Rattle.fss_write.specs.Text.{with_prefix}

@@ -1,5 +1,5 @@
 use Rattle.std.proofs.Common.{◌≡◌, take}
-use Rattle.owl_atom.specs.Prefixes.{IsTable, fixed_prefixes}
+use Rattle.owl_atom.specs.Prefixes.{fixed_prefixes}
 use Rattle.fss_write.proofs.SetTables.{with_prefixes}
 use Rattle.fss_write.proofs.lines.written_prefixes.Given as goal
 

@@ -1,4 +1,4 @@
-use Rattle.std.proofs.Common.{◌≡◌, Bool, List, ℕ, [], ap, sym, ◌∙◌}
+use Rattle.std.proofs.Common.{Bool, [], ap, sym, ◌∙◌}
 use Rattle.std.specs.Prelude.{if◌then◌else◌}
 use Rattle.std.proofs.lemmas.Str.{chars-nil}
 use Rattle.owl_tree.specs.Tags.{keyword_of}

@@ -1,5 +1,4 @@
-use Rattle.std.proofs.Common.{Err, List, ℕ, [], ◌++◌, ◌≤◌, length, ap, sym, subst, arith}
-use Rattle.std.specs.Str.{encode_utf8_all}
+use Rattle.std.proofs.Common.{Err, List, ℕ, [], ◌++◌, ◌≤◌, ap, sym, subst}
 use Rattle.owl_arena.specs.Held.{Held, tree_at}
 use Rattle.owl_atom.specs.declared.prefixes.Prefix.{Prefix}
 use Rattle.owl_doc.specs.Functional.{longest}

@@ -1,4 +1,4 @@
-use Rattle.std.proofs.Common.{◌≡◌, Err, List, ℕ, [], ◌++◌, ◌≤◌, length, true, ap, sym, subst, ◌∙◌}
+use Rattle.std.proofs.Common.{◌≡◌, Err, List, ℕ, ◌++◌, ◌≤◌, length, ap, sym, subst, ◌∙◌}
 use Rattle.std.specs.Str.{all_scalars, encode_utf8_all}
 use Rattle.owl_atom.specs.declared.prefixes.Prefix.{Prefix}
 use Rattle.owl_atom.specs.Prefixes.{IsTable}

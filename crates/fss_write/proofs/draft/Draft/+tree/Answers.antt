@@ -1,4 +1,4 @@
-use Rattle.std.proofs.Common.{◌≡◌, ◌<◌, ◌++◌, ℕ, List, take, drop, suc, Option, Some, None, Err, Bool, IfOk, OnOk, IsErrOf, arith, sym, ap, ◌∙◌, subst, refl}
+use Rattle.std.proofs.Common.{◌≡◌, ◌<◌, ◌++◌, ℕ, List, take, drop, suc, Option, Err, IfOk, OnOk, IsErrOf, arith, sym, ap, ◌∙◌, subst}
 use Rattle.std.specs.Prelude.{[], ◌∷◌}
 use Rattle.std.specs.List.{flat_map}
 use Rattle.std.specs.Option.{option_to_list}
@@ -9,8 +9,8 @@ use Rattle.owl_tree.specs.Rows.{row_of}
 use Rattle.fss_write.specs.Text.{leaf_text}
 use Rattle.fss_write.specs.declared.fault.WriteFault.TheVariants.{TooLong}
 use Rattle.fss_write.specs.Parts.{IsTooLong, behind, has_parts, kids_parts_at, parts_at, repeated, spacing}
-use Rattle.fss_write.proofs.Joins.{joined2, passed_on}
-use Rattle.fss_write.proofs.PartTexts.{AreAdded, added_all, added_one, added_too_long, around, kids_at, last_some, last_text, last_too_long, leaf_parts, one_behind, other_parts, repeated_kept, taken_one}
+use Rattle.fss_write.proofs.Joins.{joined2, passed_on, taken_one}
+use Rattle.fss_write.proofs.PartTexts.{AreAdded, added_all, added_one, added_too_long, around, kids_at, last_some, last_text, last_too_long, leaf_parts, one_behind, other_parts, repeated_kept}
 use Rattle.fss_write.proofs.draft.Draft.+tree.Goals as goal
 
 pub add_kids-returns-in_err-after_part-clause-too_long : goal.add_kids-returns-in_err-after_part-clause-too_long

@@ -1,4 +1,4 @@
-use Rattle.std.proofs.Common.{◌≡◌, ◌++◌, List, ℕ, ap, ◌∙◌, OnOk, IsErrOf, subst}
+use Rattle.std.proofs.Common.{◌≡◌, ◌++◌, List, ℕ, OnOk, IsErrOf, subst}
 use Rattle.fss_write.proofs.Sizes.{ascii_chars}
 use Rattle.fss_write.specs.Parts.{IsTooLong}
 use Rattle.fss_write.specs.declared.fault.WriteFault.TheVariants.{TooLong}

@@ -1,4 +1,4 @@
-use Rattle.std.proofs.Common.{◌≡◌, ◌<◌, ◌++◌, Err, List, ℕ, length, arith, ap, subst, sym, ◌∙◌, codes}
+use Rattle.std.proofs.Common.{◌≡◌, ◌<◌, ◌++◌, Err, List, ℕ, length, arith, ap, subst, ◌∙◌, codes}
 use Rattle.std.specs.Str.{chars}
 use Rattle.owl_text.specs.Iri.{IsIri}
 use Rattle.owl_atom.specs.declared.prefixes.Prefix.{Prefix}
