@@ -1,62 +1,60 @@
 #!/usr/bin/env bash
-# Times the translation of a large class hierarchy, and cat of the same file:
-# bench/run.sh [RUNS], the best of so many runs of each, 5 if left out.
+# Times the translation of ontologies of two sizes, and tells the most memory
+# that it takes: bench/run.sh [SIZE], with SIZE classes and then twice as many,
+# 1000 if left out. An ontology has as many declarations, and for each class but
+# one a subclass axiom with a class and one with an expression.
 #
-# The program itself is timed, and not the script that may build it first.
+# The program itself is measured, and not the script that may build it first.
+# This wants GNU time.
 set -euo pipefail
 
-runs=${1:-5}
-classes=100000
+size=${1:-1000}
 top=$(dirname -- "$(dirname -- "$(readlink -f -- "${BASH_SOURCE[0]}")")")
 room=$(mktemp -d)
 trap 'rm -rf -- "$room"' EXIT
-document=$room/classes.ofn
 
-# A binary tree of classes below owl:Thing.
-awk -v classes="$classes" 'BEGIN {
-    class = "http://example.org/bench#C"
-    print "Ontology(<http://example.org/bench>"
-    for (i = 1; i <= classes; i++) {
-        printf "Declaration(Class(<%s%d>))\n", class, i
-    }
-    print "SubClassOf(<" class "1> <http://www.w3.org/2002/07/owl#Thing>)"
-    for (i = 2; i <= classes; i++) {
-        printf "SubClassOf(<%s%d> <%s%d>)\n", class, i, class, int(i / 2)
-    }
-    print ")"
-}' >"$document"
-bytes=$(wc -c <"$document")
-
-# Builds the program, and shows that it can translate the document.
-status=0
-"$top/owl" translate --to fss "$document" >"$room/out" 2>"$room/note" || status=$?
-if ((status != 0)); then
-    echo "bench: owl ended with status $status:" >&2
-    tail -n 5 "$room/note" >&2
-    exit 1
-fi
-
-# The least number of microseconds that the command took.
-best() {
-    local least='' start took
-    for ((run = 0; run < runs; run++)); do
-        start=${EPOCHREALTIME/[.,]/}
-        "$@" >"$room/out" 2>"$room/note"
-        took=$((${EPOCHREALTIME/[.,]/} - start))
-        if [[ -z $least ]] || ((took < least)); then
-            least=$took
-        fi
-    done
-    echo "$least"
+ontology() {
+    awk -v classes="$1" 'BEGIN {
+        print "Prefix(:=<http://example.org/bench#>)"
+        print "Ontology(<http://example.org/bench>"
+        print "Declaration(ObjectProperty(:p))"
+        for (i = 0; i < classes; i++) {
+            printf "Declaration(Class(:C%d))\n", i
+        }
+        for (i = 1; i < classes; i++) {
+            printf "SubClassOf(:C%d :C%d)\n", i, i - 1
+            printf "SubClassOf(:C%d ObjectSomeValuesFrom(:p :C%d))\n", i, i - 1
+        }
+        print ")"
+    }'
 }
 
-owl=$(best "$top/out/owl" translate --to fss "$document")
-cat=$(best cat "$document")
+# Seconds and kilobytes, by GNU time, of the translation of a document.
+measure() {
+    local status=0
+    /usr/bin/time -v -o "$room/time" \
+        "$top/out/owl" translate --to fss "$1" >"$room/out" 2>"$room/note" || status=$?
+    if ((status != 0)); then
+        echo "bench: owl ended with status $status: $(tail -n 1 "$room/note")" >&2
+        exit 1
+    fi
+    awk -F': ' '
+        /Elapsed/ { n = split($NF, part, ":"); for (i = 1; i <= n; i++) seconds = seconds * 60 + part[i] }
+        /Maximum resident/ { kilobytes = $NF }
+        END { print seconds, kilobytes }' "$room/time"
+}
 
-awk -v bytes="$bytes" -v classes="$classes" -v owl="$owl" -v cat="$cat" -v runs="$runs" 'BEGIN {
-    printf "document    %d bytes, %d axioms\n", bytes, 2 * classes
-    printf "owl         %.3f s, best of %d\n", owl / 1e6, runs
-    printf "cat         %.3f s, best of %d\n", cat / 1e6, runs
-    printf "owl / cat   %.1f\n", owl / cat
-    printf "owl         %.0f bytes a second\n", bytes / (owl / 1e6)
-}'
+# Builds the program.
+"$top/owl" >"$room/out" 2>"$room/note" || true
+[[ -x $top/out/owl ]] || { cat "$room/note" >&2; exit 1; }
+
+for classes in "$size" $((2 * size)); do
+    ontology "$classes" >"$room/$classes.ofn"
+    read -r seconds kilobytes < <(measure "$room/$classes.ofn")
+    printf '%6d classes  %8d bytes  %7.2f s  %7d kB\n' \
+        "$classes" "$(wc -c <"$room/$classes.ofn")" "$seconds" "$kilobytes"
+    times+=("$seconds")
+    peaks+=("$kilobytes")
+done
+awk -v a="${times[0]}" -v b="${times[1]}" -v x="${peaks[0]}" -v y="${peaks[1]}" \
+    'BEGIN { printf "growth          time %.1f times, memory %.1f times\n", b / (a > 0 ? a : 0.01), y / x }'
