@@ -8,3 +8,7 @@ pub mod OneWay
 pub mod LongestNames
 pub mod LongestTokens
 pub mod Utf8Bytes
+pub mod Moving
+pub mod Answering
+pub mod InIris
+pub mod InTags

@@ -1,9 +1,14 @@
 //! Texts as lists of characters, and the tokens of Functional-Style Syntax.
 #![tactic(auto)]
 
+mod begin;
 mod fault;
+mod in_iri;
+mod in_tag;
 mod laws;
 mod lexer;
+mod marks;
+mod mode;
 mod names;
 mod text;
 mod token;
