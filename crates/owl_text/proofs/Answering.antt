@@ -1,5 +1,6 @@
 -- What steps answer.
 use Rattle.std.proofs.Common.{Result, Ok, Err, IfOk, IfErr, ◌≡◌, ◌≢◌, ℕ, ◌+◌, true, false, Option, Some, List, [], ◌∷◌, ◌++◌, length, refl, sym, ap, ◌∙◌, subst, arith}
+use Rattle.std.specs.Result.{IsErr, IsErrAnd}
 use Rattle.std.specs.Prelude.{◌==◌}
 use Rattle.std.specs.Char.{encode_utf8, len_utf8, is_ascii_digit}
 use Rattle.std.specs.Str.{encode_utf8_all}
@@ -54,6 +55,14 @@ ends_token t s at h c before after place e k l n added =
 
 pub memory_answer : (old : Seen) (c : ℕ) (before : List Placed) (fault : LexFault) → fault ≡ Memory → Answers old c before before (Err fault)
 memory_answer old c before fault e = (starts_none old c before, λ n. absurd (n e))
+
+-- what a `?` answers where memory runs out
+pub memory_err : (old : Seen) (c : ℕ) (before : List Placed) (r : Result State LexFault) → IsErr r × IsErrAnd r (λ e. e ≡ Memory) → Answers old c before before r
+memory_err old c before (Ok state) h = absurd h.1
+memory_err old c before (Err fault) h = memory_answer old c before fault h.1
+
+pub memory_kept : (old : Seen) (c : ℕ) (before after : List Placed) (r : Result State LexFault) → after ≡ before → IsErr r × IsErrAnd r (λ e. e ≡ Memory) → Answers old c before after r
+memory_kept old c before after r e h = subst (λ (x : List Placed). Answers old c before x r) (sym e) (memory_err old c before r h)
 
 pub fails_answer : (old : Seen) (c : ℕ) (before after : List Placed) (fault : LexFault) → Fails old c before after fault → Answers old c before after (Err fault)
 fails_answer old c before after fault f = (fails_starts old c before after fault f, λ n. f)

@@ -12,3 +12,5 @@ pub mod Moving
 pub mod Answering
 pub mod InIris
 pub mod InTags
+pub mod InWords
+pub mod InNames

@@ -270,7 +270,7 @@ start_of_part c h = elim (or_cases (is_start c || is_ascii_digit c) (is_colon c)
   | inr x ↦ or_right (is_part c) (is_among (codes ".:") c) (or_right (46 == c) (is_colon c) x)
 ]
 
-no_escape : (c : ℕ) (cs : List ℕ) → is_among (codes "%\\") c ≡ false → escape_begins c cs ≡ false
+pub no_escape : (c : ℕ) (cs : List ℕ) → is_among (codes "%\\") c ≡ false → escape_begins c cs ≡ false
 no_escape c cs h =
     let parts = or_parts (37 == c) (is_among (codes "\\") c) h in
     or_from (is_among (codes "%") c && two_hex cs) (is_among (codes "\\") c && begins_with is_escapable cs) (and_left (is_among (codes "%") c) (two_hex cs) (not_among 37 c parts.0)) (and_left (is_among (codes "\\") c) (begins_with is_escapable cs) parts.1)

@@ -3,7 +3,7 @@ use Rattle.std.specs.Prelude.{◌≡◌, ◌≢◌, Result, Ok, Err, ℕ, ◌+�
 use Rattle.std.specs.Char.{IsScalar, len_utf8, is_ascii_alphabetic, is_ascii_alphanumeric, is_ascii_digit, is_ascii_hexdigit}
 use Rattle.std.specs.Str.{all_scalars}
 use Rattle.owl_text.specs.Iri.{AllAre, IsIri, IsScheme, is_among}
-use Rattle.owl_text.specs.Names.{IsLabel, IsNameFrom, IsPrefixName, IsRunOf, SpellsLocal, is_base, is_start}
+use Rattle.owl_text.specs.Names.{IsLabel, IsNameFrom, IsPrefixName, IsRunOf, SpellsLocal, is_base, is_local_inner, is_local_start, is_start}
 use Rattle.owl_text.specs.Utf8.{size}
 use Rattle.owl_text.specs.Tokens.{IsLongest, Spells, SplitsFrom, Stops, behind_mark, character_spelling, mark_size}
 use Rattle.owl_text.specs.Lexing.{AreTokens}
@@ -101,6 +101,11 @@ abbrev pub IsNameSoFar : NameSoFar → List ℕ → Type 0
 IsNameSoFar name dots =
     IsPrefixName name.prefix × SpellsLocal name.written name.local × AllAre is_dot dots × (0 < length dots → 0 < length name.written)
 
+-- a local part goes on with this character, which stands for itself
+abbrev pub takes_plain : List ℕ → ℕ → Bool
+takes_plain [] c = is_local_start c
+takes_plain (w ∷ written) c = is_local_inner c
+
 -- what a begun token holds
 abbrev pub IsWell : Mode → Type 0
 IsWell Fresh = Unit {0}
@@ -196,10 +201,17 @@ pub record LastsTo (old : Seen) (before after : List Placed) (fault : LexFault) 
   pub ends : (tail : List ℕ) → Comes old [] tail given (Some fault)
   pub tokens : AreTokens given
 
--- what the end answers: where memory runs out, it adds nothing
+-- Some of the last tokens were added to a list.
+pub record LastsSome (old : Seen) (before after : List Placed) : Type 0 where
+  pub given : List Placed
+  pub added : after ≡ before ++ given
+  pub next : (tail : List ℕ) (tokens : List Placed) (ending : Option LexFault) → Comes old [] tail tokens ending → (rest : List Placed) × (tokens ≡ given ++ rest)
+  pub tokens : AreTokens given
+
+-- what the end answers
 abbrev pub LastAnswers : Seen → List Placed → List Placed → Result (Unit {0}) LexFault → Type 0
 LastAnswers old before after (Ok done) = Lasts old before after
-LastAnswers old before after (Err fault) = (fault ≡ Memory → after ≡ before) × (fault ≢ Memory → LastsTo old before after fault)
+LastAnswers old before after (Err fault) = LastsSome old before after × (fault ≢ Memory → LastsTo old before after fault)
 
 -- The token is the longest before this character.
 pub record StandsBefore (token : Token) (spelling : List ℕ) (at c place : ℕ) : Type 0 where

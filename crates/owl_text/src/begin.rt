@@ -16,7 +16,8 @@ use crate::text::Text;
 use crate::token::{Placed, Token};
 use std::alloc::{AllocError, Global};
 
-fn give(into: &mut Vec<Placed>, token: Token, at: u64) -> Result<(), AllocError>
+/// Adds a token that begins at this byte.
+pub fn give(into: &mut Vec<Placed>, token: Token, at: u64) -> Result<(), AllocError>
     ensures ok { OnOk result (into.new.items ≡ into.old.items ++ record { token = token; at = at } ∷ []) }
     ensures err { OnErr result (into.new.items ≡ into.old.items) }
 {

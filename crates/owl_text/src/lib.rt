@@ -4,12 +4,16 @@
 mod begin;
 mod fault;
 mod in_iri;
+mod in_name;
 mod in_tag;
+mod in_word;
+mod last;
 mod laws;
 mod lexer;
 mod marks;
 mod mode;
 mod names;
+mod state;
 mod text;
 mod token;
 mod utf8;
