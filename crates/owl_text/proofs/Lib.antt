@@ -14,3 +14,6 @@ pub mod InIris
 pub mod InTags
 pub mod InWords
 pub mod InNames
+pub mod Lasting
+pub mod Endings
+pub mod Decoding

@@ -103,7 +103,7 @@ unfinished_is_none bytes u d r s e =
     nothing [] s e = ap (λ (x : List ℕ). length x) (sym e)
     nothing (x ∷ r) s e = cc
 
-high_scalar : (c : ℕ) → 57344 ≤ c → c < 1114112 → IsScalar c
+pub high_scalar : (c : ℕ) → 57344 ≤ c → c < 1114112 → IsScalar c
 high_scalar c l h = cond-false (nat_lt c 55296) true (nat_le 57344 c && nat_lt c 1114112) (le-ltb c 55296 (omega arith)) ∙ and_from (nat_le 57344 c) (nat_lt c 1114112) (le-leb 57344 c l) (lt-ltb c 1114112 h)
 
 -- without its last byte, a character or a front of it is unfinished

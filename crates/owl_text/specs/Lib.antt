@@ -7,3 +7,4 @@ pub mod Tokens
 pub mod Lexing
 pub mod Feeding
 pub mod States
+pub mod Readiness

@@ -119,7 +119,8 @@ pub fn last(
             let end = place - 1 - bytes_of(&dots);
             Err(name_last(name, at, end, into))
         }
-        Mode::InHex(name, dots, _) => {
+        Mode::InHex(name, dots, digit) => {
+            let _ = digit;
             let end = place - 2 - bytes_of(&dots);
             Err(name_last(name, at, end, into))
         }

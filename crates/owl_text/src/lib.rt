@@ -2,6 +2,7 @@
 #![tactic(auto)]
 
 mod begin;
+mod bytes;
 mod fault;
 mod in_iri;
 mod in_name;

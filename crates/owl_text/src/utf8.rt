@@ -68,6 +68,13 @@ impl Utf8Feed {
         }
     }
 
+    /// The place of the character that is begun.
+    pub fn place(&self) -> u64
+        ensures { result ≡ self.now.at }
+    {
+        self.at
+    }
+
     /// Whether the bytes are whole characters.
     pub fn finish(&self) -> Result<(), BadUtf8>
         ensures ok { OnOk result ((self.now.held ≡ []) × (self.now.bad ≡ false)) }
