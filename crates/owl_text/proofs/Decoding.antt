@@ -94,6 +94,17 @@ decide (a ∷ rest) = elim (cases_lt a 128) [
   ]
 ]
 
+empty_none : (c : ℕ) (rest : List ℕ) → [] ≡ encode_utf8 c ++ rest → ⊥
+empty_none c rest e =
+    let n = length-encode c in
+    let b = len_utf8_bounds c in
+    let b0 = b.0 in
+    let l : 0 ≡ length (encode_utf8 c) + length rest = ap (λ (x : List ℕ). length x) e ∙ length-append (encode_utf8 c) rest in
+    omega arith
+
+pub no_bytes : BeginsNoCharacter []
+no_bytes c rest s e = empty_none c rest e
+
 -- any bytes
 pub record IsDecoded (bytes : List ℕ) : Type 0 where
   pub characters : List ℕ
@@ -102,13 +113,7 @@ pub record IsDecoded (bytes : List ℕ) : Type 0 where
 
 decode_all : (n : ℕ) (bytes : List ℕ) → length bytes ≤ n → IsDecoded bytes
 unfolding Decided
-decode_all zero [] h = record { characters = []; tail = []; decodes = record { parts = refl; scalars = refl; stops = none } }
-  where
-    none : BeginsNoCharacter []
-    none = elim (decide []) [ inl x ↦ x | inr x ↦ λ c rest s e. empty x.character x.rest x.is ]
-      where
-        empty : (c : ℕ) (rest : List ℕ) → [] ≡ encode_utf8 c ++ rest → ⊥
-        empty c rest e = let n = length-encode c in let b = len_utf8_bounds c in let b0 = b.0 in let l : 0 ≡ length (encode_utf8 c) + length rest = ap (λ (x : List ℕ). length x) e ∙ length-append (encode_utf8 c) rest in omega arith
+decode_all zero [] h = record { characters = []; tail = []; decodes = record { parts = refl; scalars = refl; stops = no_bytes } }
 decode_all zero (a ∷ bytes) h = absurd (omega arith)
 decode_all (suc n) bytes h = elim (decide bytes) [
   | inl x ↦ record { characters = []; tail = bytes; decodes = record { parts = refl; scalars = refl; stops = x } }

@@ -17,3 +17,4 @@ pub mod InNames
 pub mod Lasting
 pub mod Endings
 pub mod Decoding
+pub mod Taking
