@@ -18,3 +18,4 @@ pub mod Lasting
 pub mod Endings
 pub mod Decoding
 pub mod Taking
+pub mod Feeds

@@ -1,5 +1,5 @@
 -- What one more byte makes of what is begun.
-use Rattle.std.proofs.Common.{Result, Ok, Err, IfOk, IfErr, OnOk, ◌≡◌, ◌≢◌, ℕ, ◌+◌, ◌<◌, ◌≤◌, Bool, true, false, Option, Some, None, List, [], ◌∷◌, ◌++◌, length, refl, sym, ap, ◌∙◌, subst, arith}
+use Rattle.std.proofs.Common.{Result, Ok, Err, IfOk, IfErr, OnOk, ◌≡◌, ◌≢◌, ◌⊎◌, inl, inr, ℕ, ◌+◌, ◌<◌, ◌≤◌, Bool, true, false, Option, Some, None, List, [], ◌∷◌, ◌++◌, length, refl, sym, ap, ◌∙◌, subst, arith}
 use Rattle.std.specs.Char.{IsScalar, encode_utf8, len_utf8}
 use Rattle.std.specs.Str.{all_scalars, encode_utf8_all}
 use Rattle.std.specs.List.{AllByRecursion}
@@ -280,3 +280,18 @@ ends_badly old bytes before after fault r n a = record {
   bad = λ x. let l = a.1 x in record { given = l.given; added = l.added; continues = last_cut (seen old) bytes.held l.given (Some fault) r.scalars n (l.ends bytes.held) };
   tokens = more_tokens before a.0.given after a.0.added a.0.tokens;
 }
+
+pub whole_finishes : (old : State) (bytes : Feeding) (before after : List Placed) (r : Result (Unit {0}) LexFault) → IsReady old bytes → bytes.held ≡ [] → LastAnswers (seen old) before after r → OnOk r (Finishes (begun_of old bytes) before after)
+whole_finishes old bytes before after (Ok x) r e a = ends_well old bytes before after r e a
+whole_finishes old bytes before after (Err fault) r e a = tt
+
+pub whole_fails : (old : State) (bytes : Feeding) (before after : List Placed) (r : Result (Unit {0}) LexFault) → IsReady old bytes → bytes.held ≡ [] → LastAnswers (seen old) before after r → IfErr r (λ fault. FinishesBadly (begun_of old bytes) before after fault)
+whole_fails old bytes before after (Ok x) r e a = tt
+whole_fails old bytes before after (Err fault) r e a = ends_badly old bytes before after fault r (subst BeginsNoCharacter (sym e) no_bytes) a
+
+pub unfinished_of : (bytes : Feeding) → bytes.bad ≡ false → (bytes.bad ≡ true) ⊎ (IsUnfinished bytes.held × (0 < length bytes.held)) → IsUnfinished bytes.held × (0 < length bytes.held)
+unfinished_of bytes h (inl k) = let e : true ≡ false = sym k ∙ h in cc
+unfinished_of bytes h (inr k) = k
+
+pub not_empty : (us : List ℕ) → 0 < length us → us ≡ [] → ⊥
+not_empty us h e = let z : length us ≡ 0 = ap (λ (x : List ℕ). length x) e in omega arith

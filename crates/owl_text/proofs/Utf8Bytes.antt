@@ -157,3 +157,9 @@ held_unfinished Nothing n h = absurd (n refl)
 held_unfinished (One a) n h = begun_unfinished (a ∷ []) h (omega arith)
 held_unfinished (Two a b) n h = begun_unfinished (a ∷ b ∷ []) h (omega arith)
 held_unfinished (Three a b c) n h = begun_unfinished (a ∷ b ∷ c ∷ []) h (omega arith)
+
+pub held_some : (p : Partial) → p ≢ Nothing → 0 < length (held_of p)
+held_some Nothing n = absurd (n refl)
+held_some (One a) n = omega arith
+held_some (Two a b) n = omega arith
+held_some (Three a b c) n = omega arith

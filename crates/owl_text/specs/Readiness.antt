@@ -2,7 +2,7 @@
 use Rattle.std.specs.Prelude.{◌≡◌, ◌≢◌, ℕ, ◌+◌, ◌≤◌, true, false, Result, Ok, Err, List, [], ◌∷◌, ◌++◌, length, Option, Some, None}
 use Rattle.std.specs.Str.{all_scalars, encode_utf8_all}
 use Rattle.owl_text.specs.Feeding.{Feeding}
-use Rattle.owl_text.specs.Lexing.{Adds, AddsLast, AddsSome, AddsSomeLast, AreTokens, Begun, EndsAt}
+use Rattle.owl_text.specs.Lexing.{Adds, AddsLast, AddsSome, AddsSomeLast, AreTokens, Begun, EndsAt, Lexing}
 use Rattle.owl_text.specs.States.{IsWell, held_of, is_fresh, next_of}
 use Rattle.owl_text.specs.declared.fault.LexFault.{LexFault}
 use Rattle.owl_text.specs.declared.fault.LexFault.TheVariants.{Memory}
@@ -29,6 +29,13 @@ pub record Takes (old : State) (bytes : Feeding) (byte : ℕ) (before after : Li
   pub tokens : AreTokens before → AreTokens after
   pub few : length after + length (begun_of new fed).held ≤ length before + length (begun_of old bytes).held + 1
   pub count : fed_of fed ≡ fed_of bytes + 1
+
+pub record Pushes (old : Lexing) (byte : ℕ) (before after : List Placed) (new : Lexing) : Type 0 where
+  pub adds : Adds old.begun (byte ∷ []) before after new.begun
+  pub tokens : AreTokens before → AreTokens after
+  pub few : length after + length new.begun.held ≤ length before + length old.begun.held + 1
+  pub count : new.fed ≡ old.fed + 1
+  pub open_yet : new.refused ≡ None
 
 -- a byte was refused, or memory ran out
 pub record Refuses (begun : Begun) (byte : ℕ) (before after : List Placed) (fault : LexFault) : Type 0 where

@@ -47,9 +47,11 @@ pub fn end(
     ensures err { IfErr result (λ fault. FinishesBadly (begun_of state bytes.now) into.old.items into.new.items fault) }
 {
     let place = bytes.place();
-    last(alloc, state, place, into)?;
     match bytes.finish() {
-        Ok(()) => Ok(()),
-        Err(bad) => Err(LexFault::BadUtf8 { at: bad.at }),
+        Ok(()) => last(alloc, state, place, into),
+        Err(bad) => match last(alloc, state, place, into) {
+            Ok(()) => Err(LexFault::BadUtf8 { at: bad.at }),
+            Err(fault) => Err(fault),
+        },
     }
 }

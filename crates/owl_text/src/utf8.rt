@@ -78,7 +78,7 @@ impl Utf8Feed {
     /// Whether the bytes are whole characters.
     pub fn finish(&self) -> Result<(), BadUtf8>
         ensures ok { OnOk result ((self.now.held ≡ []) × (self.now.bad ≡ false)) }
-        ensures err { IfErr result (λ e. (e.at ≡ self.now.at) × ((self.now.bad ≡ true) ⊎ IsUnfinished self.now.held)) }
+        ensures err { IfErr result (λ e. (e.at ≡ self.now.at) × ((self.now.bad ≡ true) ⊎ (IsUnfinished self.now.held × (0 < length self.now.held)))) }
     {
         if self.bad {
             return Err(BadUtf8 { at: self.at });
