@@ -1,15 +1,15 @@
 -- Any bytes are characters, and then a tail that begins none.
-use Rattle.std.proofs.Common.{◌≡◌, ◌≢◌, ◌⊎◌, inl, inr, ℕ, ◌+◌, ◌-◌, ◌*◌, ◌<◌, ◌≤◌, Bool, true, false, List, [], ◌∷◌, ◌++◌, length, refl, sym, ap, ◌∙◌, subst, arith, suc, zero}
-use Rattle.std.specs.Char.{IsScalar, encode_utf8, len_utf8}
+use Rattle.std.proofs.Common.{◌≡◌, ◌⊎◌, inl, inr, ℕ, ◌+◌, ◌-◌, ◌*◌, ◌<◌, ◌≤◌, true, List, [], ◌∷◌, ◌++◌, length, refl, sym, ap, ◌∙◌, arith, suc, zero}
+use Rattle.std.specs.Char.{IsScalar, encode_utf8}
 use Rattle.std.specs.Str.{all_scalars, encode_utf8_all}
 use Rattle.std.proofs.lemmas.Bool.{cases_lt, and_from}
-use Rattle.std.proofs.lemmas.List.{append_assoc, append-nil, length-append}
+use Rattle.std.proofs.lemmas.List.{append_assoc, length-append}
 use Rattle.std.proofs.lemmas.Str.{len_utf8_bounds, length-encode, encode_ascii, encode_same}
 use Rattle.std.proofs.Math.Utf8.{low_scalar}
 use Rattle.owl_text.specs.Utf8.{BeginsNoCharacter, Decodes}
-use Rattle.owl_text.specs.Feeding.{BeginsNone, IsLead, IsBegun, IsUnfinished, least_second, last_second}
+use Rattle.owl_text.specs.Feeding.{IsLead, least_second, last_second}
 use Rattle.owl_text.proofs.OneWay.{head_scalar, tail_scalars}
-use Rattle.owl_text.proofs.Utf8Bytes.{least_bounds, last_bound, second_bounds, one_wrong, two_wrong, three_wrong, four_wrong, two_whole, three_whole, four_whole, unfinished_is_none, begun_unfinished, high_scalar, SecondBounds}
+use Rattle.owl_text.proofs.Utf8Bytes.{second_bounds, one_wrong, two_wrong, three_wrong, four_wrong, two_whole, three_whole, four_whole, unfinished_is_none, begun_unfinished, high_scalar, SecondBounds}
 
 -- a character stands first, or none does
 pub record StandsHere (bytes : List ℕ) : Type 0 where

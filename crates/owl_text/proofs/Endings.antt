@@ -1,24 +1,22 @@
 -- What the end makes of each token that is begun.
-use Rattle.std.proofs.Common.{Result, Ok, Err, OnOk, IfErr, ◌≡◌, ◌≢◌, ◌⊎◌, inl, inr, ℕ, ◌+◌, ◌-◌, ◌<◌, ◌≤◌, Bool, true, false, List, [], ◌∷◌, ◌++◌, length, refl, sym, ap, ◌∙◌, subst, arith}
-use Rattle.std.specs.Prelude.{◌==◌}
+use Rattle.std.proofs.Common.{Result, Ok, Err, OnOk, IfErr, ◌≡◌, ◌⊎◌, inl, inr, ℕ, ◌+◌, ◌-◌, ◌<◌, ◌≤◌, Bool, true, false, List, [], ◌∷◌, ◌++◌, refl, sym, ap, ◌∙◌, subst, arith}
 use Rattle.std.specs.Result.{IsErr, IsErrAnd}
 use Rattle.std.specs.Char.{is_ascii_alphabetic, is_ascii_digit, is_ascii_hexdigit}
-use Rattle.std.proofs.lemmas.List.{append_assoc, append-nil}
-use Rattle.owl_text.specs.Iri.{AllAre, IsIri, IsScheme, is_iri_character, is_scheme_character}
-use Rattle.owl_text.specs.Names.{IsNameFrom, IsLabel, IsRunOf, is_start, is_label_start}
+use Rattle.std.proofs.lemmas.List.{append-nil}
+use Rattle.owl_text.specs.Iri.{IsIri, IsScheme, is_iri_character, is_scheme_character}
+use Rattle.owl_text.specs.Names.{IsRunOf, is_label_start}
 use Rattle.owl_text.specs.Utf8.{size}
 use Rattle.owl_text.specs.Tokens.{IsLongest, Spells}
-use Rattle.owl_text.specs.States.{Seen, LastAnswers, Lasts, LastsTo, LastsSome, GivesLast, IsWell, IsTagBefore, IsNameSoFar, name_held, tag_fits, seen, next_of, begins_with, held_of, is_dot}
+use Rattle.owl_text.specs.States.{Seen, LastAnswers, GivesLast, IsWell, IsTagBefore, IsNameSoFar, name_held, tag_fits, seen, next_of, begins_with}
 use Rattle.owl_text.specs.declared.fault.LexFault.{LexFault}
-use Rattle.owl_text.specs.declared.fault.LexFault.TheVariants.{BadToken, BadUtf8, Memory}
-use Rattle.owl_text.specs.declared.token.Token.{Token}
+use Rattle.owl_text.specs.declared.fault.LexFault.TheVariants.{BadToken, Memory}
 use Rattle.owl_text.specs.declared.token.Token.TheVariants.{At, Blank, Int, Name, Word}
 use Rattle.owl_text.specs.declared.token.Placed.{Placed}
 use Rattle.owl_text.specs.declared.mode.Mode.{Mode}
-use Rattle.owl_text.specs.declared.mode.Mode.TheVariants.{Fresh, Between, Comment, Opened, InScheme, InIri, InStr, InEscape, Caret, InDigits, AtSign, InTag, InSubtag, Hyphen, InWord, BlankStart, InLabel, InName, InPercent, InHex, InNameEscape}
+use Rattle.owl_text.specs.declared.mode.Mode.TheVariants.{InWord, InLabel}
 use Rattle.owl_text.specs.declared.mode.NameSoFar.{NameSoFar}
-use Rattle.owl_text.proofs.LongestNames.{word_is_longest, WordStops, name_goes_on}
-use Rattle.owl_text.proofs.LongestTokens.{int_longest, tag_is_longest, tag_from_fits, word_longest, blank_longest, name_longest, tag_longest, iri_characters}
+use Rattle.owl_text.proofs.LongestNames.{word_is_longest, name_goes_on}
+use Rattle.owl_text.proofs.LongestTokens.{int_longest, tag_from_fits, word_longest, name_longest, tag_longest, iri_characters}
 use Rattle.owl_text.proofs.Schemes.{scheme_characters}
 use Rattle.owl_text.proofs.Moving.{size-append, placed, holding, BeginsNothing}
 use Rattle.owl_text.proofs.Answering.{now_at, nothing_at}

@@ -1,8 +1,13 @@
 -- Bytes behind bytes that were taken.
-use Rattle.std.proofs.Common.{◌≡◌, ◌≢◌, ℕ, ◌+◌, ◌<◌, Option, Some, List, [], ◌∷◌, ◌++◌, length, get_or, drop, take, suc, refl, sym, ap, ◌∙◌, subst}
-use Rattle.std.proofs.lemmas.List.{append_assoc, append-nil, take-append-drop}
+use Rattle.std.proofs.Common.{◌≡◌, ℕ, ◌<◌, false, arith, Option, None, Some, List, [], ◌∷◌, ◌++◌, length, get_or, drop, take, suc, sym, ap, ◌∙◌, subst}
+use Rattle.std.proofs.lemmas.List.{append_assoc, take-append-drop}
 use Rattle.std.proofs.Math.Seq.{drop-cons}
-use Rattle.owl_text.specs.Lexing.{Adds, AddsSome, Begun, Continues, EndsAt, Gives}
+use Rattle.owl_text.specs.Feeding.{Feeding}
+use Rattle.owl_text.specs.Lexing.{Adds, AddsSome, Begun, Continues, EndsAt, Gives, Lexing}
+use Rattle.owl_text.specs.Readiness.{begun_of, fed_of}
+use Rattle.owl_text.specs.declared.mode.Mode.TheVariants.{Between}
+use Rattle.owl_text.specs.declared.mode.State.{State}
+use Rattle.owl_text.proofs.Answering.{now_at}
 use Rattle.owl_text.specs.declared.fault.LexFault.{LexFault}
 use Rattle.owl_text.specs.declared.token.Placed.{Placed}
 
@@ -52,3 +57,12 @@ some_of_piece a b piece i before mid after below g h = subst (λ (x : List ℕ).
 
 pub ends_in_piece : (a b : Begun) (piece : List ℕ) (i : ℕ) (before mid after : List Placed) (fault : LexFault) → i < length piece → Adds a (take i piece) before mid b → EndsAt b (get_or piece i 0 ∷ []) mid after fault → EndsAt a piece before after fault
 ends_in_piece a b piece i before mid after fault below g h = subst (λ (x : List ℕ). EndsAt a x before after fault) (whole_piece piece i below) (ends_behind a b (take i piece) (get_or piece i 0 ∷ []) (drop (suc i) piece) before mid after fault g h)
+
+-- a lexer that begins afresh
+pub afresh : (state : State) (bytes : Feeding) (refused : Option LexFault) → state ≡ now_at Between bytes.at → bytes.held ≡ [] → refused ≡ None → (let l : Lexing = record { begun = begun_of state bytes; fed = fed_of bytes; refused = refused } in l) ≡ (let l : Lexing = record { begun = record { at = fed_of bytes; held = []; fresh = false }; fed = fed_of bytes; refused = None } in l)
+afresh state bytes refused e h r =
+    let same : begun_of state bytes ≡ begun_of (now_at Between bytes.at) bytes = ap (λ (s : State). begun_of s bytes) e in
+    let here : bytes.at ≡ fed_of bytes = omega (arith, ap (λ (x : List ℕ). length x) h) in
+    let then : begun_of (now_at Between bytes.at) bytes ≡ record { at = fed_of bytes; held = []; fresh = false } = λ i. record { at = here i; held = h i; fresh = false } in
+    let begun : begun_of state bytes ≡ record { at = fed_of bytes; held = []; fresh = false } = same ∙ then in
+    λ i. record { begun = begun i; fed = fed_of bytes; refused = r i }

@@ -1,31 +1,30 @@
 -- What characters make of names that are begun.
-use Rattle.std.proofs.Common.{Result, Ok, Err, ◌≡◌, ◌≢◌, ◌⊎◌, inl, inr, ℕ, ◌+◌, ◌-◌, ◌<◌, ◌≤◌, Bool, true, false, ◌&&◌, ◌||◌, List, [], ◌∷◌, ◌++◌, length, refl, sym, ap, ◌∙◌, subst, arith}
-use Rattle.std.specs.Prelude.{codes, flat_map, ◌==◌, if◌then◌else◌}
-use Rattle.std.specs.Char.{is_ascii_digit, is_ascii_hexdigit, len_utf8}
+use Rattle.std.proofs.Common.{Result, Err, ◌≡◌, ◌≢◌, ◌⊎◌, inl, inr, ℕ, ◌+◌, ◌-◌, ◌<◌, ◌≤◌, true, false, ◌||◌, List, [], ◌∷◌, ◌++◌, length, refl, sym, ap, ◌∙◌, subst, arith}
+use Rattle.std.specs.Prelude.{flat_map, ◌==◌}
+use Rattle.std.specs.Char.{is_ascii_hexdigit, len_utf8}
 use Rattle.std.specs.List.{AllByRecursion}
-use Rattle.std.proofs.lemmas.Bool.{both_ways, cases_Bool, and_left, and_right, cond-true, cond-false, false_from_ne_true, or_cases, or_from, or_left, or_right, eqb-true, ne_eqb}
+use Rattle.std.proofs.lemmas.Bool.{both_ways, and_left, and_right, cond-true, cond-false, false_from_ne_true, or_from, ne_eqb}
 use Rattle.std.proofs.lemmas.Bool.Decides.{nat_tests}
-use Rattle.std.proofs.lemmas.List.{append_assoc, append-nil, length-append}
+use Rattle.std.proofs.lemmas.List.{append_assoc, append-nil}
 use Rattle.std.proofs.lemmas.Str.{len_utf8_ascii}
-use Rattle.owl_text.specs.Iri.{AllAre, is_among}
+use Rattle.owl_text.specs.Iri.{AllAre}
 use Rattle.owl_text.specs.Names.{IsNameFrom, IsPrefixName, SpellsLocal, AreLocalPieces, Piece, plain, percent, escaped, piece_spelling, piece_text, IsPieceOf, ends_in_plain_dot, is_base, is_start, is_local_start, is_local_inner, is_escapable, is_label_start}
 use Rattle.owl_text.specs.Utf8.{size}
 use Rattle.owl_text.specs.Tokens.{IsLongest, Spells}
-use Rattle.owl_text.specs.States.{Seen, Advances, Answers, GivesLast, StandsBefore, IsNameSoFar, begins_with, is_dot, is_colon, held_of, name_held, takes_plain}
+use Rattle.owl_text.specs.States.{Advances, Answers, GivesLast, StandsBefore, IsNameSoFar, begins_with, is_dot, name_held, takes_plain}
 use Rattle.owl_text.specs.declared.fault.LexFault.{LexFault}
-use Rattle.owl_text.specs.declared.token.Token.{Token}
 use Rattle.owl_text.specs.declared.token.Token.TheVariants.{Name, Word}
 use Rattle.owl_text.specs.declared.token.Placed.{Placed}
 use Rattle.owl_text.specs.declared.mode.NameSoFar.{NameSoFar}
 use Rattle.owl_text.specs.declared.mode.Mode.{Mode}
 use Rattle.owl_text.specs.declared.mode.Mode.TheVariants.{InName, InPercent, InHex, InNameEscape}
 use Rattle.owl_text.specs.declared.mode.State.{State}
-use Rattle.owl_text.proofs.LongestNames.{local_goes_on, local_starts, written_goes_on, escape_begins, two_hex, NameSpelling, name_is_longest, ends_in_plain_dot-append, name_goes_on, WordStops, word_is_longest}
+use Rattle.owl_text.proofs.LongestNames.{local_goes_on, local_starts, written_goes_on, escape_begins, two_hex, name_is_longest, ends_in_plain_dot-append, word_is_longest}
 use Rattle.owl_text.proofs.LongestTokens.{no_escape}
-use Rattle.owl_text.proofs.Moving.{size-append, some_size, placed, holding, BeginsNothing}
+use Rattle.owl_text.proofs.Moving.{size-append, placed, holding, BeginsNothing}
 use Rattle.owl_text.proofs.Answering.{now_at, holds, last_answer, nothing_at, answers_pending}
 use Rattle.owl_text.proofs.InWords.{dot_is, no_dot, dots-push, no_dots, pending_nothing}
-use Rattle.owl_text.proofs.Spans.{both, heads, AllAre-append, AllAre-weaker}
+use Rattle.owl_text.proofs.Spans.{both}
 
 -- local parts
 
@@ -206,8 +205,8 @@ two_hex_second a c more h = and_right (is_ascii_hexdigit a) (is_ascii_hexdigit c
 pub name_fails : (name : NameSoFar) (ds q : List ℕ) (at end c : ℕ) (before after : List Placed) (fault : LexFault) → IsNameSoFar name ds → ((more : List ℕ) → (local_goes_on (q ++ c ∷ more) ≡ false) × (local_starts (q ++ c ∷ more) ≡ false)) → ((more : List ℕ) → (0 < size ds) ⊎ BeginsNothing (q ++ c ∷ more)) → at + size (name_held name) ≡ end → GivesLast (Name name.prefix name.local) at end before after fault → Answers (holding at (name_held name ++ (ds ++ q))) c before after (Err fault)
 name_fails name ds q at end c before after fault h n b e g =
     last_answer (Name name.prefix name.local) (name_held name) (ds ++ q) at end c before after fault (name_spelled name ds h)
-      (λ more. subst (λ (x : List ℕ). IsLongest (name_held name) x) (sym (append_assoc ds q (c ∷ more))) (name_whole name ds (ds ++ (q ++ c ∷ more)) h (written_stops name.written ds (q ++ c ∷ more) h.2 h.3 (n more).0 (n more).1)))
-      (λ more. subst BeginsNothing (sym (append_assoc ds q (c ∷ more))) (pending_nothing ds (q ++ c ∷ more) h.2 (b more))) e g
+    (λ more. subst (λ (x : List ℕ). IsLongest (name_held name) x) (sym (append_assoc ds q (c ∷ more))) (name_whole name ds (ds ++ (q ++ c ∷ more)) h (written_stops name.written ds (q ++ c ∷ more) h.2 h.3 (n more).0 (n more).1)))
+    (λ more. subst BeginsNothing (sym (append_assoc ds q (c ∷ more))) (pending_nothing ds (q ++ c ∷ more) h.2 (b more))) e g
 
 pub percent_fails : (name : NameSoFar) (ds : List ℕ) (at c place pending : ℕ) (before after : List Placed) (fault : LexFault) → IsNameSoFar name ds → at + size (name_held name ++ (ds ++ 37 ∷ [])) ≡ place → pending ≡ size ds → is_ascii_hexdigit c ≡ false → GivesLast (Name name.prefix name.local) at (place - 1 - pending) before after fault → Answers (holding at (name_held name ++ (ds ++ 37 ∷ []))) c before after (Err fault)
 percent_fails name ds at c place pending before after fault h here e k g =
@@ -268,5 +267,5 @@ line_then at c a b d e before mid after r n x y z w added h =
     let same : name_held (name_at a b d) ++ e ≡ 58 ∷ [] = λ i. (x i ++ 58 ∷ y i) ++ w i in
     let spelled : Spells (Word (95 ∷ [])) (95 ∷ []) = ((refl, tt, refl), refl) in
     answers_pending (Word (95 ∷ [])) (95 ∷ []) (58 ∷ []) at c before mid after r spelled
-      (λ more. word_is_longest (95 ∷ []) (95 ∷ []) (58 ∷ c ∷ more) spelled (record { stops = refl; no_name = λ m f. refl; no_blank = λ m f g. let rest : m ≡ c ∷ more = cc in ap (begins_with is_label_start) rest ∙ n }))
-      added (subst (λ (s : List ℕ). Answers (holding (at + 1) s) c mid after r) same h)
+    (λ more. word_is_longest (95 ∷ []) (95 ∷ []) (58 ∷ c ∷ more) spelled (record { stops = refl; no_name = λ m f. refl; no_blank = λ m f g. let rest : m ≡ c ∷ more = cc in ap (begins_with is_label_start) rest ∙ n }))
+    added (subst (λ (s : List ℕ). Answers (holding (at + 1) s) c mid after r) same h)

@@ -1,26 +1,23 @@
 -- What characters make of words and labels that are begun.
-use Rattle.std.proofs.Common.{Result, Ok, Err, ◌≡◌, ◌≢◌, ◌⊎◌, inl, inr, ℕ, ◌+◌, ◌-◌, ◌<◌, ◌≤◌, Bool, true, false, ◌||◌, List, [], ◌∷◌, ◌++◌, length, refl, sym, ap, ◌∙◌, subst, arith}
-use Rattle.std.specs.Prelude.{codes, ◌==◌, if◌then◌else◌}
-use Rattle.std.specs.Char.{is_ascii_digit}
+use Rattle.std.proofs.Common.{Result, Err, ◌≡◌, ◌≢◌, ◌⊎◌, inl, inr, ℕ, ◌+◌, ◌-◌, ◌<◌, ◌≤◌, Bool, true, false, List, [], ◌∷◌, ◌++◌, refl, sym, ap, ◌∙◌, subst, arith}
+use Rattle.std.specs.Prelude.{◌==◌}
 use Rattle.std.proofs.lemmas.Bool.{both_ways, cond-true, cond-false, false_from_ne_true, or_cases, or_from, or_left, or_right, eqb-true, ne_eqb}
 use Rattle.std.proofs.lemmas.List.{append_assoc, append-nil}
 use Rattle.std.specs.Str.{chars}
-use Rattle.owl_text.specs.Iri.{AllAre, is_among}
-use Rattle.owl_text.specs.Names.{IsNameFrom, IsLabel, is_base, is_start, is_part, is_inner, is_label_start, ends_in_dot}
+use Rattle.owl_text.specs.Iri.{AllAre}
+use Rattle.owl_text.specs.Names.{IsNameFrom, IsLabel, is_base, is_start, is_part, is_inner, is_label_start}
 use Rattle.owl_text.specs.Utf8.{size}
-use Rattle.owl_text.specs.Tokens.{IsLongest, Spells}
-use Rattle.owl_text.specs.States.{Seen, Advances, Answers, GivesLast, StandsBefore, IsWell, begins_with, is_dot, is_colon, held_of}
+use Rattle.owl_text.specs.Tokens.{IsLongest}
+use Rattle.owl_text.specs.States.{Advances, Answers, GivesLast, StandsBefore, IsWell, begins_with, is_dot}
 use Rattle.owl_text.specs.declared.fault.LexFault.{LexFault}
-use Rattle.owl_text.specs.declared.token.Token.{Token}
 use Rattle.owl_text.specs.declared.token.Token.TheVariants.{Word, Blank}
 use Rattle.owl_text.specs.declared.token.Placed.{Placed}
-use Rattle.owl_text.specs.declared.mode.Mode.{Mode}
 use Rattle.owl_text.specs.declared.mode.Mode.TheVariants.{InWord, BlankStart, InLabel}
 use Rattle.owl_text.specs.declared.mode.State.{State}
 use Rattle.owl_text.proofs.LongestNames.{name_goes_on, WordStops, word_is_longest, blank_is_longest, ends_in_dot-append}
-use Rattle.owl_text.proofs.Moving.{size-append, some_size, placed, holding, BeginsNothing}
+use Rattle.owl_text.proofs.Moving.{size-append, some_size, holding, BeginsNothing}
 use Rattle.owl_text.proofs.Answering.{now_at, holds, last_answer, nothing_at}
-use Rattle.owl_text.proofs.Spans.{both, heads, AllAre-append, AllAre-weaker}
+use Rattle.owl_text.proofs.Spans.{both, AllAre-append, AllAre-weaker}
 
 -- dots
 

@@ -1,21 +1,13 @@
 -- What the end makes of what is begun.
-use Rattle.std.proofs.Common.{Result, Ok, Err, OnOk, IfErr, ◌≡◌, ◌≢◌, ◌⊎◌, inl, inr, ℕ, ◌+◌, ◌-◌, ◌<◌, ◌≤◌, Bool, true, false, Option, Some, List, [], ◌∷◌, ◌++◌, length, refl, sym, ap, ◌∙◌, subst, arith}
-use Rattle.std.specs.Prelude.{◌==◌}
-use Rattle.std.specs.Result.{IsErr, IsErrAnd}
-use Rattle.std.specs.Char.{is_ascii_alphabetic, is_ascii_hexdigit}
-use Rattle.std.proofs.lemmas.List.{append_assoc, append-nil, length-append}
-use Rattle.owl_text.specs.Iri.{AllAre, IsIri, IsScheme, is_iri_character, is_scheme_character}
+use Rattle.std.proofs.Common.{Result, Ok, Err, OnOk, IfErr, ◌≡◌, inr, ℕ, ◌+◌, Bool, true, false, Option, Some, List, [], ◌∷◌, ◌++◌, refl, sym, ap, ◌∙◌, subst, arith}
+use Rattle.std.proofs.lemmas.List.{append_assoc, append-nil}
 use Rattle.owl_text.specs.Utf8.{size}
 use Rattle.owl_text.specs.Tokens.{IsLongest, Spells, SplitsFrom, Stops}
-use Rattle.owl_text.specs.States.{Seen, Comes, CutsBehind, LastAnswers, Lasts, LastsTo, LastsSome, GivesLast, IsWell, IsTagBefore, IsNameSoFar, name_held, tag_fits, held_of}
+use Rattle.owl_text.specs.States.{Seen, Comes, CutsBehind, LastAnswers, Lasts, LastsTo, LastsSome, GivesLast}
 use Rattle.owl_text.specs.declared.fault.LexFault.{LexFault}
 use Rattle.owl_text.specs.declared.fault.LexFault.TheVariants.{BadToken, BadUtf8, Memory}
 use Rattle.owl_text.specs.declared.token.Token.{Token}
-use Rattle.owl_text.specs.declared.token.Token.TheVariants.{At, Blank, Int, Name, Word}
 use Rattle.owl_text.specs.declared.token.Placed.{Placed}
-use Rattle.owl_text.specs.declared.mode.Mode.{Mode}
-use Rattle.owl_text.specs.declared.mode.Mode.TheVariants.{InWord, InLabel}
-use Rattle.owl_text.specs.declared.mode.NameSoFar.{NameSoFar}
 use Rattle.owl_text.proofs.OneWay.{same_splits_from}
 use Rattle.owl_text.proofs.Moving.{size-append, spelled_size, placed, holding, token_first, splits_token, spelled_token, BeginsNothing, ends_bad}
 

@@ -1,18 +1,17 @@
 -- What one more byte makes of what is begun.
-use Rattle.std.proofs.Common.{Result, Ok, Err, IfOk, IfErr, OnOk, ◌≡◌, ◌≢◌, ◌⊎◌, inl, inr, ℕ, ◌+◌, ◌<◌, ◌≤◌, Bool, true, false, Option, Some, None, List, [], ◌∷◌, ◌++◌, length, refl, sym, ap, ◌∙◌, subst, arith}
+use Rattle.std.proofs.Common.{Result, Ok, Err, IfOk, IfErr, OnOk, ◌≡◌, ◌⊎◌, inl, inr, ℕ, ◌+◌, ◌<◌, Bool, true, false, Option, Some, None, List, [], ◌∷◌, ◌++◌, length, refl, sym, ap, ◌∙◌, subst, arith}
 use Rattle.std.specs.Char.{IsScalar, encode_utf8, len_utf8}
 use Rattle.std.specs.Str.{all_scalars, encode_utf8_all}
-use Rattle.std.specs.List.{AllByRecursion}
 use Rattle.std.proofs.lemmas.List.{append_assoc, append-nil, length-append}
 use Rattle.std.proofs.lemmas.Str.{length-encode}
 use Rattle.owl_text.specs.Utf8.{BeginsNoCharacter, Decodes, size}
 use Rattle.owl_text.specs.Feeding.{BeginsNone, Feeding, IsUnfinished}
-use Rattle.owl_text.specs.Tokens.{SplitsFrom, SplitsAt, Splits, Stops, IsToken}
-use Rattle.owl_text.specs.Lexing.{Adds, AddsLast, AddsSome, AddsSomeLast, AreTokens, Begun, Continues, EndsAt, Gives, SplitsBehind}
-use Rattle.owl_text.specs.States.{Seen, Advances, Answers, Comes, CutsBehind, Fails, IsWell, Lasts, LastAnswers, LastsSome, LastsTo, Moves, Starts, held_of, is_fresh, next_of, seen}
-use Rattle.owl_text.specs.Readiness.{Finishes, FinishesBadly, IsReady, Refuses, Takes, begun_of, fed_of}
+use Rattle.owl_text.specs.Tokens.{Stops}
+use Rattle.owl_text.specs.Lexing.{Adds, AddsLast, AddsSome, AddsSomeLast, AreTokens, Begun, Continues, EndsAt, SplitsBehind}
+use Rattle.owl_text.specs.States.{Seen, Advances, Answers, Comes, CutsBehind, Fails, Lasts, LastAnswers, LastsSome, Moves, Starts, held_of, is_fresh, next_of, seen}
+use Rattle.owl_text.specs.Readiness.{Finishes, FinishesBadly, IsReady, Refuses, Takes, begun_of}
 use Rattle.owl_text.specs.declared.fault.LexFault.{LexFault}
-use Rattle.owl_text.specs.declared.fault.LexFault.TheVariants.{BadToken, BadUtf8, Memory}
+use Rattle.owl_text.specs.declared.fault.LexFault.TheVariants.{BadUtf8}
 use Rattle.owl_text.specs.declared.mode.State.{State}
 use Rattle.owl_text.specs.declared.token.Placed.{Placed}
 use Rattle.owl_text.proofs.Answering.{size_bytes}

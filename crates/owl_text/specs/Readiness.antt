@@ -1,5 +1,5 @@
 -- What a lexer holds in bytes, and what one more byte makes of it.
-use Rattle.std.specs.Prelude.{◌≡◌, ◌≢◌, ℕ, ◌+◌, ◌≤◌, true, false, Result, Ok, Err, List, [], ◌∷◌, ◌++◌, length, Option, Some, None}
+use Rattle.std.specs.Prelude.{◌≡◌, ◌≢◌, ℕ, ◌+◌, ◌≤◌, true, false, List, [], ◌∷◌, ◌++◌, length, Some, None}
 use Rattle.std.specs.Str.{all_scalars, encode_utf8_all}
 use Rattle.owl_text.specs.Feeding.{Feeding}
 use Rattle.owl_text.specs.Lexing.{Adds, AddsLast, AddsSome, AddsSomeLast, AreTokens, Begun, EndsAt, Lexing}

@@ -1,6 +1,6 @@
 //! What the next byte makes of what a lexer has in hand.
 
-ghost use Rattle.std.specs.Prelude.{◌≡◌, ◌+◌, ◌^◌, ◌<◌, length, IfErr, IfOk, OnOk};
+ghost use Rattle.std.specs.Prelude.{◌≡◌, ◌+◌, ◌^◌, ◌<◌, [], length, IfErr, IfOk, OnOk};
 ghost use Rattle.owl_text.specs.Readiness.{Finishes, FinishesBadly, IsReady, Refuses, Takes, begun_of};
 
 use crate::fault::LexFault;
@@ -44,6 +44,7 @@ pub fn end(
 ) -> Result<(), LexFault>
     requires { IsReady state bytes.now }
     ensures ok { OnOk result (Finishes (begun_of state bytes.now) into.old.items into.new.items) }
+    ensures whole { OnOk result (bytes.now.held ≡ []) }
     ensures err { IfErr result (λ fault. FinishesBadly (begun_of state bytes.now) into.old.items into.new.items fault) }
 {
     let place = bytes.place();

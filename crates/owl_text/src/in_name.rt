@@ -41,7 +41,12 @@ fn push_character(name: &mut NameSoFar, dots: &Text, c: char) -> Result<(), NoMe
 }
 
 /// Puts dots, `%` and two digits at the end of a local part.
-fn push_percent(name: &mut NameSoFar, dots: &Text, first: char, second: char) -> Result<(), NoMemory>
+fn push_percent(
+    name: &mut NameSoFar,
+    dots: &Text,
+    first: char,
+    second: char,
+) -> Result<(), NoMemory>
     ensures { OnOk result (name.new ≡ record { prefix = name.old.prefix; written = (((name.old.written ++ dots.now) ++ 37 ∷ []) ++ first ∷ []) ++ second ∷ []; local = (((name.old.local ++ dots.now) ++ 37 ∷ []) ++ first ∷ []) ++ second ∷ [] }) }
 {
     push_dots(name, dots)?;
@@ -137,7 +142,14 @@ fn name_ends(
     if pending > 0 {
         return Err(name_last(name, at, place - pending, into));
     }
-    behind(alloc, Token::Name(name.prefix, name.local), at, c, place, into)
+    behind(
+        alloc,
+        Token::Name(name.prefix, name.local),
+        at,
+        c,
+        place,
+        into,
+    )
 }
 
 /// Adds a name, behind which neither a token nor a gap begins.

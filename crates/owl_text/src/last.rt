@@ -87,16 +87,15 @@ fn last_blank(alloc: Global, at: u64, place: u64, into: &mut Vec<Placed>) -> Res
 {
     let word = text_of(alloc, '_')?;
     give_end(into, Token::Word(word), at)?;
-    give_end(into, Token::Name(Text::new(alloc), Text::new(alloc)), place - 1)
+    give_end(
+        into,
+        Token::Name(Text::new(alloc), Text::new(alloc)),
+        place - 1,
+    )
 }
 
 /// Adds the tokens that the end makes whole. What is begun ends at `place`.
-pub fn last(
-    alloc: Global,
-    state: State,
-    place: u64,
-    into: &mut Vec<Placed>,
-) -> Result<(), LexFault>
+pub fn last(alloc: Global, state: State, place: u64, into: &mut Vec<Placed>) -> Result<(), LexFault>
     requires well { IsWell state.mode }
     requires here { next_of state ≡ place }
     requires starts { is_fresh state.mode ≡ true → state.at ≡ 0 }

@@ -1,4 +1,3 @@
-use Rattle.std.proofs.Common.{◌∙◌}
 use Rattle.owl_text.proofs.Utf8Bytes.{unfinished_is_none}
 use Rattle.owl_text.proofs.Taking.{whole_finishes, whole_fails, ends_cut, ends_badly, unfinished_of, not_empty}
 use Rattle.owl_text.proofs.bytes.end.Goals as goal

@@ -1,4 +1,4 @@
-use Rattle.std.proofs.Common.{◌++◌, arith, sym, ◌∙◌}
+use Rattle.std.proofs.Common.{◌++◌, arith}
 use Rattle.owl_text.specs.States.{name_held}
 use Rattle.owl_text.proofs.Moving.{size-append}
 use Rattle.owl_text.proofs.InNames.{dots_fail, name_stands}

@@ -1,4 +1,4 @@
-use Rattle.std.proofs.Common.{sym, ◌∙◌, arith}
+use Rattle.std.proofs.Common.{sym, ◌∙◌}
 use Rattle.owl_text.proofs.Answering.{memory_err}
 use Rattle.owl_text.proofs.InWords.{label_first}
 use Rattle.owl_text.proofs.in_word.blank_start.Goals as goal

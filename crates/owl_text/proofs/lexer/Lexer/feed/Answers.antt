@@ -1,4 +1,4 @@
-use Rattle.std.proofs.Common.{◌≡◌, ℕ, List, [], ◌∷◌, ◌++◌, get_or, take, sym, subst, arith}
+use Rattle.std.proofs.Common.{ℕ, List, [], ◌∷◌, get_or, take, sym, subst, arith}
 use Rattle.std.proofs.lemmas.List.{take_more}
 use Rattle.owl_text.specs.Lexing.{Adds}
 use Rattle.owl_text.proofs.Feeds.{adds_both, some_of_piece, ends_in_piece}
