@@ -8,3 +8,14 @@ pub mod OneWay
 pub mod LongestNames
 pub mod LongestTokens
 pub mod Utf8Bytes
+pub mod Moving
+pub mod Answering
+pub mod InIris
+pub mod InTags
+pub mod InWords
+pub mod InNames
+pub mod Lasting
+pub mod Endings
+pub mod Decoding
+pub mod Taking
+pub mod Feeds

@@ -7,23 +7,13 @@ use Rattle.std.proofs.lemmas.Bool.{cases_Bool, cond-true, cond-false, or_cases, 
 use Rattle.std.proofs.lemmas.List.{append_assoc, length-append}
 use Rattle.owl_text.specs.Iri.{AllAre, is_among}
 use Rattle.owl_text.specs.Names.{in_ranges, start_ranges, part_ranges, is_base, is_start, is_part, is_inner, ends_in_dot, IsNameFrom, IsPrefixName, is_label_start, is_escapable, Piece, plain, percent, escaped, piece_spelling, IsPieceOf, is_local_start, is_local_inner, ends_in_plain_dot, AreLocalPieces, SpellsLocal}
+use Rattle.owl_text.specs.States.{begins_with, is_dot}
 use Rattle.owl_text.specs.Tokens.{Spells, IsLongest}
 use Rattle.owl_text.specs.declared.token.Token.{Token}
 use Rattle.owl_text.specs.declared.token.Token.TheVariants.{Name, Blank, Word}
 use Rattle.owl_text.proofs.Leads.{Lead, lead, lead_letter, underscore, fits, other_fits, only_name, name_or_word, blank_or_word}
 use Rattle.owl_text.proofs.Spelled.{prefix_inner, word_inner, name_inner, is_plain, local_pieces_plain, same_piece}
 use Rattle.owl_text.proofs.Spans.{both, same_cut, same_seam, front_within, AllAre-back, overhang_or_within}
-
--- the first character passes the test
-abbrev pub begins_with : (ℕ → Bool) → List ℕ → Bool
-begins_with test [] = false
-begins_with test (c ∷ cs) = test c
-
-abbrev pub is_dot : ℕ → Bool
-is_dot c = is_among (codes ".") c
-
-abbrev pub is_colon : ℕ → Bool
-is_colon c = is_among (codes ":") c
 
 -- behind dots, a name goes on
 abbrev pub name_goes_on : List ℕ → Bool

@@ -9,6 +9,7 @@ use Rattle.std.proofs.lemmas.Bool.Decides.{nat_tests}
 use Rattle.std.proofs.lemmas.List.{append_assoc}
 use Rattle.owl_text.specs.Iri.{AllAre, IsIri, is_among, is_iri_character, is_scheme_character}
 use Rattle.owl_text.specs.Names.{in_ranges, part_ranges, is_escapable, is_start, is_part, is_inner, is_local_start, is_local_inner, IsLanguageTag, AreSubtags, IsRunOf}
+use Rattle.owl_text.specs.States.{begins_with, is_dot, is_colon, is_hyphen, tag_fits, test_behind}
 use Rattle.owl_text.specs.Tokens.{Spells, IsLongest, sign_spelling, character_spelling}
 use Rattle.owl_text.specs.declared.token.Token.{Token}
 use Rattle.owl_text.specs.declared.token.Token.TheVariants.{Iri, Name, Blank, Str, At, Word, Int, Sign}
@@ -17,7 +18,7 @@ use Rattle.owl_text.specs.declared.token.Sign.TheVariants.{Open, Close, Equals, 
 use Rattle.owl_text.proofs.Leads.{Lead, lead, lead_digit, fits, other_fits, sign_lead, only_iri, only_str, only_at, only_int, only_sign}
 use Rattle.owl_text.proofs.Spelled.{same_text}
 use Rattle.owl_text.proofs.Schemes.{scheme_characters}
-use Rattle.owl_text.proofs.LongestNames.{begins_with, is_dot, is_colon, name_goes_on, local_goes_on, written_goes_on, escape_begins, two_hex, WordStops, word_is_longest, blank_is_longest, name_is_longest}
+use Rattle.owl_text.proofs.LongestNames.{name_goes_on, local_goes_on, written_goes_on, escape_begins, two_hex, WordStops, word_is_longest, blank_is_longest, name_is_longest}
 use Rattle.owl_text.proofs.Spans.{both, same_cut, AllAre-append, AllAre-back, AllAre-weaker, overhang_or_within}
 
 -- which tokens are the longest, whatever follows
@@ -93,15 +94,6 @@ int_longest (c ∷ cs) spelling rest h n other longer more k e =
     run_all : (cs : List ℕ) → IsRunOf is_ascii_digit cs → AllAre is_ascii_digit cs
     run_all [] h = absurd h
     run_all (c ∷ cs) h = h
-
--- Language tags by one character after another: those of the first subtag pass the test, and a hyphen may stand behind some.
-abbrev pub is_hyphen : ℕ → Bool
-is_hyphen c = c == 0x2D
-
-abbrev pub tag_fits : (ℕ → Bool) → Bool → List ℕ → Bool
-tag_fits test some [] = some
-tag_fits test some (c ∷ cs) =
-    if is_hyphen c then (some && tag_fits is_ascii_alphanumeric false cs) else (test c && tag_fits test true cs)
 
 -- a part of a subtag, and then subtags
 abbrev pub AreParts : (ℕ → Bool) → Bool → List (List ℕ) → Type 0
@@ -179,11 +171,6 @@ tag_from_fits cs h = subtags (slice_split is_hyphen cs) (tag_parts is_ascii_alph
 
 pub tag_to_fits : (cs : List ℕ) → IsLanguageTag cs → tag_fits is_ascii_alphabetic false cs ≡ true
 tag_to_fits cs h = parts_tag is_ascii_alphabetic false cs (subtags_back (slice_split is_hyphen cs) h)
-
--- the test for characters behind a front of a tag
-abbrev pub test_behind : (ℕ → Bool) → List ℕ → ℕ → Bool
-test_behind test [] = test
-test_behind test (c ∷ cs) = if is_hyphen c then test_behind is_ascii_alphanumeric cs else test_behind test cs
 
 pub tag_behind : (test : ℕ → Bool) (some : Bool) (xs ys : List ℕ) → tag_fits test some xs ≡ true → tag_fits test some (xs ++ ys) ≡ true → tag_fits (test_behind test xs) true ys ≡ true
 tag_behind test true [] ys h k = k
@@ -283,7 +270,7 @@ start_of_part c h = elim (or_cases (is_start c || is_ascii_digit c) (is_colon c)
   | inr x ↦ or_right (is_part c) (is_among (codes ".:") c) (or_right (46 == c) (is_colon c) x)
 ]
 
-no_escape : (c : ℕ) (cs : List ℕ) → is_among (codes "%\\") c ≡ false → escape_begins c cs ≡ false
+pub no_escape : (c : ℕ) (cs : List ℕ) → is_among (codes "%\\") c ≡ false → escape_begins c cs ≡ false
 no_escape c cs h =
     let parts = or_parts (37 == c) (is_among (codes "\\") c) h in
     or_from (is_among (codes "%") c && two_hex cs) (is_among (codes "\\") c && begins_with is_escapable cs) (and_left (is_among (codes "%") c) (two_hex cs) (not_among 37 c parts.0)) (and_left (is_among (codes "\\") c) (begins_with is_escapable cs) parts.1)

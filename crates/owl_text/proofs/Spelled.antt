@@ -46,7 +46,7 @@ pub record SameText (xs ys a b : List ℕ) : Type 0 where
   pub rest : a ≡ b
 
 -- a string's text ends at its quote
-quote_first : (y : ℕ) (ys a b : List ℕ) → 34 ∷ a ≡ character_spelling y ++ ys → ⊥
+pub quote_first : (y : ℕ) (ys a b : List ℕ) → 34 ∷ a ≡ character_spelling y ++ ys → ⊥
 quote_first y ys a b e = elim (cases_Bool (is_escaped y)) [
   | inl h ↦ heads (λ n. n == 34) 34 92 a (y ∷ ys) refl refl (e ∙ ap (λ (x : List ℕ). x ++ ys) (escaped_is y h))
   | inr h ↦
@@ -58,7 +58,7 @@ pub record SameFirst (x y : ℕ) (xs ys : List ℕ) : Type 0 where
   pub first : x ≡ y
   pub rest : xs ≡ ys
 
-same_character : (x y : ℕ) (xs ys : List ℕ) → character_spelling x ++ xs ≡ character_spelling y ++ ys → SameFirst x y xs ys
+pub same_character : (x y : ℕ) (xs ys : List ℕ) → character_spelling x ++ xs ≡ character_spelling y ++ ys → SameFirst x y xs ys
 same_character x y xs ys e = elim (cases_Bool (is_escaped x)) [
   | inl h ↦ elim (cases_Bool (is_escaped y)) [
     | inl k ↦

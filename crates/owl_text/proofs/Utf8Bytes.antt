@@ -103,7 +103,7 @@ unfinished_is_none bytes u d r s e =
     nothing [] s e = ap (λ (x : List ℕ). length x) (sym e)
     nothing (x ∷ r) s e = cc
 
-high_scalar : (c : ℕ) → 57344 ≤ c → c < 1114112 → IsScalar c
+pub high_scalar : (c : ℕ) → 57344 ≤ c → c < 1114112 → IsScalar c
 high_scalar c l h = cond-false (nat_lt c 55296) true (nat_le 57344 c && nat_lt c 1114112) (le-ltb c 55296 (omega arith)) ∙ and_from (nat_le 57344 c) (nat_lt c 1114112) (le-leb 57344 c l) (lt-ltb c 1114112 h)
 
 -- without its last byte, a character or a front of it is unfinished
@@ -157,3 +157,9 @@ held_unfinished Nothing n h = absurd (n refl)
 held_unfinished (One a) n h = begun_unfinished (a ∷ []) h (omega arith)
 held_unfinished (Two a b) n h = begun_unfinished (a ∷ b ∷ []) h (omega arith)
 held_unfinished (Three a b c) n h = begun_unfinished (a ∷ b ∷ c ∷ []) h (omega arith)
+
+pub held_some : (p : Partial) → p ≢ Nothing → 0 < length (held_of p)
+held_some Nothing n = absurd (n refl)
+held_some (One a) n = omega arith
+held_some (Two a b) n = omega arith
+held_some (Three a b c) n = omega arith

@@ -6,3 +6,5 @@ pub mod Utf8
 pub mod Tokens
 pub mod Lexing
 pub mod Feeding
+pub mod States
+pub mod Readiness

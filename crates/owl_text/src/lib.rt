@@ -1,10 +1,20 @@
 //! Texts as lists of characters, and the tokens of Functional-Style Syntax.
 #![tactic(auto)]
 
+mod begin;
+mod bytes;
 mod fault;
+mod in_iri;
+mod in_name;
+mod in_tag;
+mod in_word;
+mod last;
 mod laws;
 mod lexer;
+mod marks;
+mod mode;
 mod names;
+mod state;
 mod text;
 mod token;
 mod utf8;

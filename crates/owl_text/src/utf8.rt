@@ -68,10 +68,17 @@ impl Utf8Feed {
         }
     }
 
+    /// The place of the character that is begun.
+    pub fn place(&self) -> u64
+        ensures { result ≡ self.now.at }
+    {
+        self.at
+    }
+
     /// Whether the bytes are whole characters.
     pub fn finish(&self) -> Result<(), BadUtf8>
         ensures ok { OnOk result ((self.now.held ≡ []) × (self.now.bad ≡ false)) }
-        ensures err { IfErr result (λ e. (e.at ≡ self.now.at) × ((self.now.bad ≡ true) ⊎ IsUnfinished self.now.held)) }
+        ensures err { IfErr result (λ e. (e.at ≡ self.now.at) × ((self.now.bad ≡ true) ⊎ (IsUnfinished self.now.held × (0 < length self.now.held)))) }
     {
         if self.bad {
             return Err(BadUtf8 { at: self.at });
