@@ -2,12 +2,14 @@
 #![tactic(auto)]
 
 mod fault;
+mod laws;
 mod lexer;
 mod names;
 mod text;
 mod token;
 
 pub use fault::LexFault;
+pub use laws::tokens_come_one_way;
 pub use lexer::Lexer;
 pub use names::{is_base, is_part, is_start};
 pub use text::{NoMemory, Text};
