@@ -5,7 +5,7 @@ ghost use Rattle.owl_text.specs.Names.{IsLabel, IsLanguageTag, IsRunOf};
 ghost use Rattle.std.specs.Char.{is_ascii_digit};
 ghost use Rattle.owl_text.specs.Tokens.{IsToken};
 ghost use Rattle.owl_text.specs.declared.token.Token.TheVariants as lexeme;
-ghost use Rattle.owl_text.specs.declared.lexeme.Sign.TheVariants as mark;
+ghost use Rattle.owl_text.specs.declared.token.Sign.TheVariants as mark;
 ghost use Rattle.std.specs.Str.Parse.{digits_value};
 ghost use Rattle.owl_atom.specs.declared.prefixes.Prefix.{Prefix};
 ghost use Rattle.owl_tree.specs.Ontologies.{IsSameOntology, Ontology};

@@ -5,7 +5,7 @@ ghost use Rattle.owl_text.specs.Tokens.{IsToken};
 ghost use Rattle.owl_atom.specs.declared.prefixes.Prefix.{Prefix};
 ghost use Rattle.owl_text.specs.Names.{IsPrefixName};
 ghost use Rattle.owl_text.specs.declared.token.Token.TheVariants as lexeme;
-ghost use Rattle.owl_text.specs.declared.lexeme.Sign.TheVariants as mark;
+ghost use Rattle.owl_text.specs.declared.token.Sign.TheVariants as mark;
 ghost use Rattle.fss_read.specs.Parsing.{Blocks, IsWellPrologue, IsWellStage, Passes};
 ghost use Rattle.fss_read.specs.declared.stage.Prologue.TheVariants as prologue;
 ghost use Rattle.fss_read.specs.declared.stage.Header.TheVariants as header;
@@ -42,7 +42,7 @@ pub fn in_prologue(
         Prologue::Name(name) => marked(&token, Sign::Equals, Prologue::Equals(name)),
         Prologue::Equals(name) => declared(alloc, prefixes, &name, token),
         Prologue::Value => marked(&token, Sign::Close, Prologue::Between),
-        Prologue::Ontology => opened(&token),
+        Prologue::Ontology => opened(prefixes, &token),
     }
 }
 
@@ -116,10 +116,13 @@ fn declared(
 }
 
 /// The bracket of the ontology.
-fn opened(token: &Token) -> Result<Stage, TokenFault>
-    ensures ok { IfOk result (λ new. (token.now ≡ lexeme.Sign mark.Open) × (new ≡ stage.Header header.Bare)) }
-    ensures bad { IfErr result (λ fault. token.now ≢ lexeme.Sign mark.Open) }
+fn opened(prefixes: &Prefixes, token: &Token) -> Result<Stage, TokenFault>
+    ensures passes { IfOk result (λ new. Passes (record { table = prefixes.now; stage = stage.Prologue prologue.Ontology }) (token.now ∷ []) (record { table = prefixes.now; stage = new }) []) }
+    ensures blocks { IfErr result (λ fault. Blocks (record { table = prefixes.now; stage = stage.Prologue prologue.Ontology }) (token.now ∷ [])) }
+    ensures well { IfOk result (IsWellStage prefixes.now) }
 {
+    // A table is told by what is looked up in it.
+    prefixes.len();
     if is_sign(token, Sign::Open) {
         Ok(Stage::Header(Header::Bare))
     } else {
