@@ -5,4 +5,5 @@ pub mod Terms
 pub mod Headers
 pub mod Bodies
 pub mod Runs
+pub mod Numbers
 pub mod Readings
