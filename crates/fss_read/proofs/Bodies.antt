@@ -7,6 +7,8 @@ use Rattle.owl_text.specs.declared.token.Token.{Token}
 use Rattle.owl_text.specs.declared.token.Token.TheVariants as token
 use Rattle.owl_text.specs.declared.token.Sign.TheVariants as sign
 use Rattle.owl_atom.specs.declared.prefixes.Prefix.{Prefix}
+use Rattle.owl_atom.specs.declared.fault.LiteralFault.{LiteralFault}
+use Rattle.owl_atom.specs.declared.fault.LiteralFault.TheVariants as literal_fault
 use Rattle.owl_atom.specs.Literals.{Denotes, LiteralParts}
 use Rattle.owl_tree.specs.declared.atom.Atom.{Atom}
 use Rattle.owl_tree.specs.declared.atom.Atom.TheVariants as atom
@@ -19,6 +21,7 @@ use Rattle.owl_doc.specs.Terms.{AreTerms, iri_of_token, plain, tagged, typed}
 use Rattle.owl_doc.specs.declared.term.Term.{Term}
 use Rattle.owl_doc.specs.declared.term.Term.TheVariants as term
 use Rattle.fss_read.specs.Bodies.{Bars, BarsAtoms, Body, Completes, Steps}
+use Rattle.fss_read.specs.Faults.{of_literal}
 use Rattle.fss_read.specs.Parsing.{BodyBlocks, BodyPasses, FitsLeaf, SpellsBody, StringBlocks, StringPasses, count_stage, ends_string, goes_on, held_tokens, is_iri_token}
 use Rattle.fss_read.specs.declared.stage.Held.{Held}
 use Rattle.fss_read.specs.declared.stage.Held.TheVariants as held
@@ -202,3 +205,19 @@ given_err (Err fault) old front x k bars = λ no_memory. k (bars no_memory)
 pub given_few : (r : Result Held TokenFault) (new : Body) (most : ℕ) → OnOk r (new.trees ≤ most) → IfOk r (λ kept. kept ≡ held.Nothing) → IfOk r (λ kept. count_stage (stage.Body new kept) ≤ most)
 given_few (Ok kept) new most few nothing = subst (λ (h : Held). count_stage (stage.Body new h) ≤ most) (sym nothing) (omega arith)
 given_few (Err fault) new most few nothing = tt
+
+-- the same at a token that was found to be one
+pub at_token_blocks : (r : Result Held TokenFault) (old : Body) (t u : Token) → t ≡ u → IfErr r (λ fault. fault ≢ Memory → BodyBlocks old (u ∷ [])) → IfErr r (λ fault. fault ≢ Memory → BodyBlocks old (t ∷ []))
+at_token_blocks r old t u e h = subst (λ (x : Token). IfErr r (λ fault. fault ≢ Memory → BodyBlocks old (x ∷ []))) (sym e) h
+
+pub at_held_blocks : (r : Result Held TokenFault) (old : Body) (t : Token) (h k : Held) → h ≡ k → IfErr r (λ fault. fault ≢ Memory → BodyBlocks old (held_tokens k ++ t ∷ [])) → IfErr r (λ fault. fault ≢ Memory → BodyBlocks old (held_tokens h ++ t ∷ []))
+at_held_blocks r old t h k e b = subst (λ (x : Held). IfErr r (λ fault. fault ≢ Memory → BodyBlocks old (held_tokens x ++ t ∷ []))) (sym e) b
+
+-- a refusal of a literal, but for want of memory
+pub bad_literal : (fault : LiteralFault) (told : TokenFault) → told ≡ of_literal fault → told ≢ Memory → fault ≡ literal_fault.BadLiteral
+bad_literal literal_fault.BadLiteral told is no_memory = refl
+bad_literal literal_fault.Memory told is no_memory = absurd (no_memory is)
+
+pub tagged_made : (shown form shown_tag tag : List ℕ) (l : LiteralParts) → shown ≡ form → shown_tag ≡ tag → Denotes shown None (Some shown_tag) l → ((other : LiteralParts) → Denotes shown None (Some shown_tag) other → other ≡ l) → Made form None (Some tag) l
+tagged_made shown form shown_tag tag l e f ok only =
+    subst (λ (x : List ℕ). Made x None (Some tag) l) e (subst (λ (x : List ℕ). Made shown None (Some x) l) f (record { denotes = ok; only = only }))

@@ -1,6 +1,7 @@
 -- Numbers that digits write.
-use Rattle.std.proofs.Common.{◌≡◌, ◌<◌, ◌≤◌, ◌^◌, ℕ, List, length, Ok, Err, subst, ◌∙◌, arith}
+use Rattle.std.proofs.Common.{◌≡◌, ◌<◌, ◌≤◌, ◌^◌, ℕ, List, length, Result, Ok, Err, sym, subst, ◌∙◌, arith}
 use Rattle.std.specs.Char.{is_ascii_digit}
+use Rattle.std.specs.Result.{OkIff}
 use Rattle.std.specs.Str.{encode_utf8_all}
 use Rattle.std.specs.Str.Parse.{AllDigits, ParsesUnsigned, digits_value}
 use Rattle.std.proofs.lemmas.Fmt.{IsAscii-from_digits}
@@ -12,15 +13,18 @@ use Rattle.owl_atom.proofs.LexicalForms.{run_numeral}
 large_from : (n v : ℕ) → 0 < n → ((0 < n) × (v < 2 ^ 64) → ⊥) → 2 ^ 64 ≤ v
 large_from n v some h = let g : v < 2 ^ 64 → ⊥ = λ k. h (some, k) in omega arith
 
-module _ {E : Type 0} (bytes digits : List ℕ) where
-  own_bytes : bytes ≡ encode_utf8_all digits → IsRunOf is_ascii_digit digits → bytes ≡ digits
-  own_bytes e run = e ∙ encodes-IsAscii digits (IsAscii-from_digits digits (run_numeral digits run).1)
+own_bytes : (bytes digits : List ℕ) → bytes ≡ encode_utf8_all digits → IsRunOf is_ascii_digit digits → bytes ≡ digits
+own_bytes bytes digits e run = e ∙ encodes-IsAscii digits (IsAscii-from_digits digits (run_numeral digits run).1)
 
-  pub number_value : (n : ℕ) → bytes ≡ encode_utf8_all digits → IsRunOf is_ascii_digit digits → ParsesUnsigned {E = E} 64 10 bytes (Ok n) → n ≡ digits_value 10 digits
-  number_value n e run h =
-      (parse_digits (numerals_by_value (AllDigits 10) tells_digits) {E = E} 64 digits (Ok n) (subst (λ (x : List ℕ). ParsesUnsigned {E = E} 64 10 x (Ok n)) (own_bytes e run) h) (run_numeral digits run).1).1
+parsed : (E : Type 0) (bytes digits : List ℕ) (r : Result ℕ E) → bytes ≡ encode_utf8_all digits → IsRunOf is_ascii_digit digits → ParsesUnsigned 64 10 bytes r → OkIff r ((0 < length digits) × (digits_value 10 digits < 2 ^ 64)) (digits_value 10 digits)
+parsed E bytes digits r e run h =
+    parse_digits (numerals_by_value (AllDigits 10) tells_digits) 64 digits r (subst (λ (x : List ℕ). ParsesUnsigned 64 10 x r) (own_bytes bytes digits e run) h) (run_numeral digits run).1
 
-  pub number_large : (fault : E) → bytes ≡ encode_utf8_all digits → IsRunOf is_ascii_digit digits → ParsesUnsigned {E = E} 64 10 bytes (Err fault) → 2 ^ 64 ≤ digits_value 10 digits
-  number_large fault e run h =
-      large_from (length digits) (digits_value 10 digits) (run_numeral digits run).0
-      (parse_digits (numerals_by_value (AllDigits 10) tells_digits) {E = E} 64 digits (Err fault) (subst (λ (x : List ℕ). ParsesUnsigned {E = E} 64 10 x (Err fault)) (own_bytes e run) h) (run_numeral digits run).1)
+pub number_value : (E : Type 0) (bytes digits : List ℕ) (n : ℕ) → bytes ≡ encode_utf8_all digits → IsRunOf is_ascii_digit digits → ParsesUnsigned {E = E} 64 10 bytes (Ok n) → (n ≡ digits_value 10 digits) × (n < 2 ^ 64)
+number_value E bytes digits n e run h =
+    let p = parsed E bytes digits (Ok n) e run h in
+    (p.1, subst (λ (x : ℕ). x < 2 ^ 64) (sym p.1) p.0.1)
+
+pub number_large : (E : Type 0) (bytes digits : List ℕ) (fault : E) → bytes ≡ encode_utf8_all digits → IsRunOf is_ascii_digit digits → ParsesUnsigned {E = E} 64 10 bytes (Err fault) → 2 ^ 64 ≤ digits_value 10 digits
+number_large E bytes digits fault e run h =
+    large_from (length digits) (digits_value 10 digits) (run_numeral digits run).0 (parsed E bytes digits (Err fault) e run h)

@@ -1,6 +1,6 @@
 //! The tokens behind the header, which make terms.
 
-ghost use Rattle.std.specs.Prelude.{◌≡◌, ◌≢◌, ◌↔◌, ◌+◌, ◌≤◌, ◌^◌, ◌∷◌, ◌++◌, [], List, false, IfOk, IfErr, MatchOption, OnOk, true};
+ghost use Rattle.std.specs.Prelude.{◌≡◌, ◌≢◌, ◌↔◌, ◌+◌, ◌<◌, ◌≤◌, ◌^◌, ◌∷◌, ◌++◌, [], List, false, IfOk, IfErr, MatchOption, OnOk, true};
 ghost use Rattle.owl_text.specs.Names.{IsLabel, IsLanguageTag, IsRunOf};
 ghost use Rattle.std.specs.Char.{is_ascii_digit};
 ghost use Rattle.owl_text.specs.Tokens.{IsToken};
@@ -160,7 +160,7 @@ fn number(items: &mut Items, digits: &Text) -> Result<Held, TokenFault>
 /// The number that the digits write, unless it has more than 64 bits.
 fn value(digits: &Text) -> Option<u64>
     requires { IsRunOf is_ascii_digit digits.now }
-    ensures { MatchOption result (2 ^ 64 ≤ digits_value 10 digits.now) (λ number. number ≡ digits_value 10 digits.now) }
+    ensures { MatchOption result (2 ^ 64 ≤ digits_value 10 digits.now) (λ number. (number ≡ digits_value 10 digits.now) × (number < 2 ^ 64)) }
 {
     match digits.as_str().parse::<u64>() {
         Ok(number) => Some(number),

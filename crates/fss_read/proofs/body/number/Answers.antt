@@ -15,12 +15,12 @@ returns-in_err-expects-clause-blocks c =
 pub returns-in-Some-clause-passes : goal.returns-in-Some-clause-passes
 returns-in-Some-clause-passes c =
     given_ok c.given.result c.args.items.now c.given.new.items (lexeme.Int c.args.digits.now ∷ []) (term.Atom (atom.Number c.in-Some.number))
-    (single_passes c.args.items.now c.given.new.items (lexeme.Int c.args.digits.now) (term.Atom (atom.Number c.in-Some.number)) refl (ap (λ n. Some (term.Atom (atom.Number n))) (sym c.in-Some.ensures)) c.ranges.in-Some-number) c.given.ensures.steps c.given.ensures.prefixes c.given.ensures.held
+    (single_passes c.args.items.now c.given.new.items (lexeme.Int c.args.digits.now) (term.Atom (atom.Number c.in-Some.number)) refl (ap (λ n. Some (term.Atom (atom.Number n))) (sym c.in-Some.ensures.0)) c.in-Some.ensures.1) c.given.ensures.steps c.given.ensures.prefixes c.given.ensures.held
 
 pub returns-in-Some-clause-blocks : goal.returns-in-Some-clause-blocks
 returns-in-Some-clause-blocks c =
     given_err c.given.result c.args.items.now (lexeme.Int c.args.digits.now ∷ []) (term.Atom (atom.Number c.in-Some.number))
-    (single_blocks c.args.items.now (lexeme.Int c.args.digits.now) (term.Atom (atom.Number c.in-Some.number)) refl (ap (λ n. Some (term.Atom (atom.Number n))) (sym c.in-Some.ensures))) c.given.ensures.barred
+    (single_blocks c.args.items.now (lexeme.Int c.args.digits.now) (term.Atom (atom.Number c.in-Some.number)) refl (ap (λ n. Some (term.Atom (atom.Number n))) (sym c.in-Some.ensures.0))) c.given.ensures.barred
 
 pub returns-in-None-clause-blocks : goal.returns-in-None-clause-blocks
 returns-in-None-clause-blocks c =
