@@ -4,6 +4,7 @@ pub mod Prologues
 pub mod Terms
 pub mod Headers
 pub mod Bodies
+pub mod Ends
 pub mod Runs
 pub mod Numbers
 pub mod Readings
