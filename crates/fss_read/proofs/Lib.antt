@@ -2,6 +2,7 @@ pub mod Shared
 pub mod Tables
 pub mod Prologues
 pub mod Terms
+pub mod Written
 pub mod Headers
 pub mod Bodies
 pub mod Ends
