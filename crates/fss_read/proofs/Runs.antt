@@ -1,1 +1,31 @@
--- to come
+-- What tokens in turn make of a parse.
+use Rattle.std.proofs.Common.{◌≡◌, ◌≢◌, ◌≤◌, ◌+◌, ℕ, List, [], ◌∷◌, ◌++◌, Result, Ok, Err, IfOk, IfErr, refl, sym, ap, subst, arith}
+use Rattle.owl_text.specs.declared.token.Token.{Token}
+use Rattle.owl_atom.specs.declared.prefixes.Prefix.{Prefix}
+use Rattle.fss_read.specs.Parsing.{Blocks, EndsInNothing, Parse, Passes, count_stage, prologue_tokens}
+use Rattle.fss_read.specs.declared.stage.Prologue.{Prologue}
+use Rattle.fss_read.specs.declared.stage.Prologue.TheVariants as prologue
+use Rattle.fss_read.specs.declared.stage.Stage.{Stage}
+use Rattle.fss_read.specs.declared.stage.Stage.TheVariants as stage
+use Rattle.fss_read.specs.declared.token_fault.TokenFault.{TokenFault}
+use Rattle.fss_read.specs.declared.token_fault.TokenFault.TheVariants.{Memory}
+
+pub passes_none : (old : Parse) (tokens : List Token) → Passes old tokens old tokens
+passes_none old tokens = record { all = λ more prefixes o w s. s; only = λ more prefixes o s. s }
+
+pub pass_on : (old mid new : Parse) (tokens rest : List Token) (t : Token) → Passes old tokens mid (t ∷ rest) → Passes mid (t ∷ []) new [] → Passes old tokens new rest
+pass_on old mid new tokens rest t p q = record {
+  all = λ more prefixes o w s. q.all (rest ++ more) prefixes o w (p.all more prefixes o w s);
+  only = λ more prefixes o s. p.only more prefixes o (q.only (rest ++ more) prefixes o s);
+}
+
+pub block_on : (old mid : Parse) (tokens rest : List Token) (t : Token) → Passes old tokens mid (t ∷ rest) → Blocks mid (t ∷ []) → Blocks old tokens
+block_on old mid tokens rest t p b more prefixes o w s = b (rest ++ more) prefixes o w (p.all more prefixes o w s)
+
+-- the same at a stage that was found to be one
+pub at_stage_blocks : (r : Result Stage TokenFault) (table : List Prefix) (a b : Stage) (t : Token) → a ≡ b → IfErr r (λ fault. fault ≢ Memory → Blocks (record { table = table; stage = b }) (t ∷ [])) → IfErr r (λ fault. fault ≢ Memory → Blocks (record { table = table; stage = a }) (t ∷ []))
+at_stage_blocks r table a b t e h = subst (λ (x : Stage). IfErr r (λ fault. fault ≢ Memory → Blocks (record { table = table; stage = x }) (t ∷ []))) (sym e) h
+
+pub few_none : (r : Result Stage TokenFault) (most : ℕ) → IfOk r (λ new. count_stage new ≡ 0) → IfOk r (λ new. count_stage new ≤ most)
+few_none (Ok new) most h = omega (arith, h)
+few_none (Err fault) most h = tt

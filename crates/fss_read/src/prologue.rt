@@ -6,7 +6,7 @@ ghost use Rattle.owl_atom.specs.declared.prefixes.Prefix.{Prefix};
 ghost use Rattle.owl_text.specs.Names.{IsPrefixName};
 ghost use Rattle.owl_text.specs.declared.token.Token.TheVariants as lexeme;
 ghost use Rattle.owl_text.specs.declared.token.Sign.TheVariants as mark;
-ghost use Rattle.fss_read.specs.Parsing.{Blocks, IsWellPrologue, IsWellStage, Passes};
+ghost use Rattle.fss_read.specs.Parsing.{Blocks, IsWellPrologue, IsWellStage, Passes, count_stage};
 ghost use Rattle.fss_read.specs.declared.stage.Prologue.TheVariants as prologue;
 ghost use Rattle.fss_read.specs.declared.stage.Header.TheVariants as header;
 ghost use Rattle.fss_read.specs.declared.stage.Stage.TheVariants as stage;
@@ -34,6 +34,7 @@ pub fn in_prologue(
     ensures passes { IfOk result (λ new. Passes (record { table = prefixes.old; stage = stage.Prologue part }) (token ∷ []) (record { table = prefixes.new; stage = new }) []) }
     ensures blocks { IfErr result (λ fault. fault ≢ TokenFault.Memory → Blocks (record { table = prefixes.old; stage = stage.Prologue part }) (token ∷ [])) }
     ensures well { IfOk result (λ new. IsWellStage prefixes.new new) }
+    ensures none { IfOk result (λ new. count_stage new ≡ 0) }
 {
     match part {
         Prologue::Between => keyword(&token),
@@ -51,6 +52,7 @@ fn keyword(token: &Token) -> Result<Stage, TokenFault>
     ensures passes { (table : List Prefix) → IfOk result (λ new. Passes (record { table = table; stage = stage.Prologue prologue.Between }) (token.now ∷ []) (record { table = table; stage = new }) []) }
     ensures blocks { (table : List Prefix) → IfErr result (λ fault. Blocks (record { table = table; stage = stage.Prologue prologue.Between }) (token.now ∷ [])) }
     ensures well { (table : List Prefix) → IfOk result (IsWellStage table) }
+    ensures none { IfOk result (λ new. count_stage new ≡ 0) }
 {
     if is_word(token, "Prefix") {
         Ok(Stage::Prologue(Prologue::Prefix))
@@ -79,6 +81,7 @@ fn named(prefixes: &Prefixes, token: Token) -> Result<Stage, TokenFault>
     ensures passes { IfOk result (λ new. Passes (record { table = prefixes.now; stage = stage.Prologue prologue.Bracket }) (token ∷ []) (record { table = prefixes.now; stage = new }) []) }
     ensures blocks { IfErr result (λ fault. Blocks (record { table = prefixes.now; stage = stage.Prologue prologue.Bracket }) (token ∷ [])) }
     ensures well { IfOk result (IsWellStage prefixes.now) }
+    ensures none { IfOk result (λ new. count_stage new ≡ 0) }
 {
     match prefix_name(token) {
         Some(name) => {
@@ -104,6 +107,7 @@ fn declared(
     ensures passes { IfOk result (λ new. Passes (record { table = prefixes.old; stage = stage.Prologue (prologue.Equals name.now) }) (token ∷ []) (record { table = prefixes.new; stage = new }) []) }
     ensures blocks { IfErr result (λ fault. fault ≢ TokenFault.Memory → Blocks (record { table = prefixes.old; stage = stage.Prologue (prologue.Equals name.now) }) (token ∷ [])) }
     ensures well { IfOk result (IsWellStage prefixes.new) }
+    ensures none { IfOk result (λ new. count_stage new ≡ 0) }
 {
     match full_iri(token) {
         Some(text) => {
@@ -120,6 +124,7 @@ fn opened(prefixes: &Prefixes, token: &Token) -> Result<Stage, TokenFault>
     ensures passes { IfOk result (λ new. Passes (record { table = prefixes.now; stage = stage.Prologue prologue.Ontology }) (token.now ∷ []) (record { table = prefixes.now; stage = new }) []) }
     ensures blocks { IfErr result (λ fault. Blocks (record { table = prefixes.now; stage = stage.Prologue prologue.Ontology }) (token.now ∷ [])) }
     ensures well { IfOk result (IsWellStage prefixes.now) }
+    ensures none { IfOk result (λ new. count_stage new ≡ 0) }
 {
     // A table is told by what is looked up in it.
     prefixes.len();
