@@ -22,7 +22,7 @@ use Rattle.owl_doc.specs.Terms.{AreTerms}
 use Rattle.fss_read.specs.Faults.{of_declaring}
 use Rattle.fss_read.specs.declared.token_fault.TokenFault.{TokenFault}
 use Rattle.fss_read.specs.declared.token_fault.TokenFault.TheVariants.{Memory}
-use Rattle.fss_read.specs.Parsing.{Blocks, IsDeclarableIn, Makes, MakesOne, Parse, Passes, SpellsBehind, SpellsHeaded, prologue_tokens}
+use Rattle.fss_read.specs.Parsing.{Blocks, EndsInNothing, IsDeclarableIn, Makes, MakesOne, Parse, Passes, SpellsBehind, SpellsHeaded, prologue_tokens}
 use Rattle.fss_read.specs.declared.stage.Header.{Header}
 use Rattle.fss_read.specs.declared.stage.Header.TheVariants as header
 use Rattle.fss_read.specs.declared.stage.Prologue.{Prologue}
@@ -307,3 +307,33 @@ head_passes table t is_table e = record {
   all = λ more prefixes o w s. headed_at table prefixes o t more s.declarations s refl is_table;
   only = λ more prefixes o s. subst (λ (x : Token). SpellsBehind table prefixes o (token.Word (codes "Ontology") ∷ x ∷ more)) (sym e) (headed_only table prefixes o more is_table s.0 s.1);
 }
+
+-- a prologue is no document
+
+nothing_at : (table prefixes : List Prefix) (o : Ontology) (ds : List PrefixDeclaration) (s : SpellsBehind table prefixes o []) → s.declarations ≡ ds → ⊥
+nothing_at table prefixes o [] s e =
+    let parts : [] ≡ s.body = s.parts ∙ ap (λ (x : List PrefixDeclaration). flat_map declaration_tokens x ++ s.body) e in
+    let a = s.terms.1 in
+    cc
+nothing_at table prefixes o (d ∷ ds) s e =
+    let parts : [] ≡ flat_map declaration_tokens (d ∷ ds) ++ s.body = s.parts ∙ ap (λ (x : List PrefixDeclaration). flat_map declaration_tokens x ++ s.body) e in
+    cc
+
+word_at : (table prefixes : List Prefix) (o : Ontology) (ds : List PrefixDeclaration) (s : SpellsBehind table prefixes o (token.Word (codes "Ontology") ∷ [])) → s.declarations ≡ ds → ⊥
+word_at table prefixes o [] s e =
+    let parts : token.Word (codes "Ontology") ∷ [] ≡ s.body = s.parts ∙ ap (λ (x : List PrefixDeclaration). flat_map declaration_tokens x ++ s.body) e in
+    let a = s.terms.1 in
+    let b = s.terms.2.1 in
+    cc
+word_at table prefixes o (d ∷ ds) s e =
+    let parts : token.Word (codes "Ontology") ∷ [] ≡ flat_map declaration_tokens (d ∷ ds) ++ s.body = s.parts ∙ ap (λ (x : List PrefixDeclaration). flat_map declaration_tokens x ++ s.body) e in
+    two_words (cc)
+
+pub prologue_stops : (table : List Prefix) (part : Prologue) → EndsInNothing (at_part table part)
+prologue_stops table prologue.Between prefixes o w s = nothing_at table prefixes o s.declarations s refl
+prologue_stops table prologue.Prefix prefixes o w s = let d = declares table prefixes o [] s in let e = d.parts in cc
+prologue_stops table prologue.Bracket prefixes o w s = let d = declares table prefixes o (token.Sign sign.Open ∷ []) s in let e = d.parts in cc
+prologue_stops table (prologue.Name name) prefixes o w s = let d = declares table prefixes o (token.Sign sign.Open ∷ token.Name name [] ∷ []) s in let e = d.parts in cc
+prologue_stops table (prologue.Equals name) prefixes o w s = let d = declares table prefixes o (token.Sign sign.Open ∷ token.Name name [] ∷ token.Sign sign.Equals ∷ []) s in let e = d.parts in cc
+prologue_stops table prologue.Value prefixes o w s = let e = s.1 in cc
+prologue_stops table prologue.Ontology prefixes o w s = word_at table prefixes o s.declarations s refl

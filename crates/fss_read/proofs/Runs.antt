@@ -2,6 +2,7 @@
 use Rattle.std.proofs.Common.{◌≡◌, ◌≢◌, ◌≤◌, ◌+◌, ℕ, List, [], ◌∷◌, ◌++◌, Result, Ok, Err, IfOk, IfErr, refl, sym, ap, subst, arith}
 use Rattle.owl_text.specs.declared.token.Token.{Token}
 use Rattle.owl_atom.specs.declared.prefixes.Prefix.{Prefix}
+use Rattle.owl_doc.specs.Documents.{Document}
 use Rattle.fss_read.specs.Parsing.{Blocks, EndsInNothing, Parse, Passes, count_stage, prologue_tokens}
 use Rattle.fss_read.specs.declared.stage.Prologue.{Prologue}
 use Rattle.fss_read.specs.declared.stage.Prologue.TheVariants as prologue
@@ -29,3 +30,9 @@ at_stage_blocks r table a b t e h = subst (λ (x : Stage). IfErr r (λ fault. fa
 pub few_none : (r : Result Stage TokenFault) (most : ℕ) → IfOk r (λ new. count_stage new ≡ 0) → IfOk r (λ new. count_stage new ≤ most)
 few_none (Ok new) most h = omega (arith, h)
 few_none (Err fault) most h = tt
+
+pub at_stage_none : (table : List Prefix) (a b : Stage) → a ≡ b → EndsInNothing (record { table = table; stage = b }) → EndsInNothing (record { table = table; stage = a })
+at_stage_none table a b e h = subst (λ (x : Stage). EndsInNothing (record { table = table; stage = x })) (sym e) h
+
+pub at_stage_errs : (r : Result Document TokenFault) (table : List Prefix) (a b : Stage) → a ≡ b → IfErr r (λ fault. fault ≢ Memory → EndsInNothing (record { table = table; stage = b })) → IfErr r (λ fault. fault ≢ Memory → EndsInNothing (record { table = table; stage = a }))
+at_stage_errs r table a b e h = subst (λ (x : Stage). IfErr r (λ fault. fault ≢ Memory → EndsInNothing (record { table = table; stage = x }))) (sym e) h

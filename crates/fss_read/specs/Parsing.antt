@@ -240,3 +240,11 @@ pub record EndsAs (parse : Parse) (d : Document) : Type 0 where
 -- no document within the limits comes of what was read, where nothing follows
 abbrev pub EndsInNothing : Parse → Type 0
 EndsInNothing parse = (prefixes : List Prefix) (o : Ontology) → IsWithinLimits o → Takes parse [] prefixes o → ⊥
+
+-- the same of tokens behind which nothing follows
+pub record EndsWith (parse : Parse) (tokens : List Token) (d : Document) : Type 0 where
+  pub all : (prefixes : List Prefix) (o : Ontology) → IsWithinLimits o → Takes parse tokens prefixes o → (prefixes ≡ d.prefixes) × IsSameOntology (ontology_of d) o
+  pub only : (o : Ontology) → IsSameOntology (ontology_of d) o → Takes parse tokens d.prefixes o
+
+abbrev pub EndsInNothingWith : Parse → List Token → Type 0
+EndsInNothingWith parse tokens = (prefixes : List Prefix) (o : Ontology) → IsWithinLimits o → Takes parse tokens prefixes o → ⊥

@@ -1,18 +1,21 @@
 //! Reads a document whose bytes come in pieces.
 
-ghost use Rattle.std.specs.Prelude.{◌≡◌, ◌≢◌, ◌+◌, ◌^◌, ◌<◌, ◌≤◌, List, [], length, None, Some, Err, IfOk, OnOk, IsErr, IsErrOf, IsOk, IfErr};
+ghost use Rattle.std.specs.Prelude.{◌≡◌, ◌≢◌, ◌+◌, ◌*◌, ◌^◌, ◌<◌, ◌≤◌, List, [], length, None, Some, Err, IfOk, OnOk, IsErr, IsErrOf, IsOk, IfErr};
 ghost use Rattle.owl_atom.specs.declared.prefixes.Prefix.{Prefix};
 ghost use Rattle.owl_tree.specs.Ontologies.{IsSameOntology, Ontology};
 ghost use Rattle.owl_doc.specs.Documents.{ontology_of};
 ghost use Rattle.owl_doc.specs.Functional.{IsWithinLimits};
-ghost use Rattle.fss_read.specs.Parsing.{parse_of};
+ghost use Rattle.owl_doc.specs.Terms.{tokens_of};
+ghost use Rattle.owl_text.specs.Lexing.{AreTokens};
+ghost use Rattle.owl_text.specs.declared.fault.LexFault.{LexFault};
+ghost use Rattle.fss_read.specs.Parsing.{EndsInNothingWith, EndsWith, IsWell, count_of, parse_of};
 ghost use Rattle.fss_read.specs.Reading.{Awaits, AwaitsAt, EndsInNone, IsOpen, IsRefused, LeadTo, Leads, Refuses, Starts};
 ghost use Rattle.fss_read.specs.declared.fault.ReadFault.{ReadFault};
 
 use crate::fault::ReadFault;
 use crate::parser::Parser;
 use owl_doc::Doc;
-use owl_text::{Dialect, LexFault, Lexer, NoMemory};
+use owl_text::{Dialect, LexFault, Lexer, NoMemory, Placed};
 use std::alloc::Global;
 use std::marker::Model;
 
@@ -165,11 +168,35 @@ fn take(
     let mut tokens = Vec::new(alloc);
     match lexer.feed(piece, &mut tokens) {
         Ok(()) => parser.take_all(tokens),
-        Err(LexFault::Memory) => Err(ReadFault::Memory),
-        Err(fault) => {
-            parser.take_all(tokens)?;
-            Err(parser.refusal(fault))
-        }
+        Err(fault) => Err(refused(parser, tokens, fault)),
+    }
+}
+
+/// The refusal where the bytes behind these tokens are none. A token may be refused before.
+fn refused(parser: &mut Parser, tokens: Vec<Placed>, fault: LexFault) -> ReadFault
+    requires well { IsWell (parse_of parser.old) }
+    requires room { fault ≢ LexFault.Memory → count_of (parse_of parser.old) + 2 * length tokens.items ≤ 2 ^ 28 }
+    requires tokens { AreTokens tokens.items }
+    ensures memory { fault ≡ LexFault.Memory → result ≡ ReadFault.Memory }
+    ensures short { result ≢ ReadFault.TooLong }
+{
+    match fault {
+        LexFault::BadUtf8 { at: _ } => first_of(parser, tokens, fault),
+        LexFault::BadToken { at: _ } => first_of(parser, tokens, fault),
+        LexFault::Memory => ReadFault::Memory,
+    }
+}
+
+/// The refusal of a token, or else of what stands behind all of them.
+fn first_of(parser: &mut Parser, tokens: Vec<Placed>, fault: LexFault) -> ReadFault
+    requires well { IsWell (parse_of parser.old) }
+    requires room { count_of (parse_of parser.old) + 2 * length tokens.items ≤ 2 ^ 28 }
+    requires tokens { AreTokens tokens.items }
+    ensures { result ≢ ReadFault.TooLong }
+{
+    match parser.take_all(tokens) {
+        Ok(()) => parser.refusal(fault),
+        Err(refusal) => refusal,
     }
 }
 
@@ -188,21 +215,31 @@ fn ended(
     ensures short { IfErr result (λ fault. fault ≢ ReadFault.TooLong) }
 {
     let mut lexer = lexer;
-    let mut parser = parser;
     let mut tokens = Vec::new(alloc);
     match lexer.finish(&mut tokens) {
-        Ok(()) => {
-            parser.take_all(tokens)?;
-            let doc = parser.finish(fed)?;
-            hold_limits(&doc);
-            Ok(doc)
-        }
-        Err(LexFault::Memory) => Err(ReadFault::Memory),
+        Ok(()) => end_of(parser, tokens, fed),
         Err(fault) => {
-            parser.take_all(tokens)?;
-            Err(parser.refusal(fault))
+            let mut parser = parser;
+            Err(refused(&mut parser, tokens, fault))
         }
     }
+}
+
+/// The document that these are the last tokens of.
+fn end_of(parser: Parser, tokens: Vec<Placed>, fed: u64) -> Result<Doc, ReadFault>
+    requires well { IsWell (parse_of parser) }
+    requires room { count_of (parse_of parser) + 2 * length tokens.items ≤ 2 ^ 28 }
+    requires tokens { AreTokens tokens.items }
+    ensures ok { IfOk result (EndsWith (parse_of parser) (tokens_of tokens.items)) }
+    ensures within { IfOk result (λ doc. IsWithinLimits (ontology_of doc)) }
+    ensures none { IfErr result (λ fault. fault ≢ ReadFault.Memory → EndsInNothingWith (parse_of parser) (tokens_of tokens.items)) }
+    ensures short { IfErr result (λ fault. fault ≢ ReadFault.TooLong) }
+{
+    let mut parser = parser;
+    parser.take_all(tokens)?;
+    let doc = parser.finish(fed)?;
+    hold_limits(&doc);
+    Ok(doc)
 }
 
 /// A law: no tree of a document is too deep, and together they are not too heavy.
