@@ -8,4 +8,5 @@ pub mod Bodies
 pub mod Ends
 pub mod Runs
 pub mod Numbers
+pub mod Few
 pub mod Readings

@@ -1,5 +1,5 @@
 -- What bytes make of a reader.
-use Rattle.std.proofs.Common.{◌≡◌, ◌≢◌, ◌≤◌, ◌<◌, ◌+◌, ◌*◌, ◌^◌, ℕ, Option, None, Some, List, [], ◌∷◌, ◌++◌, length, take, refl, sym, ap, ◌∙◌, subst, arith}
+use Rattle.std.proofs.Common.{◌≡◌, ◌≢◌, ◌≤◌, ◌<◌, ◌+◌, ◌*◌, ◌^◌, ℕ, Option, None, Some, List, [], ◌∷◌, ◌++◌, length, Result, Ok, Err, IfErr, OnOk, refl, sym, ap, ◌∙◌, subst, arith}
 use Rattle.std.specs.List.{AllByRecursion}
 use Rattle.std.proofs.lemmas.List.{append-nil, length-append}
 use Rattle.owl_text.specs.Lexing.{Adds, AddsLast, Begun, Continues, EndsAt}
@@ -19,6 +19,8 @@ use Rattle.owl_doc.specs.Functional.{IsWithinLimits, longest}
 use Rattle.owl_doc.specs.Terms.{tokens_of}
 use Rattle.fss_read.specs.Parsing.{Blocks, EndsAs, EndsInNothing, EndsInNothingWith, EndsWith, Parse, Passes, Takes}
 use Rattle.fss_read.specs.Reading.{AwaitsAt, IsRefused, LeadTo}
+use Rattle.fss_read.specs.declared.fault.ReadFault.{ReadFault}
+use Rattle.fss_read.specs.declared.fault.ReadFault.TheVariants.{Memory}
 
 tokens_of-append : (ps qs : List Placed) → tokens_of (ps ++ qs) ≡ tokens_of ps ++ tokens_of qs
 tokens_of-append [] qs = refl
@@ -65,6 +67,14 @@ module _ (begun later : Begun) (old : Parse) (fed : ℕ) (bytes : List ℕ) (bef
 
   pub tokens_refused : Blocks old (tokens_of after) → IsRefused begun old fed bytes
   tokens_refused b more prefixes o a = let r = rest_of more prefixes o a in b (tokens_of r.placed) prefixes o a.within r.takes
+
+pub leads_on : (r : Result (Unit {0}) ReadFault) (begun later : Begun) (old new : Parse) (fed : ℕ) (bytes : List ℕ) (before after : List Placed) → before ≡ [] → Adds begun bytes before after later → OnOk r (Passes old (tokens_of after) new []) → OnOk r (LeadTo begun old fed bytes later new)
+leads_on (Ok done) begun later old new fed bytes before after nothing adds p = leads begun later old fed bytes before after nothing adds new p
+leads_on (Err fault) begun later old new fed bytes before after nothing adds p = tt
+
+pub refused_on : (r : Result (Unit {0}) ReadFault) (begun later : Begun) (old : Parse) (fed : ℕ) (bytes : List ℕ) (before after : List Placed) → before ≡ [] → Adds begun bytes before after later → IfErr r (λ fault. fault ≢ Memory → Blocks old (tokens_of after)) → IfErr r (λ fault. fault ≢ Memory → IsRefused begun old fed bytes)
+refused_on (Ok done) begun later old fed bytes before after nothing adds b = tt
+refused_on (Err fault) begun later old fed bytes before after nothing adds b = λ no_memory. tokens_refused begun later old fed bytes before after nothing adds (b no_memory)
 
 -- bytes that are no tokens
 

@@ -18,3 +18,7 @@ ok_later (Err e) P Q k h = tt
 -- a test that failed
 pub not_so : {A : Type 0} (b : Bool) → (A → b ≡ true) → b ≡ false → A → ⊥
 not_so b h k a = let e = h a in cc
+
+pub both_ok : {T E : Type 0} (r : Result T E) (P Q R : T → Type 0) → ((x : T) → P x → Q x → R x) → IfOk r P → IfOk r Q → IfOk r R
+both_ok (Ok x) P Q R k p q = k x p q
+both_ok (Err e) P Q R k p q = tt

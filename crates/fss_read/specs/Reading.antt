@@ -55,6 +55,9 @@ pub record LeadTo (begun : Begun) (parse : Parse) (fed : ℕ) (bytes : List ℕ)
 abbrev pub IsRefused : Begun → Parse → ℕ → List ℕ → Type 0
 IsRefused begun parse fed bytes = (more : List ℕ) (prefixes : List Prefix) (o : Ontology) → AwaitsAt begun parse fed (bytes ++ more) prefixes o → ⊥
 
+abbrev pub IsNone : Begun → Parse → ℕ → Type 0
+IsNone begun parse fed = (prefixes : List Prefix) (o : Ontology) → AwaitsAt begun parse fed [] prefixes o → ⊥
+
 -- what a reader keeps that has not refused
 pub record IsOpen (lexer : Lexing) (parse : Parse) (fed : ℕ) : Type 0 where
   pub lexer_open : lexer.refused ≡ None

@@ -9,7 +9,7 @@ ghost use Rattle.owl_doc.specs.Terms.{tokens_of};
 ghost use Rattle.owl_text.specs.Lexing.{AreTokens};
 ghost use Rattle.owl_text.specs.declared.fault.LexFault.{LexFault};
 ghost use Rattle.fss_read.specs.Parsing.{EndsInNothingWith, EndsWith, IsWell, count_of, parse_of};
-ghost use Rattle.fss_read.specs.Reading.{Awaits, AwaitsAt, EndsInNone, IsOpen, IsRefused, LeadTo, Leads, Refuses, Starts};
+ghost use Rattle.fss_read.specs.Reading.{Awaits, AwaitsAt, EndsInNone, IsOpen, IsNone, IsRefused, LeadTo, Leads, Refuses, Starts};
 ghost use Rattle.fss_read.specs.declared.fault.ReadFault.{ReadFault};
 
 use crate::fault::ReadFault;
@@ -211,7 +211,7 @@ fn ended(
     requires within { fed ≤ 2 ^ 27 }
     ensures ok { IfOk result (λ doc. AwaitsAt lexer.begun (parse_of parser) fed [] doc.prefixes (ontology_of doc)) }
     ensures only { IfOk result (λ doc. (prefixes : List Prefix) (o : Ontology) → AwaitsAt lexer.begun (parse_of parser) fed [] prefixes o → (prefixes ≡ doc.prefixes) × IsSameOntology o (ontology_of doc)) }
-    ensures refusal { IfErr result (λ fault. fault ≢ ReadFault.Memory → IsRefused lexer.begun (parse_of parser) fed []) }
+    ensures refusal { IfErr result (λ fault. fault ≢ ReadFault.Memory → IsNone lexer.begun (parse_of parser) fed) }
     ensures short { IfErr result (λ fault. fault ≢ ReadFault.TooLong) }
 {
     let mut lexer = lexer;
