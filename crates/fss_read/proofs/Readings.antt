@@ -1,5 +1,5 @@
 -- What bytes make of a reader.
-use Rattle.std.proofs.Common.{◌≡◌, ◌≢◌, ◌≤◌, ◌<◌, ◌+◌, ◌*◌, ◌^◌, ℕ, Option, None, Some, List, [], ◌∷◌, ◌++◌, length, Result, Ok, Err, IfErr, OnOk, refl, sym, ap, ◌∙◌, subst, arith}
+use Rattle.std.proofs.Common.{◌≡◌, ◌≢◌, ◌≤◌, ◌<◌, ◌+◌, ◌*◌, ◌^◌, ℕ, true, Option, None, Some, List, [], ◌∷◌, ◌++◌, length, Result, Ok, Err, IfErr, OnOk, refl, sym, ap, ◌∙◌, subst, arith}
 use Rattle.std.specs.List.{AllByRecursion}
 use Rattle.std.proofs.lemmas.List.{append-nil, length-append}
 use Rattle.owl_text.specs.Lexing.{Adds, AddsLast, Begun, Continues, EndsAt}
@@ -17,8 +17,9 @@ use Rattle.owl_tree.specs.Trees.{Tree, depth}
 use Rattle.owl_doc.specs.Documents.{Document, IsDocument, ontology_of}
 use Rattle.owl_doc.specs.Functional.{IsWithinLimits, longest}
 use Rattle.owl_doc.specs.Terms.{tokens_of}
-use Rattle.fss_read.specs.Parsing.{Blocks, EndsAs, EndsInNothing, EndsInNothingWith, EndsWith, Parse, Passes, Takes}
-use Rattle.fss_read.specs.Reading.{AwaitsAt, IsRefused, LeadTo}
+use Rattle.fss_read.specs.Parsing.{Blocks, EndsAs, EndsInNothing, EndsInNothingWith, EndsWith, Parse, Passes, Takes, start}
+use Rattle.fss_read.specs.Reading.{AwaitsAt, IsRefused, LeadTo, Reading, Starts}
+use Rattle.fss_read.proofs.Tables.{declarable_all, makes_all, table_all}
 use Rattle.fss_read.specs.declared.fault.ReadFault.{ReadFault}
 use Rattle.fss_read.specs.declared.fault.ReadFault.TheVariants.{Memory}
 
@@ -143,3 +144,56 @@ pub limits : (d : Document) (trees : List Tree) → trees ≡ d.arena.trees → 
 limits d trees e shared h =
     let s : AreShared d.arena.trees = subst AreShared e shared in
     record { annotations = depths d.arena.trees d.notes s h.notes; axioms = depths d.arena.trees d.axioms s h.axioms; weight = h.weight }
+
+-- the beginning
+
+abbrev nothing_begun : Begun
+nothing_begun = record { at = 0; held = []; fresh = true }
+
+abbrev fresh_reading : Begun → Parse → Option ReadFault → Reading
+fresh_reading begun parse refused = record { begun = begun; parse = parse; fed = 0; refused = refused }
+
+starts_fresh : (refused : Option ReadFault) → Starts (fresh_reading nothing_begun start refused)
+starts_fresh refused = record {
+  all = λ bytes prefixes o r.
+      let s = r.spells in
+      record {
+        placed = r.placed;
+        few = omega (arith, r.few);
+        continues = r.splits;
+        takes = record {
+          declarations = s.declarations;
+          body = s.body;
+          written = s.written;
+          parts = s.parts;
+          makes = makes_all s.declarations prefixes s.declarable s.table;
+          terms = s.terms;
+          is_written = s.is_written;
+          same = s.same;
+        };
+        within = r.within;
+      };
+  only = λ bytes prefixes o a.
+      let s = a.takes in
+      record {
+        placed = a.placed;
+        few = omega (arith, a.few);
+        splits = a.continues;
+        spells = record {
+          declarations = s.declarations;
+          body = s.body;
+          written = s.written;
+          parts = s.parts;
+          declarable = declarable_all s.declarations prefixes s.makes;
+          table = table_all s.declarations prefixes s.makes;
+          terms = s.terms;
+          is_written = s.is_written;
+          same = s.same;
+        };
+        within = a.within;
+      };
+}
+
+pub starts_reading : (begun : Begun) (parse : Parse) (refused : Option ReadFault) → begun ≡ nothing_begun → parse ≡ start → Starts (fresh_reading begun parse refused)
+starts_reading begun parse refused e f =
+    subst (λ (x : Begun). Starts (fresh_reading x parse refused)) (sym e) (subst (λ (x : Parse). Starts (fresh_reading nothing_begun x refused)) (sym f) (starts_fresh refused))
