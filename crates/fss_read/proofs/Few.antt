@@ -1,10 +1,10 @@
 -- Bytes are no more tokens than there are bytes.
-use Rattle.std.proofs.Common.{◌≡◌, ◌≤◌, ◌+◌, ◌*◌, ◌^◌, ℕ, Bool, true, false, Option, Some, None, List, [], ◌∷◌, ◌++◌, length, refl, sym, ap, ◌∙◌, subst, arith}
+use Rattle.std.proofs.Common.{◌≡◌, ◌≤◌, ◌+◌, ◌*◌, ◌^◌, ℕ, Bool, true, false, Option, Some, List, [], ◌∷◌, ◌++◌, length, refl, ap, ◌∙◌, arith}
 use Rattle.std.specs.Str.{encode_utf8_all}
-use Rattle.std.proofs.lemmas.List.{append-nil, length-append}
+use Rattle.std.proofs.lemmas.List.{length-append}
 use Rattle.std.proofs.lemmas.Str.{length-le-encodes}
 use Rattle.owl_text.specs.Lexing.{AddsLast, Begun, Continues, EndsAt, SplitsBehind}
-use Rattle.owl_text.specs.Tokens.{Begins, Splits, SplitsAt, SplitsFrom, behind_mark, is_mark}
+use Rattle.owl_text.specs.Tokens.{Begins, SplitsFrom, behind_mark, is_mark}
 use Rattle.owl_text.specs.Utf8.{Decodes}
 use Rattle.owl_text.specs.declared.fault.LexFault.{LexFault}
 use Rattle.owl_text.specs.declared.token.Placed.{Placed}

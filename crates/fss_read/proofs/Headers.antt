@@ -1,26 +1,23 @@
 -- What each token makes of a header.
-use Rattle.std.proofs.Common.{◌≡◌, ◌≢◌, ◌↔◌, ℕ, Bool, true, false, Option, Some, None, List, [], ◌∷◌, ◌++◌, refl, sym, ap, ◌∙◌, subst}
+use Rattle.std.proofs.Common.{◌≡◌, ◌↔◌, ℕ, Bool, true, false, Option, Some, None, List, [], ◌∷◌, ◌++◌, refl, sym, ap, ◌∙◌, subst}
 use Rattle.std.specs.Prelude.{map, not}
 use Rattle.std.specs.List.{AllByRecursion}
 use Rattle.owl_text.specs.declared.token.Token.{Token}
 use Rattle.owl_text.specs.declared.token.Token.TheVariants as token
 use Rattle.owl_atom.specs.declared.prefixes.Prefix.{Prefix}
 use Rattle.owl_tree.specs.Ontologies.{Ontology, OntologyName}
-use Rattle.owl_tree.specs.declared.atom.Atom.TheVariants as atom
 use Rattle.owl_doc.specs.Functional.{body_terms, iri_term, name_terms, version_terms}
 use Rattle.owl_doc.specs.Terms.{AreTerms, iri_of_token}
 use Rattle.owl_doc.specs.declared.term.Term.{Term}
-use Rattle.owl_doc.specs.declared.term.Term.TheVariants as term
 use Rattle.fss_read.specs.Bodies.{Body, Completes, IsBodyOf}
-use Rattle.fss_read.specs.Parsing.{Blocks, EndsInNothing, FitsLeaf, Parse, Passes, SpellsBody, SpellsHeaded, ends_header, header_iris, header_name, is_iri_token}
+use Rattle.fss_read.specs.Parsing.{Blocks, EndsInNothing, FitsLeaf, Passes, SpellsBody, SpellsHeaded, ends_header, header_iris, header_name, is_iri_token}
 use Rattle.fss_read.specs.declared.stage.Header.{Header}
 use Rattle.fss_read.specs.declared.stage.Header.TheVariants as header
 use Rattle.fss_read.specs.declared.stage.Held.TheVariants as held
 use Rattle.fss_read.specs.declared.stage.Stage.{Stage}
-use Rattle.fss_read.specs.declared.stage.Stage.TheVariants as stage
 use Rattle.fss_read.proofs.Ends.{at_body, no_terms}
 use Rattle.fss_read.proofs.Prologues.{at_header}
-use Rattle.fss_read.proofs.Terms.{iri_no_string, iri_term_of, no_name, single, single_only, term_of}
+use Rattle.fss_read.proofs.Terms.{iri_no_string, iri_term_of, no_name, single, single_only}
 use Rattle.fss_read.proofs.Written.{BeginsWithIri, body_first, fit_body, no_body}
 
 -- one more IRI

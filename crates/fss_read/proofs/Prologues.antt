@@ -22,7 +22,7 @@ use Rattle.owl_doc.specs.Terms.{AreTerms}
 use Rattle.fss_read.specs.Faults.{of_declaring}
 use Rattle.fss_read.specs.declared.token_fault.TokenFault.{TokenFault}
 use Rattle.fss_read.specs.declared.token_fault.TokenFault.TheVariants.{Memory}
-use Rattle.fss_read.specs.Parsing.{Blocks, EndsInNothing, IsDeclarableIn, Makes, MakesOne, Parse, Passes, SpellsBehind, SpellsHeaded, prologue_tokens}
+use Rattle.fss_read.specs.Parsing.{Blocks, EndsInNothing, IsDeclarableIn, Makes, MakesOne, Parse, Passes, SpellsBehind, SpellsHeaded}
 use Rattle.fss_read.specs.declared.stage.Header.{Header}
 use Rattle.fss_read.specs.declared.stage.Header.TheVariants as header
 use Rattle.fss_read.specs.declared.stage.Prologue.{Prologue}
@@ -32,7 +32,6 @@ use Rattle.fss_read.specs.declared.stage.Stage.TheVariants as stage
 use Rattle.fss_read.proofs.Tables.{makes_before, makes_later, makes_nothing, makes_same}
 
 -- words
-
 
 no_both : (b : Bool) → b ≡ true → b ≡ false → ⊥
 no_both b h k = cc
@@ -251,8 +250,8 @@ declared_passes old new name key iri text t is same n tok d =
     value_passes old new name iri t full (makes_one old new name iri n i (subst (λ (x : List ℕ). Declared old name x iri new) d.same d))
 
 pub declare_blocks : (old : List Prefix) (name key iri text : List ℕ) (t : Token) (fault : DeclareFault) → t ≡ token.Iri text → iri ≡ text → key ≡ name
-  → (fault ≡ declare.PrefixTwice → is_declared old key ≡ true) → (fault ≡ declare.PrefixFixed → (is_declared old key ≡ false) × (is_fixed old key ≡ true) × (iri_of fixed_prefixes key ≢ Some iri))
-  → (told : TokenFault) → told ≡ of_declaring fault → told ≢ Memory → Blocks (at_part old (prologue.Equals name)) (t ∷ [])
+    → (fault ≡ declare.PrefixTwice → is_declared old key ≡ true) → (fault ≡ declare.PrefixFixed → (is_declared old key ≡ false) × (is_fixed old key ≡ true) × (iri_of fixed_prefixes key ≢ Some iri))
+    → (told : TokenFault) → told ≡ of_declaring fault → told ≢ Memory → Blocks (at_part old (prologue.Equals name)) (t ∷ [])
 declare_blocks old name key iri text t declare.PrefixTwice is same e twice fixed told told_is no_memory more prefixes o w s =
     let d = declares old prefixes o (token.Sign sign.Open ∷ token.Name name [] ∷ token.Sign sign.Equals ∷ t ∷ more) s in
     let p = d.parts in
@@ -280,12 +279,14 @@ headed_at table prefixes o t more [] s e is_table =
     let rest : s.terms.2.0 ≡ more = cc in
     let same = makes_same table prefixes is_table (subst (λ (x : List PrefixDeclaration). Makes table x prefixes) e s.makes) in
     let terms : List Term = name_terms s.written.head.name ++ body_terms s.written in
-    let are : AreTerms prefixes more terms = subst (λ (x : List Token). AreTerms prefixes x terms) rest s.terms.2.2 in
-    (same, record {
-      terms = terms;
-      are = subst (λ (x : List Prefix). AreTerms x more terms) same are;
-      behind = record { written = s.written; parts = refl; is_written = s.is_written; same = s.same };
-    })
+    let are : AreTerms prefixes more terms = subst (λ (x : List Token). AreTerms prefixes x terms) rest s.terms.2.2 in (
+      same,
+      record {
+        terms = terms;
+        are = subst (λ (x : List Prefix). AreTerms x more terms) same are;
+        behind = record { written = s.written; parts = refl; is_written = s.is_written; same = s.same };
+      },
+    )
 headed_at table prefixes o t more (d ∷ ds) s e is_table =
     let parts : token.Word (codes "Ontology") ∷ t ∷ more ≡ flat_map declaration_tokens (d ∷ ds) ++ s.body = s.parts ∙ ap (λ (x : List PrefixDeclaration). flat_map declaration_tokens x ++ s.body) e in
     absurd (two_words (cc))

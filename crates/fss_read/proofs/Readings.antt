@@ -1,5 +1,5 @@
 -- What bytes make of a reader.
-use Rattle.std.proofs.Common.{◌≡◌, ◌≢◌, ◌≤◌, ◌<◌, ◌+◌, ◌*◌, ◌^◌, ℕ, true, Option, None, Some, List, [], ◌∷◌, ◌++◌, length, Result, Ok, Err, IfErr, OnOk, refl, sym, ap, ◌∙◌, subst, arith}
+use Rattle.std.proofs.Common.{◌≡◌, ◌≢◌, ◌≤◌, ◌<◌, ◌+◌, ◌^◌, ℕ, true, Option, None, Some, List, [], ◌∷◌, ◌++◌, length, Result, Ok, Err, IfErr, OnOk, refl, sym, ap, ◌∙◌, subst, arith}
 use Rattle.std.specs.List.{AllByRecursion}
 use Rattle.std.proofs.lemmas.List.{append-nil, length-append}
 use Rattle.owl_text.specs.Lexing.{Adds, AddsLast, Begun, Continues, EndsAt}
@@ -7,7 +7,7 @@ use Rattle.owl_text.specs.declared.fault.LexFault.{LexFault}
 use Rattle.owl_text.specs.declared.token.Placed.{Placed}
 use Rattle.owl_text.specs.declared.token.Token.{Token}
 use Rattle.owl_text.proofs.OneWay.{same_continues}
-use Rattle.owl_arena.specs.Held.{AreHeld, tree_at, trees_at}
+use Rattle.owl_arena.specs.Held.{AreHeld, trees_at}
 use Rattle.owl_arena.specs.HeldLaws.{entry_at}
 use Rattle.owl_arena.specs.Shared.{AreShared, deepest}
 use Rattle.owl_atom.specs.declared.prefixes.Prefix.{Prefix}
@@ -15,7 +15,7 @@ use Rattle.owl_tree.specs.Ontologies.{IsSameOntology, Ontology}
 use Rattle.owl_tree.specs.OntologyLaws.{same_ontology_refl, same_ontology_sym}
 use Rattle.owl_tree.specs.Trees.{Tree, depth}
 use Rattle.owl_doc.specs.Documents.{Document, IsDocument, ontology_of}
-use Rattle.owl_doc.specs.Functional.{IsWithinLimits, longest}
+use Rattle.owl_doc.specs.Functional.{IsWithinLimits}
 use Rattle.owl_doc.specs.Terms.{tokens_of}
 use Rattle.fss_read.specs.Parsing.{Blocks, EndsAs, EndsInNothing, EndsInNothingWith, EndsWith, Parse, Passes, Takes, start}
 use Rattle.fss_read.specs.Reading.{AwaitsAt, IsRefused, LeadTo, Reading, Starts}

@@ -1,13 +1,10 @@
 -- What tokens in turn make of a parse.
-use Rattle.std.proofs.Common.{◌≡◌, ◌≢◌, ◌≤◌, ◌+◌, ℕ, List, [], ◌∷◌, ◌++◌, Result, Ok, Err, IfOk, IfErr, refl, sym, ap, subst, arith}
+use Rattle.std.proofs.Common.{◌≡◌, ◌≢◌, ◌≤◌, ℕ, List, [], ◌∷◌, ◌++◌, Result, Ok, Err, IfOk, IfErr, sym, subst, arith}
 use Rattle.owl_text.specs.declared.token.Token.{Token}
 use Rattle.owl_atom.specs.declared.prefixes.Prefix.{Prefix}
 use Rattle.owl_doc.specs.Documents.{Document}
-use Rattle.fss_read.specs.Parsing.{Blocks, EndsInNothing, Parse, Passes, count_stage, prologue_tokens}
-use Rattle.fss_read.specs.declared.stage.Prologue.{Prologue}
-use Rattle.fss_read.specs.declared.stage.Prologue.TheVariants as prologue
+use Rattle.fss_read.specs.Parsing.{Blocks, EndsInNothing, Parse, Passes, count_stage}
 use Rattle.fss_read.specs.declared.stage.Stage.{Stage}
-use Rattle.fss_read.specs.declared.stage.Stage.TheVariants as stage
 use Rattle.fss_read.specs.declared.token_fault.TokenFault.{TokenFault}
 use Rattle.fss_read.specs.declared.token_fault.TokenFault.TheVariants.{Memory}
 

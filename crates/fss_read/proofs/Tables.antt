@@ -1,14 +1,13 @@
 -- What declarations make of a table of prefixes.
-use Rattle.std.proofs.Common.{◌≡◌, ◌≢◌, ◌↔◌, ◌⊎◌, inl, inr, ℕ, Bool, true, false, cond, Option, Some, None, List, [], ◌∷◌, refl, sym, ap, ◌∙◌, subst}
-use Rattle.std.specs.Prelude.{map, find, unwrap_or, Contains}
+use Rattle.std.proofs.Common.{◌≡◌, ◌≢◌, inl, inr, ℕ, Bool, true, false, cond, Option, Some, None, List, [], ◌∷◌, refl, sym, ap, ◌∙◌, subst}
+use Rattle.std.specs.Prelude.{map, unwrap_or, Contains}
 use Rattle.std.specs.List.{AllByRecursion}
 use Rattle.std.specs.Option.{option_map}
 use Rattle.std.proofs.lemmas.Slice.Eq.{bytes_eq-Decides}
-use Rattle.owl_list.specs.Ascending.{AreApart}
-use Rattle.owl_list.specs.AscendingLaws.{all_from, all_in, all_later, in_cases, in_head, in_none, in_tail}
+use Rattle.owl_list.specs.AscendingLaws.{all_later, in_cases, in_head, in_none, in_tail}
 use Rattle.owl_text.specs.Order.{text_eq}
 use Rattle.owl_atom.specs.declared.prefixes.Prefix.{Prefix}
-use Rattle.owl_atom.specs.Prefixes.{IsTable, fixed_prefixes, iri_of, is_declared, is_fixed, prefix_in}
+use Rattle.owl_atom.specs.Prefixes.{IsTable, fixed_prefixes, is_declared, is_fixed, prefix_in}
 use Rattle.owl_atom.proofs.PrefixTables.{tables_are_told_by_names}
 use Rattle.owl_doc.specs.Functional.{AreDeclarable, IsDeclarable, IsTableOf, PrefixDeclaration, declaration_of, declared_prefix}
 use Rattle.fss_read.specs.Parsing.{IsDeclarableIn, Makes, MakesOne, declared_in}

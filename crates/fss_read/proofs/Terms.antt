@@ -1,19 +1,17 @@
 -- Which terms begin with a token.
-use Rattle.std.proofs.Common.{◌≡◌, ◌≢◌, ℕ, Bool, true, false, Option, Some, None, List, [], ◌∷◌, ◌++◌, refl, sym, ap, ◌∙◌, subst}
+use Rattle.std.proofs.Common.{◌≡◌, ℕ, Bool, true, false, Option, Some, None, List, [], ◌∷◌, refl, sym, ap, ◌∙◌, subst}
 use Rattle.std.specs.Option.{option_map}
 use Rattle.std.specs.Str.Parse.{digits_value}
 use Rattle.owl_text.specs.declared.token.Token.{Token}
 use Rattle.owl_text.specs.declared.token.Token.TheVariants as token
-use Rattle.owl_text.specs.declared.token.Sign.{Sign}
 use Rattle.owl_text.specs.declared.token.Sign.TheVariants as sign
 use Rattle.owl_atom.specs.declared.prefixes.Prefix.{Prefix}
 use Rattle.owl_atom.specs.Literals.{Denotes, LiteralParts}
-use Rattle.owl_tree.specs.declared.atom.Atom.{Atom}
 use Rattle.owl_tree.specs.declared.atom.Atom.TheVariants as atom
 use Rattle.owl_doc.specs.Terms.{AreTerms, BeginsLiteral, iri_of_token, plain, tagged, typed}
 use Rattle.owl_doc.specs.declared.term.Term.{Term}
 use Rattle.owl_doc.specs.declared.term.Term.TheVariants as term
-use Rattle.fss_read.specs.Parsing.{ends_string, goes_on, is_iri_token}
+use Rattle.fss_read.specs.Parsing.{ends_string, is_iri_token}
 
 abbrev pub is_string : Token → Bool
 is_string (token.Iri iri) = false

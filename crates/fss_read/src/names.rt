@@ -51,13 +51,7 @@ pub fn prefix_name(token: Token) -> Option<Text>
     ensures { MatchOption result ((name : List ℕ) → token ≡ lexeme.Name name [] → ⊥) (λ name. token ≡ lexeme.Name name []) }
 {
     match token {
-        Token::Name(name, local) => {
-            if local.is("") {
-                Some(name)
-            } else {
-                None
-            }
-        }
+        Token::Name(name, local) => { if local.is("") { Some(name) } else { None } }
         _ => None,
     }
 }

@@ -88,7 +88,13 @@ impl Reader {
         if piece.is_empty() {
             return Ok(());
         }
-        match read(self.alloc, &mut self.lexer, &mut self.parser, self.fed, piece) {
+        match read(
+            self.alloc,
+            &mut self.lexer,
+            &mut self.parser,
+            self.fed,
+            piece,
+        ) {
             Ok(()) => {
                 self.fed += piece.len() as u64;
                 Ok(())
@@ -201,12 +207,7 @@ fn first_of(parser: &mut Parser, tokens: Vec<Placed>, fault: LexFault) -> ReadFa
 }
 
 /// The document that all the bytes fed are.
-fn ended(
-    alloc: Global,
-    lexer: Lexer,
-    parser: Parser,
-    fed: u64,
-) -> Result<Doc, ReadFault>
+fn ended(alloc: Global, lexer: Lexer, parser: Parser, fed: u64) -> Result<Doc, ReadFault>
     requires open_yet { IsOpen lexer (parse_of parser) fed }
     requires within { fed ≤ 2 ^ 27 }
     ensures ok { IfOk result (λ doc. AwaitsAt lexer.begun (parse_of parser) fed [] doc.prefixes (ontology_of doc)) }

@@ -1,4 +1,4 @@
-use Rattle.std.proofs.Common.{List, [], ◌∷◌, refl, ap, Some, None, Option}
+use Rattle.std.proofs.Common.{[], ◌∷◌, refl, ap}
 use Rattle.owl_text.specs.declared.token.Sign.{Sign}
 use Rattle.owl_text.specs.declared.token.Token.TheVariants as lexeme
 use Rattle.owl_doc.specs.declared.term.Term.TheVariants as term

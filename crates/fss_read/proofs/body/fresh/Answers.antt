@@ -1,4 +1,4 @@
-use Rattle.std.proofs.Common.{[], ◌∷◌, refl, ap}
+use Rattle.std.proofs.Common.{[], ◌∷◌, ap}
 use Rattle.owl_text.specs.declared.token.Token.TheVariants as lexeme
 use Rattle.owl_doc.specs.declared.term.Term.TheVariants as term
 use Rattle.fss_read.proofs.Bodies.{at_token_blocks, given_err, given_ok, no_term_blocks, single_blocks, single_passes}

@@ -3,7 +3,6 @@ use Rattle.owl_atom.specs.declared.prefixes.Prefix.{Prefix}
 use Rattle.owl_tree.specs.declared.atom.Atom.TheVariants as atom
 use Rattle.owl_doc.specs.Terms.{iri_of_token}
 use Rattle.owl_doc.specs.declared.term.Term.TheVariants as term
-use Rattle.fss_read.specs.Faults.{of_expanding}
 use Rattle.fss_read.proofs.Bodies.{given_err, given_ok, iri_blocks, no_name_blocks, single_blocks, single_passes}
 use Rattle.fss_read.proofs.Shared.{err_with}
 use Rattle.fss_read.proofs.Terms.{iri_no_string, iri_term_of}

@@ -1,4 +1,4 @@
-use Rattle.std.proofs.Common.{◌≡◌, ◌<◌, ◌^◌, List, [], ◌∷◌, refl, sym, ap, subst, Some, arith}
+use Rattle.std.proofs.Common.{[], ◌∷◌, refl, sym, ap, Some}
 use Rattle.std.specs.Str.Parse.{digits_value}
 use Rattle.owl_text.specs.declared.token.Token.TheVariants as lexeme
 use Rattle.owl_tree.specs.declared.atom.Atom.TheVariants as atom

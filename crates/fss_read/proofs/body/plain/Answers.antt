@@ -1,4 +1,4 @@
-use Rattle.std.proofs.Common.{◌≡◌, ℕ, List, None, subst, sym, ap, ◌∙◌}
+use Rattle.std.proofs.Common.{ℕ, List, None, subst, sym, ap, ◌∙◌}
 use Rattle.owl_atom.specs.Literals.{Denotes}
 use Rattle.fss_read.specs.Faults.{of_items}
 use Rattle.fss_read.proofs.Bodies.{plain_blocks, plain_passes}

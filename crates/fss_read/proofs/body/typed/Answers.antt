@@ -1,7 +1,7 @@
-use Rattle.std.proofs.Common.{◌≡◌, ◌≢◌, ◌∙◌, ℕ, List, [], ◌∷◌, None, Some, Err, subst, sym, ap}
+use Rattle.std.proofs.Common.{◌≡◌, ◌∙◌, ℕ, List, [], ◌∷◌, None, Some, Err, subst, sym, ap}
 use Rattle.owl_text.specs.declared.token.Sign.TheVariants as mark
 use Rattle.owl_text.specs.declared.token.Token.TheVariants as lexeme
-use Rattle.owl_atom.specs.Literals.{Denotes, LiteralParts}
+use Rattle.owl_atom.specs.Literals.{Denotes}
 use Rattle.owl_atom.specs.declared.prefixes.Prefix.{Prefix}
 use Rattle.owl_tree.specs.declared.atom.Atom.TheVariants as atom
 use Rattle.owl_doc.specs.Terms.{iri_of_token}

@@ -1,4 +1,4 @@
-use Rattle.std.proofs.Common.{◌≡◌, Bool, true, false, refl, ap, sym, ◌∙◌}
+use Rattle.std.proofs.Common.{refl, ap, sym, ◌∙◌}
 use Rattle.owl_text.specs.declared.token.Token.TheVariants as lexeme
 use Rattle.owl_atom.proofs.Words.{own}
 use Rattle.fss_read.proofs.Prologues.{between_blocks, ontology_passes, prefix_passes}

@@ -1,4 +1,4 @@
-use Rattle.std.proofs.Common.{◌≡◌, true, ap, sym, ◌∙◌}
+use Rattle.std.proofs.Common.{ap, sym, ◌∙◌}
 use Rattle.owl_atom.specs.Prefixes.{is_declared}
 use Rattle.fss_read.proofs.Prologues.{bracket_blocks, twice_blocks}
 use Rattle.fss_read.proofs.prologue.named.Goals as goal
