@@ -1,2 +1,4 @@
 pub mod Bodies
+pub mod Faults
+pub mod Parsing
 pub mod Reading

@@ -1,8 +1,17 @@
 //! Reads documents in Functional-Style Syntax, in whatever pieces their bytes come.
 #![tactic(auto)]
 
+mod body;
 mod fault;
+mod header;
+mod item_fault;
+mod items;
+mod names;
+mod parser;
+mod prologue;
 mod reader;
+mod stage;
+mod token_fault;
 
 pub use fault::{ReadFault, Reason};
 pub use reader::{MOST_BYTES, Reader};
