@@ -1,5 +1,5 @@
 pub mod Shared
-pub mod Tables
+pub mod Declaring
 pub mod Prologues
 pub mod Terms
 pub mod Written

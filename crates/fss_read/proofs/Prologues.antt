@@ -29,7 +29,7 @@ use Rattle.fss_read.specs.declared.stage.Prologue.{Prologue}
 use Rattle.fss_read.specs.declared.stage.Prologue.TheVariants as prologue
 use Rattle.fss_read.specs.declared.stage.Stage.{Stage}
 use Rattle.fss_read.specs.declared.stage.Stage.TheVariants as stage
-use Rattle.fss_read.proofs.Tables.{makes_before, makes_later, makes_nothing, makes_same}
+use Rattle.fss_read.proofs.Declaring.{makes_before, makes_later, makes_nothing, makes_same}
 
 -- words
 

@@ -19,7 +19,7 @@ use Rattle.owl_doc.specs.Functional.{IsWithinLimits}
 use Rattle.owl_doc.specs.Terms.{tokens_of}
 use Rattle.fss_read.specs.Parsing.{Blocks, EndsAs, EndsInNothing, EndsInNothingWith, EndsWith, Parse, Passes, Takes, start}
 use Rattle.fss_read.specs.Reading.{AwaitsAt, IsRefused, LeadTo, Reading, Starts}
-use Rattle.fss_read.proofs.Tables.{declarable_all, makes_all, table_all}
+use Rattle.fss_read.proofs.Declaring.{declarable_all, makes_all, table_all}
 use Rattle.fss_read.specs.declared.fault.ReadFault.{ReadFault}
 use Rattle.fss_read.specs.declared.fault.ReadFault.TheVariants.{Memory}
 

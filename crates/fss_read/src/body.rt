@@ -18,6 +18,7 @@ ghost use Rattle.fss_read.specs.declared.stage.Stage.TheVariants as stage;
 ghost use Rattle.fss_read.specs.declared.token_fault.TokenFault.{TokenFault};
 
 use crate::fault::Reason;
+use crate::item_fault::ItemFault;
 use crate::items::Items;
 use crate::names::expand;
 use crate::stage::{Held, Stage};
@@ -208,9 +209,26 @@ fn name(
     ensures few { IfOk result (λ kept. count_stage (stage.Body items.new kept) ≤ items.old.trees + 2) }
     ensures prefixes { OnOk result (items.new.prefixes ≡ items.old.prefixes) }
 {
-    items.expects(AtomSort::Iri)?;
-    let iri = expand(alloc, prefixes, token)?;
-    given(items, Term::Atom(Atom::Iri(iri)))
+    match items.expects(AtomSort::Iri) {
+        Ok(()) => {
+            let iri = expand(alloc, prefixes, token)?;
+            given(items, Term::Atom(Atom::Iri(iri)))
+        }
+        Err(fault) => Err(misplaced(alloc, prefixes, token, fault)),
+    }
+}
+
+/// The refusal of an IRI that may not stand here. What is wrong with its prefix is told before a limit.
+fn misplaced(alloc: Global, prefixes: &Prefixes, token: &Token, fault: ItemFault) -> TokenFault
+    requires { IsToken token.now }
+{
+    match fault {
+        ItemFault::TooDeep => match expand(alloc, prefixes, token) {
+            Ok(_) => TokenFault::TooDeep,
+            Err(refusal) => refusal,
+        },
+        _ => TokenFault::from(fault),
+    }
 }
 
 /// A token behind a string: a language tag, the mark before a datatype, or another one, before which the literal ends.

@@ -40,6 +40,11 @@ impl Model for Reader {
 
     ghost Value = { Reading };
 
+    ghost use Rattle.std.specs.Coded.{codes};
+    ghost use Rattle.owl_tree.specs.OrderLaws.{coded_tree};
+
+    ghost coded = { Prim.hlevel (codes, coded_tree) };
+
     ghost use Rattle.std.specs.Prelude.{◌≡◌, ◌≤◌, ◌^◌, None};
     ghost use Rattle.fss_read.specs.Parsing.{parse_of};
     ghost use Rattle.fss_read.specs.Reading.{IsOpen};
