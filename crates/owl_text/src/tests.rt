@@ -243,3 +243,14 @@ fn faults_have_their_places(rt: HostRuntime) -> Result<(), Fail> {
     }
     Ok(())
 }
+
+#[test]
+fn characters_come_of_their_bytes(rt: HostRuntime) -> Result<(), Fail> {
+    let mut feed = Utf8Feed::new();
+    let first = feed.push(0xC3);
+    assert_eq!(rt; first, Utf8Step::More);
+    let last = feed.push(0xA9);
+    assert_eq!(rt; last, Utf8Step::Char { c: 'é', at: 0 });
+    assert_eq!(rt; feed.finish(), Ok(()));
+    Ok(())
+}
