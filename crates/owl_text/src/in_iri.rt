@@ -17,7 +17,6 @@ use std::alloc::Global;
 pub fn opened(alloc: Global, at: u64, c: char, into: &mut Vec<Placed>) -> Result<State, LexFault>
     ensures { Answers (seen (record { mode = Opened; at = at })) c into.old.items into.new.items result }
 {
-    let _ = into.len();
     if c.is_ascii_alphabetic() {
         Ok(State {
             mode: Mode::InScheme(text_of(alloc, c)?),
@@ -33,7 +32,6 @@ pub fn in_scheme(scheme: Text, at: u64, c: char, into: &mut Vec<Placed>) -> Resu
     requires { IsScheme scheme }
     ensures { Answers (seen (record { mode = InScheme scheme; at = at })) c into.old.items into.new.items result }
 {
-    let _ = into.len();
     let mut scheme = scheme;
     if is_scheme_character(c) {
         scheme.push(c)?;
@@ -112,7 +110,6 @@ pub fn in_str(
 pub fn in_escape(text: Text, at: u64, c: char, into: &mut Vec<Placed>) -> Result<State, LexFault>
     ensures { Answers (seen (record { mode = InEscape text; at = at })) c into.old.items into.new.items result }
 {
-    let _ = into.len();
     let mut text = text;
     if is_escaped(c) {
         text.push(c)?;

@@ -56,7 +56,6 @@ pub fn in_digits(
 pub fn at_sign(alloc: Global, at: u64, c: char, into: &mut Vec<Placed>) -> Result<State, LexFault>
     ensures { Answers (seen (record { mode = AtSign; at = at })) c into.old.items into.new.items result }
 {
-    let _ = into.len();
     if c.is_ascii_alphabetic() {
         Ok(State {
             mode: Mode::InTag(text_of(alloc, c)?),

@@ -34,7 +34,6 @@ fn last_word(
     requires here { next_of (record { mode = InWord word dots named; at = at }) ≡ place }
     ensures { LastAnswers (seen (record { mode = InWord word dots named; at = at })) into.old.items into.new.items result }
 {
-    let _ = named;
     let pending = bytes_of(&dots);
     if pending > 0 {
         return Err(give_last(into, Token::Word(word), at, place - pending));
