@@ -1,6 +1,6 @@
 -- Look-ups and edits of tables of prefixes, whose names ascend.
 use Rattle.std.proofs.Common.{◌≡◌, ◌≢◌, ◌<◌, ◌≤◌, ℕ, zero, suc, true, false, cond, List, [], ◌∷◌, length, Some, None, Result, Ok, Err, IfOk, IfErr, refl, sym, ap, ◌∙◌, subst, get_or, set, arith}
-use Rattle.std.specs.Prelude.{slice_get, insert}
+use Rattle.std.specs.Prelude.{Bool, Option, slice_get, insert}
 use Rattle.std.specs.declared.cmp.Ordering.{Ordering}
 use Rattle.std.specs.declared.cmp.Ordering.TheVariants.{Less, Equal, Greater}
 use Rattle.std.specs.FinMap.{nat_cmp-IsAntisymmetric, slice_cmp-IsAntisymmetric}
@@ -21,10 +21,10 @@ use Rattle.owl_atom.specs.Places.{IsPlaceOf, IsGapFor}
 
 -- the order of names
 
-same_names : (a b : List ℕ) → text_cmp a b ≡ Equal → a ≡ b
+pub same_names : (a b : List ℕ) → text_cmp a b ≡ Equal → a ≡ b
 same_names a b e = encodes_same a b (slice_cmp-IsAntisymmetric nat_cmp-IsAntisymmetric _ _ e)
 
-turned : (a b : List ℕ) → text_cmp a b ≡ Greater → text_cmp b a ≡ Less
+pub turned : (a b : List ℕ) → text_cmp a b ≡ Greater → text_cmp b a ≡ Less
 turned a b e = texts_total.antisymm b a ∙ ap ordering_reverse e
 
 less_differs : (a b : List ℕ) → text_cmp a b ≡ Less → a ≢ b
@@ -46,22 +46,22 @@ greater_unequal a b e = unequal a b (λ same. less_differs b a e (sym same))
 
 -- looking up past the first prefix, and at it
 
-passed : (prefix : Prefix) (others : List Prefix) (name : List ℕ) → text_eq prefix.name name ≡ false → prefix_in (prefix ∷ others) name ≡ prefix_in others name
+pub passed : (prefix : Prefix) (others : List Prefix) (name : List ℕ) → text_eq prefix.name name ≡ false → prefix_in (prefix ∷ others) name ≡ prefix_in others name
 passed prefix others name e = ap (λ b. cond b (Some prefix) (prefix_in others name)) e
 
-met : (prefix : Prefix) (others : List Prefix) (name : List ℕ) → prefix.name ≡ name → prefix_in (prefix ∷ others) name ≡ Some prefix
+pub met : (prefix : Prefix) (others : List Prefix) (name : List ℕ) → prefix.name ≡ name → prefix_in (prefix ∷ others) name ≡ Some prefix
 met prefix others name e = ap (λ b. cond b (Some prefix) (prefix_in others name)) (equal prefix.name name e)
 
 -- a name that is less than those of these prefixes
 
-abbrev Below : List ℕ → List Prefix → Type 0
+abbrev pub Below : List ℕ → List Prefix → Type 0
 Below name prefixes = AllByRecursion (λ other. text_cmp name other.name ≡ Less) prefixes
 
 below_too : (a b : List ℕ) (prefixes : List Prefix) → text_cmp a b ≡ Less → Below b prefixes → Below a prefixes
 below_too a b [] e h = tt
 below_too a b (x ∷ xs) e h = (texts_total.trans a b x.name e h.0, below_too a b xs e h.1)
 
-below_none : (name : List ℕ) (prefixes : List Prefix) → Below name prefixes → prefix_in prefixes name ≡ None
+pub below_none : (name : List ℕ) (prefixes : List Prefix) → Below name prefixes → prefix_in prefixes name ≡ None
 below_none name [] h = refl
 below_none name (x ∷ xs) h = passed x xs name (greater_unequal x.name name h.0) ∙ below_none name xs h.1
 
@@ -214,3 +214,35 @@ searched_found prefixes name (Err i) up within h = tt
 pub searched_absent : (prefixes : List Prefix) (name : List ℕ) (r : Result ℕ ℕ) → AreAscending prefixes → IsSearchInRange r (length prefixes) → IsBinarySearchResult (λ y. text_cmp y.name name) prefixes r → IfErr r (λ i. IsGapFor prefixes name i)
 searched_absent prefixes name (Ok i) up within h = tt
 searched_absent prefixes name (Err i) up within h = let parts = h (rising prefixes name up) in gap prefixes name i within parts.0 parts.1
+
+-- A table is told by what is looked up in it.
+
+never_none : (o : Option Prefix) (prefix : Prefix) → o ≡ Some prefix → o ≡ None → ⊥
+never_none o prefix e f = cc
+
+first_is_least : (p q : Prefix) (ps qs : List Prefix) → AreAscending (q ∷ qs) → prefix_in (p ∷ ps) p.name ≡ prefix_in (q ∷ qs) p.name → text_cmp p.name q.name ≡ Less → ⊥
+first_is_least p q ps qs up e less =
+    never_none (prefix_in (q ∷ qs) p.name) p (sym e ∙ met p ps p.name refl) (below_none p.name (q ∷ qs) (less, below_too p.name q.name qs less up.0))
+
+same_first : (order : Ordering) (p q : Prefix) (ps qs : List Prefix) → AreAscending (p ∷ ps) → AreAscending (q ∷ qs) → ((name : List ℕ) → prefix_in (p ∷ ps) name ≡ prefix_in (q ∷ qs) name) → text_cmp p.name q.name ≡ order → p ≡ q
+same_first Less p q ps qs up down e is = absurd (first_is_least p q ps qs down (e p.name) is)
+same_first Equal p q ps qs up down e is =
+    same_Some p q (sym (met p ps p.name refl) ∙ e p.name ∙ met q qs p.name (sym (same_names p.name q.name is)))
+same_first Greater p q ps qs up down e is = absurd (first_is_least q p qs ps up (sym (e q.name)) (turned p.name q.name is))
+
+same_behind : (test : Bool) (p q : Prefix) (ps qs : List Prefix) (name : List ℕ) → AreAscending (p ∷ ps) → AreAscending (q ∷ qs) → p ≡ q → prefix_in (p ∷ ps) name ≡ prefix_in (q ∷ qs) name → text_eq p.name name ≡ test → prefix_in ps name ≡ prefix_in qs name
+same_behind true p q ps qs name up down same e is =
+    let n : p.name ≡ name = (bytes_eq-Decides p.name name).0 is in
+    let m : q.name ≡ name = ap (λ (x : Prefix). x.name) (sym same) ∙ n in
+    below_none name ps (subst (λ (x : List ℕ). Below x ps) n up.0) ∙ sym (below_none name qs (subst (λ (x : List ℕ). Below x qs) m down.0))
+same_behind false p q ps qs name up down same e is =
+    sym (passed p ps name is) ∙ e ∙ passed q qs name (ap (λ (x : Prefix). text_eq x.name name) (sym same) ∙ is)
+
+pub tables_are_told_by_names : (ps qs : List Prefix) → AreAscending ps → AreAscending qs → ((name : List ℕ) → prefix_in ps name ≡ prefix_in qs name) → ps ≡ qs
+tables_are_told_by_names [] [] up down e = refl
+tables_are_told_by_names [] (q ∷ qs) up down e = absurd (never_none _ q (met q qs q.name refl) (sym (e q.name)))
+tables_are_told_by_names (p ∷ ps) [] up down e = absurd (never_none _ p (met p ps p.name refl) (e p.name))
+tables_are_told_by_names (p ∷ ps) (q ∷ qs) up down e =
+    let first : p ≡ q = same_first (text_cmp p.name q.name) p q ps qs up down e refl in
+    let others : ps ≡ qs = tables_are_told_by_names ps qs up.1 down.1 (λ name. same_behind (text_eq p.name name) p q ps qs name up down first (e name) refl) in
+    cc

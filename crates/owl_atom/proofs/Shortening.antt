@@ -60,7 +60,7 @@ less_or_same (suc m) zero h = absurd (omega arith)
 less_or_same (suc m) (suc n) h = elim (less_or_same m n (omega arith)) as (λ _. (suc m < suc n) ⊎ (suc m ≡ suc n)) [ inl lt ↦ inl (omega arith) | inr e ↦ inr (ap suc e) ]
 
 -- an earlier prefix that is no shorter is better
-earlier_better : (p q : Prefix) → length q.iri ≤ length p.iri → text_cmp p.name q.name ≡ Less → IsBetter p q
+pub earlier_better : (p q : Prefix) → length q.iri ≤ length p.iri → text_cmp p.name q.name ≡ Less → IsBetter p q
 earlier_better p q le less = elim (less_or_same (length q.iri) (length p.iri) le) as (λ _. IsBetter p q) [ inl lt ↦ inl lt | inr e ↦ inr (e, less) ]
 
 -- what was no better than the old best one is worse than a longer one
@@ -127,7 +127,7 @@ module _ (prefixes : List Prefix) (n : ℕ) (iri : List ℕ) (p : Prefix) (up : 
 
 -- the best of all
 
-contained : (prefixes : List Prefix) (other : Prefix) (h : Contains prefixes other) → slice_get prefixes h.0 ≡ Some other
+pub contained : (prefixes : List Prefix) (other : Prefix) (h : Contains prefixes other) → slice_get prefixes h.0 ≡ Some other
 contained prefixes other h = slice_get-get_or prefixes h.0 other h.1 ∙ ap Some h.2
 
 shortens : (prefixes : List Prefix) (iri : List ℕ) (place begin : ℕ) → AreAscending prefixes → IsBestOf prefixes (length prefixes) iri place begin → Shortens prefixes iri place begin

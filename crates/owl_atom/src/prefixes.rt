@@ -97,6 +97,16 @@ impl Prefixes {
         (prefix.name.as_str(), &prefix.iri)
     }
 
+    /// Whether the name was declared. Takes no memory.
+    pub fn is_declared(&self, name: &str) -> bool
+        ensures { result ≡ is_declared self.now (chars name.now) }
+    {
+        match place_of(&self.held, name) {
+            Ok(place) => self.held[place].declared,
+            Err(_) => false,
+        }
+    }
+
     /// Declares a prefix. `PrefixTwice` exactly where the name was declared
     /// before, and `PrefixFixed` exactly where it stands for one IRI alone, and
     /// this is another. Where the call refuses, nothing changes.

@@ -11,6 +11,7 @@ mod head;
 mod item;
 mod rule;
 mod same;
+mod term;
 
 pub use builder::Builder;
 pub use counts::Counts;
@@ -19,6 +20,7 @@ pub use fault::AddFault;
 pub use head::Head;
 pub use item::{Breach, Cant, Item, Why};
 pub use rule::Rule;
+pub use term::Term;
 
 #[cfg(test)]
 mod tests;

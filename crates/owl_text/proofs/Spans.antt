@@ -1,5 +1,5 @@
 -- Two ways to cut a list at the first character that fails a test are one.
-use Rattle.std.proofs.Common.{◌≡◌, ℕ, ◌≤◌, Bool, true, false, List, [], ◌∷◌, ◌++◌, length, refl, sym, ap, ◌∙◌, arith, zero-le, suc-le-suc}
+use Rattle.std.proofs.Common.{◌≡◌, ◌⊎◌, inl, inr, ℕ, ◌≤◌, Bool, true, false, List, [], ◌∷◌, ◌++◌, length, refl, sym, ap, ◌∙◌, arith, zero-le, suc-le-suc}
 use Rattle.std.proofs.lemmas.Bool.{false≢true}
 use Rattle.owl_text.specs.Iri.{AllAre}
 
@@ -67,3 +67,31 @@ AllAre-append p (x ∷ xs) ys h k = (h.0, AllAre-append p xs ys h.1 k)
 pub AllAre-weaker : (p q : ℕ → Bool) → ((c : ℕ) → p c ≡ true → q c ≡ true) → (xs : List ℕ) → AllAre p xs → AllAre q xs
 AllAre-weaker p q f [] h = tt
 AllAre-weaker p q f (x ∷ xs) h = (f x h.0, AllAre-weaker p q f xs h.1)
+
+pub AllAre-front : (p : ℕ → Bool) (xs ys : List ℕ) → AllAre p (xs ++ ys) → AllAre p xs
+AllAre-front p [] ys h = tt
+AllAre-front p (x ∷ xs) ys h = (h.0, AllAre-front p xs ys h.1)
+
+pub AllAre-back : (p : ℕ → Bool) (xs ys : List ℕ) → AllAre p (xs ++ ys) → AllAre p ys
+AllAre-back p [] ys h = h
+AllAre-back p (x ∷ xs) ys h = AllAre-back p xs ys h.1
+
+-- the second front of one list is longer
+pub record Overhang (xs ys a b : List ℕ) : Type 0 where
+  pub next : ℕ
+  pub others : List ℕ
+  pub is : ys ≡ xs ++ next ∷ others
+  pub rest : a ≡ next ∷ (others ++ b)
+
+pub overhang_or_within : (xs ys a b : List ℕ) → xs ++ a ≡ ys ++ b → (length ys ≤ length xs) ⊎ Overhang xs ys a b
+overhang_or_within xs [] a b e = inl zero-le
+overhang_or_within [] (y ∷ ys) a b e = inr (record { next = y; others = ys; is = refl; rest = e })
+overhang_or_within (x ∷ xs) (y ∷ ys) a b e =
+    let first : x ≡ y = cc in
+    elim (overhang_or_within xs ys a b (cc)) [
+      | inl h ↦ inl (suc-le-suc h)
+      | inr o ↦
+          let e2 : ys ≡ xs ++ o.next ∷ o.others = o.is in
+          let e3 : y ∷ ys ≡ x ∷ (xs ++ o.next ∷ o.others) = cc in
+          inr (record { next = o.next; others = o.others; is = e3; rest = o.rest })
+    ]

@@ -50,6 +50,12 @@ pub record AddsLast (old : Begun) (before after : List Placed) (ending : Option 
   pub added : after ≡ before ++ given
   pub continues : Continues old [] given ending
 
+-- Where nothing follows, some of the tokens that come of what is begun were added to a list, and perhaps not all.
+pub record AddsSomeLast (old : Begun) (before after : List Placed) : Type 0 where
+  pub given : List Placed
+  pub added : after ≡ before ++ given
+  pub next : (tokens : List Placed) (ending : Option LexFault) → Continues old [] tokens ending → (rest : List Placed) × (tokens ≡ given ++ rest)
+
 abbrev pub AreTokens : List Placed → Type 0
 AreTokens placed = AllByRecursion (λ p. IsToken p.token) placed
 

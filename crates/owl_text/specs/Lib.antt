@@ -5,3 +5,6 @@ pub mod OrderLaws
 pub mod Utf8
 pub mod Tokens
 pub mod Lexing
+pub mod Feeding
+pub mod States
+pub mod Readiness

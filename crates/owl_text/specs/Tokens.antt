@@ -89,7 +89,7 @@ pub record Begins (place : ℕ) (cs : List ℕ) (first : Placed) (next : ℕ) (r
   pub at : first.at ≡ place + size gap
   pub token : Spells first.token spelling
   pub longest : IsLongest spelling rest
-  pub next : next ≡ first.at + size spelling
+  pub ends : next ≡ first.at + size spelling
 
 -- No token comes any more: the end, a byte at which no character begins, or a character at which neither a token nor a
 -- gap begins. A fault has the place of that byte.

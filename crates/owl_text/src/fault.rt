@@ -3,6 +3,7 @@
 ghost use Rattle.std.specs.Prelude.{◌≡◌};
 ghost use Rattle.owl_text.specs.declared.fault.LexFault.TheVariants.{Memory};
 
+use crate::text::NoMemory;
 use std::alloc::AllocError;
 use thiserror::Error;
 
@@ -24,6 +25,14 @@ impl From<AllocError> for LexFault {
     ghost from_gives = { λ _ e. e ≡ Memory };
 
     fn from(_e: AllocError) -> LexFault {
+        LexFault::Memory
+    }
+}
+
+impl From<NoMemory> for LexFault {
+    ghost from_gives = { λ _ e. e ≡ Memory };
+
+    fn from(_e: NoMemory) -> LexFault {
         LexFault::Memory
     }
 }

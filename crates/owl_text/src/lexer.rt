@@ -1,15 +1,19 @@
 //! Tokens of bytes that come in pieces.
 
 ghost use Rattle.std.specs.Prelude.{◌≡◌, ◌≢◌, ℕ, ◌+◌, ◌^◌, ◌<◌, ◌≤◌, List, [], ◌++◌, ◌∷◌, length, true, false, Option, None, Some, IfOk, OnOk, OnErr, IfErr, IsErrOf, Err};
-ghost use Rattle.owl_text.specs.Lexing.{Adds, AddsLast, AddsSome, AreTokens, Begun, Continues, EndsAt};
-ghost use Rattle.owl_text.specs.Tokens.{Splits};
+ghost use Rattle.owl_text.specs.Lexing.{Adds, AddsLast, AddsSome, AddsSomeLast, AreTokens, Begun, Continues, EndsAt};
+ghost use Rattle.owl_text.specs.Readiness.{Pushes, Refuses};
 ghost use Rattle.owl_text.specs.declared.fault.LexFault.{LexFault};
 ghost use Rattle.owl_text.specs.declared.token.Placed.{Placed};
 
+use crate::bytes::{end, take};
 use crate::fault::LexFault;
+use crate::mode::{Mode, State};
 use crate::token::{Dialect, Placed};
+use crate::utf8::Utf8Feed;
 use std::alloc::Global;
 use std::marker::Model;
+use std::mem;
 
 /// Cuts bytes into tokens, in whatever pieces they come. It keeps what is begun between two pieces and no more.
 ///
@@ -17,17 +21,21 @@ use std::marker::Model;
 #[derive(Debug, Drop)]
 pub struct Lexer {
     alloc: Global,
-    fed: u64,
+    state: State,
+    bytes: Utf8Feed,
     refused: Option<LexFault>,
 }
 
 impl Model for Lexer {
+    ghost use Rattle.std.specs.Prelude.{◌≡◌, None};
     ghost use Rattle.owl_text.specs.Lexing.{Lexing};
-    ghost use Rattle.std.specs.Prelude.{[], true};
+    ghost use Rattle.owl_text.specs.Readiness.{IsReady, begun_of, fed_of};
 
     ghost Value = { Lexing };
 
-    ghost view = { λ l. record { begun = record { at = 0; held = []; fresh = true }; fed = l.fed; refused = l.refused } };
+    ghost view = { λ l. record { begun = begun_of l.state l.bytes; fed = fed_of l.bytes; refused = l.refused } };
+
+    ghost invariant = { λ l. l.refused ≡ None → IsReady l.state l.bytes };
 }
 
 impl Lexer {
@@ -38,7 +46,11 @@ impl Lexer {
         match dialect {
             Dialect::Functional => Lexer {
                 alloc,
-                fed: 0,
+                state: State {
+                    mode: Mode::Fresh,
+                    at: 0,
+                },
+                bytes: Utf8Feed::new(),
                 refused: None,
             },
         }
@@ -62,8 +74,15 @@ impl Lexer {
         ensures keeps { IfErr result (λ fault. self.new.refused ≡ Some fault) }
         ensures same { (fault : LexFault) → self.old.refused ≡ Some fault → (result ≡ Err fault) × (self.new ≡ self.old) × (into.new.items ≡ into.old.items) }
     {
-        let _ = (piece.len(), into.len());
-        todo()
+        if let Some(fault) = self.refused {
+            return Err(fault);
+        }
+        for byte in piece {
+            if let Err(fault) = self.push(*byte, into) {
+                return Err(fault);
+            }
+        }
+        Ok(())
     }
 
     /// Adds the last tokens, which the end makes whole.
@@ -75,7 +94,7 @@ impl Lexer {
     pub fn finish(&mut self, into: &mut Vec<Placed>) -> Result<(), LexFault>
         ensures ok { OnOk result (AddsLast self.old.begun into.old.items into.new.items None) }
         ensures bad { self.old.refused ≡ None → IfErr result (λ fault. fault ≢ LexFault.Memory → AddsLast self.old.begun into.old.items into.new.items (Some fault)) }
-        ensures some { OnErr result (AddsSome self.old.begun [] into.old.items into.new.items) }
+        ensures some { OnErr result (AddsSomeLast self.old.begun into.old.items into.new.items) }
         ensures tokens { AreTokens into.old.items → AreTokens into.new.items }
         ensures few { OnOk result (length into.new.items ≤ length into.old.items + length self.old.begun.held) }
         ensures open_yet { OnOk result (self.old.refused ≡ None) }
@@ -84,18 +103,43 @@ impl Lexer {
         ensures keeps { IfErr result (λ fault. self.new.refused ≡ Some fault) }
         ensures same { (fault : LexFault) → self.old.refused ≡ Some fault → (result ≡ Err fault) × (self.new ≡ self.old) × (into.new.items ≡ into.old.items) }
     {
-        let _ = into.len();
-        todo()
+        if let Some(fault) = self.refused {
+            return Err(fault);
+        }
+        let next = State {
+            mode: Mode::Between,
+            at: self.bytes.place(),
+        };
+        let state = mem::replace(&mut self.state, next);
+        match end(self.alloc, state, &self.bytes, into) {
+            Ok(()) => Ok(()),
+            Err(fault) => {
+                self.refused = Some(fault);
+                Err(fault)
+            }
+        }
+    }
+
+    fn push(&mut self, byte: u8, into: &mut Vec<Placed>) -> Result<(), LexFault>
+        requires open_yet { self.old.refused ≡ None }
+        requires room { self.old.fed < 2 ^ 62 }
+        ensures ok { OnOk result (Pushes self.old byte into.old.items into.new.items self.new) }
+        ensures err { IfErr result (λ fault. Refuses self.old.begun byte into.old.items into.new.items fault × (self.new.refused ≡ Some fault)) }
+    {
+        let next = State {
+            mode: Mode::Between,
+            at: 0,
+        };
+        let state = mem::replace(&mut self.state, next);
+        match take(self.alloc, state, &mut self.bytes, byte, into) {
+            Ok(state) => {
+                self.state = state;
+                Ok(())
+            }
+            Err(fault) => {
+                self.refused = Some(fault);
+                Err(fault)
+            }
+        }
     }
 }
-
-/// Laws: bytes are tokens in one way at most, up to one ending.
-pub fn tokens_come_one_way()
-    ensures whole { (bytes : List ℕ) (ts us : List Placed) (e f : Option LexFault) → Splits bytes ts e → Splits bytes us f → (ts ≡ us) × (e ≡ f) }
-    ensures rest { (begun : Begun) (more : List ℕ) (ts us : List Placed) (e f : Option LexFault) → Continues begun more ts e → Continues begun more us f → (ts ≡ us) × (e ≡ f) }
-{}
-
-/// Law: what a lexer that was fed nothing gives is the tokens of all the bytes.
-pub fn lexing_starts_with_all()
-    ensures { (bytes : List ℕ) (ts : List Placed) (e : Option LexFault) → Continues (record { at = 0; held = []; fresh = true }) bytes ts e → Splits bytes ts e }
-{}

@@ -1,4 +1,8 @@
+ghost use Rattle.std.specs.Prelude.{◌≡◌};
+
 use super::*;
+use std::alloc::Global;
+use std::process::Abort;
 use std::test::Fail;
 
 #[test]
@@ -120,5 +124,133 @@ fn each_class_ends_where_its_ranges_do(rt: HostRuntime) -> Result<(), Fail> {
 fn refusals_are_printed(rt: HostRuntime) -> Result<(), Fail> {
     let text = format!(in rt.alloc(); "{}", NoMemory)?;
     assert_eq!(rt; text.as_str(), "out of memory");
+    Ok(())
+}
+
+/// Feeds the bytes in pieces of `size` bytes, and then the end.
+fn feed_all(
+    rt: &impl Abort,
+    lexer: &mut Lexer,
+    bytes: &[u8],
+    size: usize,
+    into: &mut Vec<Placed>,
+) -> Result<(), LexFault>
+    requires { lexer.old.fed ≡ 0 }
+{
+    assert!(rt; size > 0);
+    let mut fed = 0usize;
+    for piece in bytes.chunks(size) {
+        assert!(rt; fed < 1000 && piece.len() < 1000);
+        lexer.feed(piece, into)?;
+        fed += piece.len();
+    }
+    lexer.finish(into)
+}
+
+/// The tokens of the bytes, which are fed in pieces of `size` bytes.
+fn cut(
+    rt: &impl Abort,
+    alloc: Global,
+    bytes: &[u8],
+    size: usize,
+    into: &mut Vec<Placed>,
+) -> Result<(), LexFault> {
+    let mut lexer = Lexer::new(alloc, Dialect::Functional);
+    feed_all(rt, &mut lexer, bytes, size, into)
+}
+
+/// One text for a token.
+fn shown(alloc: Global, token: &Token) -> Result<String, Fail> {
+    Ok(match token {
+        Token::Iri(iri) => format!(in alloc; "iri {}", iri.as_str())?,
+        Token::Name(prefix, local) => {
+            format!(in alloc; "name {} {}", prefix.as_str(), local.as_str())?
+        }
+        Token::Blank(label) => format!(in alloc; "blank {}", label.as_str())?,
+        Token::Str(text) => format!(in alloc; "string {}", text.as_str())?,
+        Token::At(tag) => format!(in alloc; "tag {}", tag.as_str())?,
+        Token::Word(word) => format!(in alloc; "word {}", word.as_str())?,
+        Token::Int(digits) => format!(in alloc; "number {}", digits.as_str())?,
+        Token::Sign(Sign::Open) => format!(in alloc; "sign (")?,
+        Token::Sign(Sign::Close) => format!(in alloc; "sign )")?,
+        Token::Sign(Sign::Equals) => format!(in alloc; "sign =")?,
+        Token::Sign(Sign::Carets) => format!(in alloc; "sign ^^")?,
+    })
+}
+
+/// One text for the tokens of the bytes and the fault at which they end.
+fn told(rt: &impl Abort, alloc: Global, bytes: &[u8], size: usize) -> Result<String, Fail> {
+    let mut tokens = Vec::new(alloc);
+    let answer = cut(rt, alloc, bytes, size, &mut tokens);
+    let mut text = String::new(alloc);
+    for placed in &tokens {
+        let token = shown(alloc, &placed.token)?;
+        let line = format!(in alloc; "{} {};", placed.at, token.as_str())?;
+        text.push_str(line.as_str())?;
+    }
+    if let Err(fault) = answer {
+        let line = format!(in alloc; "{fault}")?;
+        text.push_str(line.as_str())?;
+    }
+    Ok(text)
+}
+
+#[test]
+fn tokens_are_the_same_in_pieces(rt: HostRuntime) -> Result<(), Fail> {
+    for (bytes, want) in [
+        (
+            b"(a:b\\-%41 _:x.1 \"q\\\"\\\\\"@en-G1^^<u:v>=12a)".as_slice(),
+            "0 sign (;1 name a b-%41;10 blank x.1;16 string q\"\\;23 tag en-G1;29 sign ^^;31 iri u:v;36 sign =;37 number 12;39 word a;40 sign );",
+        ),
+        (b"a:b..c%4 a:", "0 name a b..c;no token begins at byte 6"),
+        (b"_: a", "0 word _;1 name  ;3 word a;"),
+        (b"_:", "0 word _;1 name  ;"),
+        (b"#x\n(#y", "3 sign (;"),
+        (b"\xEF\xBB\xBF\xC3\xA9", "3 word é;"),
+        (b"\xC3\xA9:\xC3\xA9", "0 name é é;"),
+    ] {
+        for size in [1usize, 2, 3, 7, 1000] {
+            let text = told(&rt, rt.alloc(), bytes, size)?;
+            assert_eq!(rt; text.as_str(), want, "pieces of {size}");
+        }
+    }
+    Ok(())
+}
+
+#[test]
+fn faults_have_their_places(rt: HostRuntime) -> Result<(), Fail> {
+    for (bytes, want) in [
+        (b"a.:b".as_slice(), "0 word a;no token begins at byte 1"),
+        (b"ab. ", "0 word ab;no token begins at byte 2"),
+        (b"@en- ", "0 tag en;no token begins at byte 3"),
+        (b"a:.b", "0 name a ;no token begins at byte 2"),
+        (b"a:b\\x", "0 name a b;no token begins at byte 3"),
+        (b" \"a\\n\"", "no token begins at byte 1"),
+        (b"\"a", "no token begins at byte 0"),
+        (b"<u:v", "no token begins at byte 0"),
+        (b"^a", "no token begins at byte 0"),
+        (b"a\xFF", "0 word a;no character begins at byte 1"),
+        (b"a.\xFF", "0 word a;no token begins at byte 1"),
+        (b"\"\xFF\"", "no token begins at byte 0"),
+        (b"# \xC3", "no character begins at byte 2"),
+        (b" \xED\xA0\x80", "no character begins at byte 1"),
+        (b"\xC0\x80", "no character begins at byte 0"),
+    ] {
+        for size in [1usize, 1000] {
+            let text = told(&rt, rt.alloc(), bytes, size)?;
+            assert_eq!(rt; text.as_str(), want, "pieces of {size}");
+        }
+    }
+    Ok(())
+}
+
+#[test]
+fn characters_come_of_their_bytes(rt: HostRuntime) -> Result<(), Fail> {
+    let mut feed = Utf8Feed::new();
+    let first = feed.push(0xC3);
+    assert_eq!(rt; first, Utf8Step::More);
+    let last = feed.push(0xA9);
+    assert_eq!(rt; last, Utf8Step::Char { c: 'é', at: 0 });
+    assert_eq!(rt; feed.finish(), Ok(()));
     Ok(())
 }

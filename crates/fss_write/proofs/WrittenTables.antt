@@ -1,0 +1,168 @@
+-- The table of prefixes that is written, and what it is when it is read.
+use Rattle.std.proofs.Common.{◌≡◌, ◌≢◌, inl, inr, ℕ, suc, true, false, List, [], ◌∷◌, codes, Option, Some, None, Contains, refl, sym, ap, ◌∙◌, subst, set}
+use Rattle.std.specs.Prelude.{insert, slice_get, unwrap_or}
+use Rattle.std.specs.declared.cmp.Ordering.{Ordering}
+use Rattle.std.specs.declared.cmp.Ordering.TheVariants.{Less, Equal, Greater}
+use Rattle.std.specs.List.{list_all}
+use Rattle.std.specs.Option.{option_map}
+use Rattle.std.specs.Str.{chars}
+use Rattle.std.proofs.lemmas.Bool.{both_ways, cases_Bool}
+use Rattle.std.proofs.lemmas.Option.{same_Some}
+use Rattle.std.proofs.lemmas.Slice.Eq.{bytes_eq-Decides}
+use Rattle.owl_list.specs.Ascending.{by_order}
+use Rattle.owl_text.specs.Iri.{IsIri, is_ascii}
+use Rattle.owl_text.specs.Names.{IsPrefixName}
+use Rattle.owl_text.specs.Order.{text_cmp, text_eq}
+use Rattle.owl_atom.specs.declared.prefixes.Prefix.{Prefix}
+use Rattle.owl_atom.specs.Places.{IsGapFor, IsPlaceOf}
+use Rattle.owl_atom.specs.Prefixes.{AreAscending, IsTable, is_declared, is_fixed, prefix_in}
+use Rattle.owl_atom.specs.Vocabulary.{owl, rdf, rdfs, xsd}
+use Rattle.owl_atom.proofs.PrefixTables.{IsFound, SetsOnly, absent, below_none, equal, found, insert_at, met, passed, same_names, set_at, stands, turned}
+use Rattle.owl_atom.proofs.Shortening.{contained}
+use Rattle.owl_atom.proofs.Words.{own}
+use Rattle.fss_write.specs.Parts.{HaveIris}
+use Rattle.fss_write.specs.Text.{with_prefix, written_prefixes}
+
+-- each prefix of a table is what its name is looked up to be
+pub looked_up : (prefixes : List Prefix) (prefix : Prefix) → AreAscending prefixes → Contains prefixes prefix → prefix_in prefixes prefix.name ≡ Some prefix
+looked_up prefixes prefix up m =
+    let at = contained prefixes prefix m in
+    (found prefixes prefix.name m.0 prefix (stands prefixes m.0 prefix up at) at).looked_up
+
+-- how a table changes where a name is given an IRI
+
+abbrev new_prefix : List ℕ → List ℕ → Prefix
+new_prefix name iri = record { name = name; iri = iri; fixed = false; declared = false }
+
+data IsEdit (name iri : List ℕ) (old new : List Prefix) : Type 0 where
+  at_place : (place : ℕ) (prefix : Prefix) → IsPlaceOf old name place → slice_get old place ≡ Some prefix → new ≡ set old place (record prefix { iri = iri }) → IsEdit name iri old new
+  at_gap : (place : ℕ) → IsGapFor old name place → new ≡ insert old place (new_prefix name iri) → IsEdit name iri old new
+
+edit_behind : (name iri : List ℕ) (p : Prefix) (old new : List Prefix) → text_cmp p.name name ≡ Less → IsEdit name iri old new → IsEdit name iri (p ∷ old) (p ∷ new)
+edit_behind name iri p old new less (at_place place prefix here stands e) = at_place (suc place) prefix (less, here) stands (ap (λ (x : List Prefix). p ∷ x) e)
+edit_behind name iri p old new less (at_gap place here e) = at_gap (suc place) (less, here) (ap (λ (x : List Prefix). p ∷ x) e)
+
+edit_by : (name iri : List ℕ) (p : Prefix) (old : List Prefix) (o : Ordering) → text_cmp name p.name ≡ o → IsEdit name iri old (with_prefix name iri old)
+    → IsEdit name iri (p ∷ old) (by_order o (new_prefix name iri ∷ p ∷ old) (record p { iri = iri } ∷ old) (p ∷ with_prefix name iri old))
+edit_by name iri p old Less e rest = at_gap 0 e refl
+edit_by name iri p old Equal e rest = at_place 0 p (sym (same_names name p.name e)) refl refl
+edit_by name iri p old Greater e rest = edit_behind name iri p old (with_prefix name iri old) (turned name p.name e) rest
+
+is_edit : (name iri : List ℕ) (old : List Prefix) → IsEdit name iri old (with_prefix name iri old)
+is_edit name iri [] = at_gap 0 tt refl
+is_edit name iri (p ∷ old) = edit_by name iri p old (text_cmp name p.name) refl (is_edit name iri old)
+
+-- the prefix that the name then has
+abbrev pub set_prefix : List ℕ → List ℕ → List Prefix → Prefix
+set_prefix name iri old = record { name = name; iri = iri; fixed = is_fixed old name; declared = is_declared old name }
+
+same_prefix : (p q : Prefix) → p.name ≡ q.name → p.iri ≡ q.iri → p.fixed ≡ q.fixed → p.declared ≡ q.declared → p ≡ q
+same_prefix p q a b c d = λ i. record { name = a i; iri = b i; fixed = c i; declared = d i }
+
+replaced : (name iri : List ℕ) (old : List Prefix) (prefix : Prefix) → IsFound old name prefix → record prefix { iri = iri } ≡ set_prefix name iri old
+replaced name iri old prefix h =
+    same_prefix (record prefix { iri = iri }) (set_prefix name iri old) h.named refl
+    (sym (ap (λ (o : Option Prefix). unwrap_or (option_map (λ (q : Prefix). q.fixed) o) false) h.looked_up))
+    (sym (ap (λ (o : Option Prefix). unwrap_or (option_map (λ (q : Prefix). q.declared) o) false) h.looked_up))
+
+added : (name iri : List ℕ) (old : List Prefix) → prefix_in old name ≡ None → new_prefix name iri ≡ set_prefix name iri old
+added name iri old e =
+    same_prefix (new_prefix name iri) (set_prefix name iri old) refl refl
+    (sym (ap (λ (o : Option Prefix). unwrap_or (option_map (λ (q : Prefix). q.fixed) o) false) e))
+    (sym (ap (λ (o : Option Prefix). unwrap_or (option_map (λ (q : Prefix). q.declared) o) false) e))
+
+edit_sets : (name iri : List ℕ) (old new : List Prefix) → AreAscending old → IsEdit name iri old new → SetsOnly old new name (set_prefix name iri old)
+edit_sets name iri old new up (at_place place prefix here stands e) =
+    let found_here = found old name place prefix here stands in
+    subst (λ (q : Prefix). SetsOnly old new name q) (replaced name iri old prefix found_here)
+    (subst (λ (x : List Prefix). SetsOnly old x name (record prefix { iri = iri })) (sym e) (set_at old name place (record prefix { iri = iri }) up here found_here.named))
+edit_sets name iri old new up (at_gap place here e) =
+    subst (λ (q : Prefix). SetsOnly old new name q) (added name iri old (absent old name place up here))
+    (subst (λ (x : List Prefix). SetsOnly old x name (new_prefix name iri)) (sym e) (insert_at old name place (new_prefix name iri) up here refl))
+
+pub with_prefix_sets : (name iri : List ℕ) (old : List Prefix) → AreAscending old → SetsOnly old (with_prefix name iri old) name (set_prefix name iri old)
+with_prefix_sets name iri old up = edit_sets name iri old (with_prefix name iri old) up (is_edit name iri old)
+
+pub with_prefix_table : (name iri : List ℕ) (old : List Prefix) → IsPrefixName name → IsTable old → IsTable (with_prefix name iri old)
+with_prefix_table name iri old named h =
+    let sets = with_prefix_sets name iri old h.ascending in
+    record { ascending = sets.ascending; names = sets.names h.names named }
+
+-- all IRIs stay IRIs
+iris_by : (name iri : List ℕ) (p : Prefix) (old : List Prefix) (o : Ordering) → IsIri iri → HaveIris (p ∷ old) → HaveIris (with_prefix name iri old)
+    → HaveIris (by_order o (new_prefix name iri ∷ p ∷ old) (record p { iri = iri } ∷ old) (p ∷ with_prefix name iri old))
+iris_by name iri p old Less i h rest = (i, h)
+iris_by name iri p old Equal i h rest = (i, h.1)
+iris_by name iri p old Greater i h rest = (h.0, rest)
+
+pub with_prefix_iris : (name iri : List ℕ) (old : List Prefix) → IsIri iri → HaveIris old → HaveIris (with_prefix name iri old)
+with_prefix_iris name iri [] i h = (i, tt)
+with_prefix_iris name iri (p ∷ old) i h = iris_by name iri p old (text_cmp name p.name) i h (with_prefix_iris name iri old i h.1)
+
+-- tables with the same look-ups are the same
+
+tails_same : (x y : Prefix) (xs ys : List Prefix) → AreAscending (x ∷ xs) → AreAscending (y ∷ ys) → x.name ≡ y.name
+    → ((name : List ℕ) → prefix_in (x ∷ xs) name ≡ prefix_in (y ∷ ys) name) → (name : List ℕ) → prefix_in xs name ≡ prefix_in ys name
+tails_same x y xs ys up_x up_y e h name = elim (cases_Bool (text_eq x.name name)) as (λ _. prefix_in xs name ≡ prefix_in ys name) [
+  | inl t ↦
+      let same : x.name ≡ name = (bytes_eq-Decides x.name name).0 t in
+      ap (prefix_in xs) (sym same) ∙ below_none x.name xs up_x.0
+      ∙ sym (below_none y.name ys up_y.0) ∙ ap (prefix_in ys) (sym e ∙ same)
+  | inr f ↦ sym (passed x xs name f) ∙ h name ∙ passed y ys name (ap (λ (n : List ℕ). text_eq n name) (sym e) ∙ f)
+]
+
+heads_by : (x y : Prefix) (xs ys : List Prefix) (o : Ordering) → text_cmp x.name y.name ≡ o → AreAscending (x ∷ xs) → AreAscending (y ∷ ys)
+    → ((name : List ℕ) → prefix_in (x ∷ xs) name ≡ prefix_in (y ∷ ys) name) → x.name ≡ y.name
+heads_by x y xs ys Less e up_x up_y h =
+    let none : prefix_in (y ∷ ys) x.name ≡ None = absent (y ∷ ys) x.name 0 up_y e in
+    let some = met x xs x.name refl in
+    let same = h x.name in
+    absurd (cc)
+heads_by x y xs ys Equal e up_x up_y h = same_names x.name y.name e
+heads_by x y xs ys Greater e up_x up_y h =
+    let none : prefix_in (x ∷ xs) y.name ≡ None = absent (x ∷ xs) y.name 0 up_x (turned x.name y.name e) in
+    let some = met y ys y.name refl in
+    let same = h y.name in
+    absurd (cc)
+
+pub same_tables : (a b : List Prefix) → AreAscending a → AreAscending b → ((name : List ℕ) → prefix_in a name ≡ prefix_in b name) → a ≡ b
+same_tables [] [] up_a up_b h = refl
+same_tables [] (y ∷ ys) up_a up_b h = let some = met y ys y.name refl in let same = h y.name in absurd (cc)
+same_tables (x ∷ xs) [] up_a up_b h = let some = met x xs x.name refl in let same = h x.name in absurd (cc)
+same_tables (x ∷ xs) (y ∷ ys) up_a up_b h =
+    let names = heads_by x y xs ys (text_cmp x.name y.name) refl up_a up_b h in
+    let first : x ≡ y = same_Some x y (sym (met x xs y.name names) ∙ h y.name ∙ met y ys y.name refl) in
+    let rest : xs ≡ ys = same_tables xs ys up_a.1 up_b.1 (tails_same x y xs ys up_a up_b names h) in
+    cc
+
+-- where a name is given an IRI and all other look-ups stay, the table is that with the prefix
+pub record IsSet (name iri : List ℕ) (old new : List Prefix) : Type 0 where
+  pub table : IsTable new
+  pub here : prefix_in new name ≡ Some (set_prefix name iri old)
+  pub others : (other : List ℕ) → other ≢ name → prefix_in new other ≡ prefix_in old other
+
+pub set_is_with_prefix : (name iri : List ℕ) (old new : List Prefix) → IsTable old → IsSet name iri old new → new ≡ with_prefix name iri old
+set_is_with_prefix name iri old new is_old h =
+    let sets = with_prefix_sets name iri old is_old.ascending in
+    same_tables new (with_prefix name iri old) h.table.ascending sets.ascending (λ other. elim (cases_Bool (text_eq other name)) as (λ _. prefix_in new other ≡ prefix_in (with_prefix name iri old) other) [
+      | inl t ↦
+          let same : other ≡ name = (bytes_eq-Decides other name).0 t in
+          ap (prefix_in new) same ∙ h.here ∙ sym sets.here ∙ ap (prefix_in (with_prefix name iri old)) (sym same)
+      | inr f ↦
+          let differs : other ≢ name = λ same. both_ways (text_eq other name) f (equal other name same) in
+          h.others other differs ∙ sym (sets.others other differs)
+    ])
+
+-- the name and the IRI may be given as the characters of words
+pub own_set : (name iri : List ℕ) (old new : List Prefix) → list_all is_ascii name ≡ true → list_all is_ascii iri ≡ true → IsSet (chars name) (chars iri) old new → IsSet name iri old new
+own_set name iri old new h k set = subst (λ (n : List ℕ). IsSet n iri old new) (own name h) (subst (λ (i : List ℕ). IsSet (chars name) i old new) (own iri k) set)
+
+-- the four prefixes in turn
+pub four_set : (p0 p1 p2 p3 p4 : List Prefix) → IsTable p0 → IsSet (codes "owl") (owl []) p0 p1 → IsSet (codes "rdf") (rdf []) p1 p2 → IsSet (codes "rdfs") (rdfs []) p2 p3
+    → IsSet (codes "xsd") (xsd []) p3 p4 → p4 ≡ written_prefixes p0
+four_set p0 p1 p2 p3 p4 table first second third fourth =
+    let a = set_is_with_prefix (codes "owl") (owl []) p0 p1 table first in
+    let b = set_is_with_prefix (codes "rdf") (rdf []) p1 p2 first.table second in
+    let d = set_is_with_prefix (codes "rdfs") (rdfs []) p2 p3 second.table third in
+    let e = set_is_with_prefix (codes "xsd") (xsd []) p3 p4 third.table fourth in
+    rw (e, d, b, a)

@@ -1,0 +1,76 @@
+-- How a text grows part by part.
+use Rattle.std.specs.Prelude.{◌<◌, ℕ, zero, suc, Bool, true, false, nat_le, if◌then◌else◌, List, [], ◌∷◌, ◌++◌, length, codes, flat_map, Option, None, Some}
+use Rattle.std.specs.List.{AllByRecursion}
+use Rattle.owl_text.specs.Iri.{IsIri}
+use Rattle.owl_text.specs.Utf8.{size}
+use Rattle.owl_atom.specs.declared.prefixes.Prefix.{Prefix}
+use Rattle.owl_arena.specs.Held.{tree_at}
+use Rattle.owl_tree.specs.declared.tag.Tag.{Tag}
+use Rattle.owl_tree.specs.declared.row.Rest.TheVariants.{Nothing, Optional, AtLeast, SomeThen, Set}
+use Rattle.owl_tree.specs.Rows.{Row, Leaf, Node}
+use Rattle.owl_tree.specs.Trees.{Tree, kids_in, tag_of}
+use Rattle.owl_doc.specs.Functional.{longest}
+use Rattle.fss_write.specs.Text.{bracketed, joined, node_name, node_parts, parts, written_form}
+
+-- each prefix stands for an IRI
+abbrev pub HaveIris : List Prefix → Type 0
+HaveIris prefixes = AllByRecursion (λ (prefix : Prefix). IsIri prefix.iri) prefixes
+
+-- the text passes the limit
+abbrev pub IsTooLong : List ℕ → Type 0
+IsTooLong text = longest < size text
+
+abbrev pub spaced : List ℕ → List ℕ
+spaced part = codes " " ++ part
+
+-- the text of these parts, where some part stands before them, or none does
+abbrev pub behind : Bool → List (List ℕ) → List ℕ
+behind true texts = flat_map spaced texts
+behind false texts = joined texts
+
+-- whether some part stands there with these
+abbrev pub has_parts : Bool → List (List ℕ) → Bool
+has_parts before [] = before
+has_parts before (part ∷ others) = true
+
+-- the member behind so many, where it is the only one
+abbrev pub only_behind : {X : Type 0} → ℕ → List X → Option X
+only_behind zero [] = None
+only_behind zero (x ∷ []) = Some x
+only_behind zero (x ∷ y ∷ zs) = None
+only_behind (suc n) [] = None
+only_behind (suc n) (x ∷ xs) = only_behind n xs
+
+-- the only member of a set of which two have to be written
+abbrev pub repeated : {X : Type 0} → Row → List X → Option X
+repeated (Leaf sort) xs = None
+repeated (Node front Nothing) xs = None
+repeated (Node front (Optional sort)) xs = None
+repeated (Node front (AtLeast sort least)) xs = None
+repeated (Node front (SomeThen sort last)) xs = None
+repeated (Node front (Set sort least)) xs = if nat_le 2 least then only_behind (length front) xs else None
+
+-- a space behind some part
+abbrev pub spacing : Bool → List ℕ
+spacing true = codes " "
+spacing false = []
+
+-- the parts of the tree with this number, as it is written
+abbrev pub parts_at : List Prefix → List Tree → Tag → ℕ → List (List ℕ)
+parts_at prefixes trees within id = parts prefixes within (written_form (tree_at trees id))
+
+-- the parts of the kids of a tree, as they are written
+abbrev pub kids_parts : List Prefix → Tree → List (List ℕ)
+kids_parts prefixes t = flat_map (parts prefixes (tag_of t)) (kids_in (written_form t))
+
+-- the parts of the kids of the tree with this number
+abbrev pub kids_parts_at : List Prefix → List Tree → ℕ → List (List ℕ)
+kids_parts_at prefixes trees id = kids_parts prefixes (tree_at trees id)
+
+-- the parts of the node with this number
+abbrev pub node_parts_at : List Prefix → List Tree → ℕ → List (List ℕ)
+node_parts_at prefixes trees id = node_parts (tag_of (tree_at trees id)) (kids_parts_at prefixes trees id)
+
+-- the node with this number, with its brackets
+abbrev pub node_text_at : List Prefix → List Tree → ℕ → List ℕ
+node_text_at prefixes trees id = bracketed (node_name (tag_of (tree_at trees id))) (joined (kids_parts_at prefixes trees id))

@@ -1,0 +1,167 @@
+-- The text of a document in Functional-Style Syntax, in characters: one for the prefixes and the ontology (Structural
+-- Specification, section 3.7).
+use Rattle.std.specs.Prelude.{ℕ, zero, suc, true, false, nat_le, if◌then◌else◌, List, [], ◌∷◌, ◌++◌, length, map, codes, flat_map, Option, None, Some}
+use Rattle.std.specs.Fmt.{decimal}
+use Rattle.owl_text.specs.Order.{text_cmp, text_eq}
+use Rattle.owl_text.specs.Tokens.{character_spelling}
+use Rattle.owl_list.specs.Ascending.{by_order}
+use Rattle.owl_atom.specs.declared.prefixes.Prefix.{Prefix}
+use Rattle.owl_atom.specs.Literals.{LiteralParts, string}
+use Rattle.owl_atom.specs.Prefixes.{fixed_prefixes, is_fixed}
+use Rattle.owl_atom.specs.Vocabulary.{owl, rdf, rdfs, xsd}
+use Rattle.owl_tree.specs.declared.atom.Atom.{Atom}
+use Rattle.owl_tree.specs.declared.atom.Atom.TheVariants.{Iri, Label, Literal, Number}
+use Rattle.owl_tree.specs.declared.tag.Tag.{Tag}
+use Rattle.owl_tree.specs.declared.tag.Tag.TheVariants as tag
+use Rattle.owl_tree.specs.declared.row.Rest.TheVariants.{Nothing, Optional, AtLeast, SomeThen, Set}
+use Rattle.owl_tree.specs.Ontologies.{Ontology, OntologyName}
+use Rattle.owl_tree.specs.Rows.{Row, Leaf, Node, is_tag, row_of}
+use Rattle.owl_tree.specs.Tags.{keyword_of}
+use Rattle.owl_tree.specs.Trees.{Tree, Kids, leaf, node, no_kids, kid, kids_of, tag_of}
+use Rattle.owl_doc.specs.Abbreviations.{best_prefix, local_behind}
+use Rattle.owl_doc.specs.Spelling.{is_bare, is_group}
+
+-- The table with this IRI for the name: in place of the one that the name has, or where the name belongs by its bytes.
+abbrev pub with_prefix : List ℕ → List ℕ → List Prefix → List Prefix
+with_prefix name iri [] = record { name = name; iri = iri; fixed = false; declared = false } ∷ []
+with_prefix name iri (prefix ∷ others) =
+    by_order (text_cmp name prefix.name)
+    (record { name = name; iri = iri; fixed = false; declared = false } ∷ prefix ∷ others)
+    (record prefix { iri = iri } ∷ others)
+    (prefix ∷ with_prefix name iri others)
+
+-- the prefixes that are written: those of the document, where owl, rdf, rdfs and xsd stand for the IRIs that they have beforehand
+abbrev pub written_prefixes : List Prefix → List Prefix
+written_prefixes prefixes =
+    with_prefix (codes "xsd") (xsd []) (with_prefix (codes "rdfs") (rdfs []) (with_prefix (codes "rdf") (rdf []) (with_prefix (codes "owl") (owl []) prefixes)))
+
+-- the same prefixes as they are when they were read: each is declared
+abbrev pub as_declared : Prefix → Prefix
+as_declared prefix = record { name = prefix.name; iri = prefix.iri; fixed = is_fixed fixed_prefixes prefix.name; declared = true }
+
+abbrev pub declared_prefixes : List Prefix → List Prefix
+declared_prefixes prefixes = map as_declared (written_prefixes prefixes)
+
+abbrev pub full_iri : List ℕ → List ℕ
+full_iri iri = codes "<" ++ (iri ++ codes ">")
+
+abbrev pub shortened_by : Option Prefix → List ℕ → List ℕ
+shortened_by None iri = full_iri iri
+shortened_by (Some prefix) iri = prefix.name ++ (codes ":" ++ local_behind prefix iri)
+
+-- abbreviated where one of the prefixes leaves a plain local part, else in full
+abbrev pub iri_text : List Prefix → List ℕ → List ℕ
+iri_text prefixes iri = shortened_by (best_prefix iri prefixes) iri
+
+abbrev pub string_text : List ℕ → List ℕ
+string_text form = codes "\"" ++ (flat_map character_spelling form ++ codes "\"")
+
+-- a string stands without its datatype
+abbrev pub literal_end : List Prefix → List ℕ → Option (List ℕ) → List ℕ
+literal_end prefixes datatype None = if text_eq datatype string then [] else codes "^^" ++ iri_text prefixes datatype
+literal_end prefixes datatype (Some tag) = codes "@" ++ tag
+
+abbrev pub literal_text : List Prefix → LiteralParts → List ℕ
+literal_text prefixes literal = string_text literal.lexical ++ literal_end prefixes literal.datatype literal.tag
+
+abbrev pub atom_text : List Prefix → Atom → List ℕ
+atom_text prefixes (Iri iri) = iri_text prefixes iri
+atom_text prefixes (Label label) = codes "_:" ++ label
+atom_text prefixes (Literal literal) = literal_text prefixes literal
+atom_text prefixes (Number number) = decimal number
+
+abbrev pub bracketed : List ℕ → List ℕ → List ℕ
+bracketed name inside = name ++ (codes "(" ++ (inside ++ codes ")"))
+
+abbrev pub leaf_text : List Prefix → Tag → Tag → Atom → List ℕ
+leaf_text prefixes within t a =
+    if is_tag tag.Declaration within then bracketed (keyword_of t) (atom_text prefixes a) else atom_text prefixes a
+
+-- with one space between any two
+abbrev pub joined : List (List ℕ) → List ℕ
+joined [] = []
+joined (part ∷ []) = part
+joined (part ∷ next ∷ others) = part ++ (codes " " ++ joined (next ∷ others))
+
+-- what stands before the bracket of a node
+abbrev pub node_name : Tag → List ℕ
+node_name t = if is_group t then [] else keyword_of t
+
+abbrev pub node_parts : Tag → List (List ℕ) → List (List ℕ)
+node_parts t inside = if is_bare t then inside else bracketed (node_name t) (joined inside) ∷ []
+
+-- the parts of a tree that stands in a node with this tag: one, but for what stands without brackets
+abbrev mutual
+  pub parts : List Prefix → Tag → Tree → List (List ℕ)
+  parts prefixes within (leaf t a) = leaf_text prefixes within t a ∷ []
+  parts prefixes within (node t ks) = node_parts t (parts_of prefixes t ks)
+
+  pub parts_of : List Prefix → Tag → Kids → List (List ℕ)
+  parts_of prefixes within no_kids = []
+  parts_of prefixes within (kid k ks) = parts prefixes within k ++ parts_of prefixes within ks
+
+abbrev pub tree_text : List Prefix → Tree → List ℕ
+tree_text prefixes t = joined (parts prefixes (tag_of t) t)
+
+-- behind so many, one alone stands twice
+abbrev pub doubled_behind : ℕ → List Tree → List Tree
+doubled_behind zero [] = []
+doubled_behind zero (t ∷ []) = t ∷ t ∷ []
+doubled_behind zero (t ∷ u ∷ ts) = t ∷ u ∷ ts
+doubled_behind (suc n) [] = []
+doubled_behind (suc n) (t ∷ ts) = t ∷ doubled_behind n ts
+
+-- where a row asks for two members of a set, one alone is written twice
+abbrev pub doubled : Row → List Tree → List Tree
+doubled (Leaf sort) ts = ts
+doubled (Node front Nothing) ts = ts
+doubled (Node front (Optional sort)) ts = ts
+doubled (Node front (AtLeast sort least)) ts = ts
+doubled (Node front (SomeThen sort last)) ts = ts
+doubled (Node front (Set sort least)) ts = if nat_le 2 least then doubled_behind (length front) ts else ts
+
+-- the tree as it is written
+abbrev mutual
+  pub written_form : Tree → Tree
+  written_form (leaf t a) = leaf t a
+  written_form (node t ks) = node t (kids_of (doubled (row_of t) (written_forms ks)))
+
+  pub written_forms : Kids → List Tree
+  written_forms no_kids = []
+  written_forms (kid k ks) = written_form k ∷ written_forms ks
+
+abbrev pub item_text : List Prefix → Tree → List ℕ
+item_text prefixes t = tree_text prefixes (written_form t)
+
+abbrev pub prefix_line : Prefix → List ℕ
+prefix_line prefix = codes "Prefix(" ++ (prefix.name ++ (codes ":=" ++ (full_iri prefix.iri ++ codes ")\n")))
+
+abbrev pub version_text : Option (List ℕ) → List ℕ
+version_text None = []
+version_text (Some iri) = codes " " ++ full_iri iri
+
+abbrev pub name_text : Option OntologyName → List ℕ
+name_text None = []
+name_text (Some name) = full_iri name.iri ++ version_text name.version
+
+abbrev pub header_line : Option OntologyName → List ℕ
+header_line name = codes "Ontology(" ++ (name_text name ++ codes "\n")
+
+abbrev pub import_line : List ℕ → List ℕ
+import_line iri = codes "Import(" ++ (full_iri iri ++ codes ")\n")
+
+abbrev pub item_line : List Prefix → Tree → List ℕ
+item_line prefixes t = item_text prefixes t ++ codes "\n"
+
+-- the lines of an ontology with these prefixes, in the order of its lists
+abbrev pub lines_of : List Prefix → Ontology → List ℕ
+lines_of prefixes o =
+    flat_map prefix_line prefixes ++ (header_line o.head.name ++ (flat_map import_line o.head.imports ++ (flat_map (item_line prefixes) o.annotations ++ (flat_map (item_line prefixes) o.axioms ++ codes ")\n"))))
+
+-- the text of an ontology in canonical form
+abbrev pub text_of : List Prefix → Ontology → List ℕ
+text_of prefixes o = lines_of (written_prefixes prefixes) o
+
+-- the text of an axiom, where all IRIs stand in full
+abbrev pub axiom_text : Tree → List ℕ
+axiom_text t = item_text [] t

@@ -1,0 +1,107 @@
+//! A text that is being made, within the limit of an output.
+
+ghost use Rattle.std.specs.Prelude.{◌≡◌, ◌↔◌, ◌+◌, ◌≤◌, ◌++◌, ◌∷◌, [], IsTrue, IsErrOf, OnOk};
+ghost use Rattle.std.specs.List.{list_all};
+ghost use Rattle.std.specs.Str.{chars};
+ghost use Rattle.owl_text.specs.Iri.{is_ascii};
+ghost use Rattle.owl_text.specs.Utf8.{size};
+ghost use Rattle.owl_doc.specs.Functional.{longest};
+ghost use Rattle.fss_write.specs.Parts.{IsTooLong};
+ghost use Rattle.fss_write.specs.declared.fault.WriteFault.{WriteFault};
+
+use crate::fault::WriteFault;
+use owl_text::Text;
+use std::alloc::Global;
+use std::marker::Model;
+
+/// The most bytes of a text, 2^27.
+const MOST_BYTES: usize = 1 << 27;
+
+/// The front of a text, of at most 2^27 bytes. Contracts see its characters.
+///
+/// Each call answers `TooLong` only where the text would pass the limit with what was to be added.
+#[derive(Debug, Drop)]
+pub struct Draft {
+    alloc: Global,
+    text: Text,
+}
+
+impl Model for Draft {
+    ghost use Rattle.std.specs.Prelude.{List, ℕ, ◌≤◌};
+    ghost use Rattle.owl_text.specs.Utf8.{size as byte_size};
+    ghost use Rattle.owl_doc.specs.Functional.{longest};
+
+    ghost Value = { List ℕ };
+
+    ghost view = { λ d. d.text };
+
+    ghost invariant = { λ d. byte_size d.text ≤ longest };
+}
+
+impl Draft {
+    /// The empty text. Takes no memory.
+    pub fn new(alloc: Global) -> Draft
+        ensures { result ≡ [] }
+    {
+        Draft {
+            alloc,
+            text: Text::new(alloc),
+        }
+    }
+
+    /// The allocator of the text.
+    pub fn allocator(&self) -> Global {
+        self.alloc
+    }
+
+    /// Whether so many bytes more are within the limit.
+    #[tactic(auto, using(crate::proofs::Sizes::size_is))]
+    fn has_room(&self, bytes: usize) -> bool
+        ensures { IsTrue result ↔ (size self.now + bytes ≤ longest) }
+    {
+        bytes <= MOST_BYTES - self.text.as_str().len()
+    }
+
+    /// Adds these characters.
+    pub fn add(&mut self, part: &str) -> Result<(), WriteFault>
+        ensures ok { OnOk result (self.new ≡ self.old ++ chars part.now) }
+        ensures too_long { IsErrOf result WriteFault.TooLong → IsTooLong (self.old ++ chars part.now) }
+    {
+        if !self.has_room(part.len()) {
+            return Err(WriteFault::TooLong);
+        }
+        self.text.push_str(part)?;
+        Ok(())
+    }
+
+    /// Adds these ASCII characters.
+    pub fn add_ascii(&mut self, part: &str) -> Result<(), WriteFault>
+        requires { IsTrue (list_all is_ascii part.now) }
+        ensures ok { OnOk result (self.new ≡ self.old ++ part.now) }
+        ensures too_long { IsErrOf result WriteFault.TooLong → IsTooLong (self.old ++ part.now) }
+    {
+        self.add(part)
+    }
+
+    /// Adds a character.
+    #[tactic(auto, using(crate::proofs::Sizes::size_append))]
+    pub fn push(&mut self, c: char) -> Result<(), WriteFault>
+        ensures ok { OnOk result (self.new ≡ self.old ++ c ∷ []) }
+        ensures too_long { IsErrOf result WriteFault.TooLong → IsTooLong (self.old ++ c ∷ []) }
+    {
+        if !self.has_room(c.len_utf8()) {
+            return Err(WriteFault::TooLong);
+        }
+        self.text.push(c)?;
+        Ok(())
+    }
+
+    /// The text.
+    pub fn into_text(self) -> Text
+        ensures text { result ≡ self }
+        ensures within { size self ≤ longest }
+    {
+        let Draft { alloc: _, text } = self;
+        text
+    }
+}
