@@ -1,0 +1,27 @@
+use Rattle.std.proofs.Common.{rules, ◌≡◌, length, refl, sym, ap, ◌∙◌, true, false}
+use Rattle.owl_tree.specs.Tags.{keyword_of}
+use Rattle.fss_items.specs.Places.{may_begin}
+use Rattle.fss_items.proofs.Keyed.{bars_deep_word, bars_word, one_named}
+use Rattle.fss_items.proofs.Stacks.{top_held}
+use Rattle.fss_items.proofs.items.keywords.kid_keyword.Goals as goal
+
+pub returns-in_default-clause-barred : goal.returns-in_default-clause-barred
+returns-in_default-clause-barred c =
+    let ts = c.args.builder.now.arena.trees in
+    bars_word ts c.args.stack.now.items c.args.top.now c.requires.top c.args.word.now false (length c.args.top.now.kids.items) refl (search rules) (λ u e h. c.in_default.ensures.none (search rules) u e)
+
+pub is_full-requires : goal.is_full-requires
+is_full-requires c = top_held c.args.builder.now.arena.trees c.args.stack.now.items c.args.top.now c.requires.top c.requires.held
+
+pub returns-then-not-may_begin-clause-barred : goal.returns-then-not-may_begin-clause-barred
+returns-then-not-may_begin-clause-barred c =
+    let ts = c.args.builder.now.arena.trees in
+    let long : c.len.result ≡ length c.args.top.now.kids.items = search rules in
+    let fails : may_begin c.args.top.now.tag c.len.result c.is_full.result c.in-Some.tag ≡ false = search rules in
+    bars_word ts c.args.stack.now.items c.args.top.now c.requires.top c.args.word.now c.is_full.result c.len.result long c.is_full.ensures (one_named c.in-Some.tag c.args.word.now c.args.top.now.tag c.len.result c.is_full.result c.in-Some.ensures.some fails)
+
+pub returns-then-len-ge-DEEPEST-clause-barred : goal.returns-then-len-ge-DEEPEST-clause-barred
+returns-then-len-ge-DEEPEST-clause-barred c =
+    let ts = c.args.builder.now.arena.trees in
+    let long : c.len-2.result ≡ length c.args.stack.now.items = search rules in
+    bars_deep_word ts c.args.stack.now.items c.args.top.now c.requires.top c.args.word.now c.len-2.result c.if-len-ge-DEEPEST.true long

@@ -1,0 +1,12 @@
+use Rattle.std.proofs.Common.{arith, refl}
+use Rattle.owl_tree.specs.Tags.{all_tags}
+use Rattle.fss_items.proofs.Sites.{no_atom_comes}
+use Rattle.fss_items.proofs.Ended.{nothing_yet}
+use Rattle.fss_items.proofs.Settling.{settles_end}
+use Rattle.fss_items.proofs.Taken.{construct_comes}
+use Rattle.fss_items.proofs.Words.{named_nowhere}
+use Rattle.fss_items.proofs.items.words.tag_named.Goals as goal
+
+pub returns-clause-none : goal.returns-clause-none
+unfolding all_tags
+returns-clause-none c = λ none t f. named_nowhere all_tags c.args.word.now refl (λ k h. c.loop-tag.invariant k (omega (arith, h, c.loop-tag-test.false))) t f

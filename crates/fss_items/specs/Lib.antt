@@ -1,0 +1,4 @@
+pub mod Bodies
+pub mod InHand
+pub mod Places
+pub mod Sites

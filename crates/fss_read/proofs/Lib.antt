@@ -1,0 +1,12 @@
+pub mod Shared
+pub mod Declaring
+pub mod Prologues
+pub mod Terms
+pub mod Written
+pub mod Headers
+pub mod Bodies
+pub mod Ends
+pub mod Runs
+pub mod Numbers
+pub mod Few
+pub mod Readings
