@@ -18,11 +18,10 @@ ghost use Rattle.fss_read.specs.declared.stage.Stage.TheVariants as stage;
 ghost use Rattle.fss_read.specs.declared.token_fault.TokenFault.{TokenFault};
 
 use crate::fault::Reason;
-use fss_items::ItemFault;
-use fss_items::Items;
 use crate::names::expand;
 use crate::stage::{Held, Stage};
 use crate::token_fault::TokenFault;
+use fss_items::{ItemFault, Items};
 use owl_atom::{Label, Literal, Prefixes};
 use owl_doc::{Doc, Term};
 use owl_text::{NoMemory, Sign, Text, Token};

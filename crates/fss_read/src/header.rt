@@ -13,10 +13,10 @@ ghost use Rattle.fss_read.specs.declared.stage.Stage.TheVariants as stage;
 ghost use Rattle.fss_read.specs.declared.token_fault.TokenFault.{TokenFault};
 
 use crate::body;
-use fss_items::Items;
 use crate::names::{expand, is_iri};
 use crate::stage::{Header, Held, Stage};
 use crate::token_fault::TokenFault;
+use fss_items::Items;
 use owl_arena::Arena;
 use owl_atom::{Iri, Prefixes};
 use owl_doc::Builder;

@@ -133,11 +133,7 @@ fn is_empty_group(builder: &Builder, id: ExprId) -> bool
 
 /// Ends the innermost construct, which is then a kid of the one around it, and
 /// tells whether something in it was too heavy.
-pub fn shut(
-    builder: &mut Builder,
-    stack: &mut Vec<Open>,
-    is_heavy: bool,
-) -> Result<bool, ItemFault>
+pub fn shut(builder: &mut Builder, stack: &mut Vec<Open>, is_heavy: bool) -> Result<bool, ItemFault>
     requires inside { 1 < length stack.old.items }
     requires held { HaveKids builder.old.arena.trees stack.old.items }
     requires room { length builder.old.arena.trees < 2 ^ 28 }
