@@ -127,7 +127,7 @@ nothing_waits whole o (waiting.Name a) h = absurd (some_terms _ _ h.0)
 -- only where all was read no more has to come
 pub record IsAllRead (i : items.Inside) : Type 0 where
   pub stage : i.stage ≡ Ended
-  pub begun : i.«open».items ≡ []
+  pub begun : i.stack.items ≡ []
   pub waits : i.waiting ≡ waiting.Nothing
   pub light : i.is_heavy ≡ false
 
@@ -135,7 +135,7 @@ pub all_read : (i : items.Inside) (o : Ontology) → Completes (body_of i) [] o 
 all_read i o h =
     let ts = i.builder.arena.trees in
     let whole = ontology_of i.builder in
-    let none = none_begun ts i.stage whole o i.waiting i.«open».items h.1 in
+    let none = none_begun ts i.stage whole o i.waiting i.stack.items h.1 in
     let outside = subst (λ (cs : List kept.Open). Completion (constructs_before ts cs []) i.stage whole o (terms_of i.waiting ++ [])) none h.1 in
     let ended = at_end whole o i.stage i.waiting outside in
     record { stage = ended; begun = none; waits = nothing_waits whole o i.waiting (subst (λ (s : Stage). EndsWith s whole o (terms_of i.waiting ++ [])) ended outside); light = h.0 }
