@@ -20,6 +20,6 @@ pub returns-in-Ok-clause-refusal : goal.returns-in-Ok-clause-refusal
 returns-in-Ok-clause-refusal c =
     err_later c.end_of.result _ _ (λ told none_such no_memory. end_refused c.args.lexer.begun (parse_of c.args.parser) c.args.fed _ c.finish.new.into.items c.new-tokens.ensures.items c.in-Ok.ensures.ok (none_such no_memory)) c.end_of.ensures.none
 
-pub returns-in-Err-clause-refusal : goal.returns-in-Err-clause-refusal
-returns-in-Err-clause-refusal c =
+pub returns-clause-refusal : goal.returns-clause-refusal
+returns-clause-refusal c =
     λ told. last_refused c.args.lexer.begun (parse_of c.args.parser) c.args.fed _ c.finish.new.into.items c.in-Err.fault (c.in-Err.ensures.bad c.requires.open_yet.lexer_open (λ e. told (c.refused.ensures.memory e)))
