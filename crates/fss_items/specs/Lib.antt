@@ -2,3 +2,4 @@ pub mod Bodies
 pub mod InHand
 pub mod Places
 pub mod Sites
+pub mod Waits

@@ -17,11 +17,15 @@ use std::marker::Model;
 
 pub mod atoms;
 pub mod closings;
+pub mod ends;
 pub mod keywords;
 pub mod openings;
 pub mod parts;
 pub mod places;
+pub mod settle;
 pub mod stack;
+pub mod steps;
+pub mod waiting;
 pub mod words;
 
 use parts::{Open, Stage, Waiting};
