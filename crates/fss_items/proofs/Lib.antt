@@ -1,5 +1,6 @@
 pub mod Alike
 pub mod Atoms
+pub mod BodySteps
 pub mod Choices
 pub mod Closings
 pub mod Ended

@@ -14,6 +14,7 @@ use owl_doc::{Builder, Doc, Term};
 use owl_tree::AtomSort;
 use std::alloc::Global;
 use std::marker::Model;
+use std::mem;
 
 pub mod atoms;
 pub mod closings;
@@ -29,6 +30,7 @@ pub mod waiting;
 pub mod words;
 
 use parts::{Open, Stage, Waiting};
+use steps::take;
 
 /// What was read of a document behind its header: imports, annotations and
 /// axioms (Structural Specification, section 3.7).
@@ -52,11 +54,13 @@ impl Model for Items {
 
     ghost coded = { Prim.hlevel (codes, coded_tree) };
 
-    ghost use Rattle.fss_items.specs.InHand.{HaveKids, body_of};
+    ghost use Rattle.std.specs.Prelude.{◌×◌, []};
+    ghost use Rattle.fss_items.specs.InHand.{HaveKids, body_of, constructs_before};
+    ghost use Rattle.fss_items.specs.Waits.{AreWaiting};
 
     ghost view = { body_of };
 
-    ghost invariant = { λ i. HaveKids i.builder.arena.trees i.stack.items };
+    ghost invariant = { λ i. HaveKids i.builder.arena.trees i.stack.items × AreWaiting i.stage (constructs_before i.builder.arena.trees i.stack.items []) i.waiting };
 }
 
 impl Items {
@@ -94,9 +98,7 @@ impl Items {
         Ok(())
     }
 
-    /// Takes the next term.
-    ///
-    /// This is not built yet: each term is refused with `Memory`. The moves that it will make are in the modules below.
+    /// Takes the next term. One that is refused leaves nothing that is of use.
     pub fn take(&mut self, term: Term) -> Result<(), ItemFault>
         requires room { self.old.trees + 2 ≤ 2 ^ 28 }
         ensures steps { OnOk result (Steps self.old term self.new) }
@@ -104,8 +106,23 @@ impl Items {
         ensures few { OnOk result (self.new.trees ≤ self.old.trees + 2) }
         ensures prefixes { OnOk result (self.new.prefixes ≡ self.old.prefixes) }
     {
-        let _ = term;
-        Err(ItemFault::Memory)
+        let waiting = mem::replace(&mut self.waiting, Waiting::Nothing);
+        let stage = self.stage;
+        let is_heavy = self.is_heavy;
+        // What was added stays held.
+        let _arena = self.builder.arena();
+        match take(self.alloc, &mut self.builder, &mut self.stack, waiting, term, stage, is_heavy) {
+            Ok(after) => {
+                self.waiting = after.waiting;
+                self.stage = after.stage;
+                self.is_heavy = after.is_heavy;
+                Ok(())
+            }
+            Err(fault) => {
+                self.stack.clear();
+                Err(fault)
+            }
+        }
     }
 
     /// The document, where the last bracket was read.

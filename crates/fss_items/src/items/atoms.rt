@@ -9,10 +9,12 @@ ghost use Rattle.owl_tree.specs.Shape.{IsShaped};
 ghost use Rattle.owl_tree.specs.Trees.{leaf};
 ghost use Rattle.owl_tree.specs.declared.tag.Tag.TheVariants as tag;
 ghost use Rattle.fss_items.specs.declared.items.parts.AtomPlace.TheVariants.{Facet};
+ghost use Rattle.fss_items.specs.declared.items.parts.Stage.{Stage};
 ghost use Rattle.fss_items.specs.Bodies.{AreReady, Barred, Turned};
 ghost use Rattle.fss_items.specs.InHand.{HaveKids, Keeps, constructs_before, terms_of, with_facet};
 ghost use Rattle.fss_items.specs.Places.{is_iri_sort, place_at};
 ghost use Rattle.fss_items.specs.Sites.{BarsSort, IsFull, IsPlace};
+ghost use Rattle.fss_items.specs.Waits.{AreWaiting};
 ghost use Rattle.fss_items.specs.declared.item_fault.ItemFault.{ItemFault};
 
 use super::parts::{AtomPlace, Open, Waiting};
@@ -37,6 +39,7 @@ pub fn take_atom(
     requires room { length builder.old.arena.trees < 2 ^ 28 }
     requires ready { AreReady (constructs_before builder.old.arena.trees stack.old.items []) (term.Atom atom) }
     ensures turned { IfOk result (λ waiting. Turned (constructs_before builder.old.arena.trees stack.old.items []) (term.Atom atom) (constructs_before builder.new.arena.trees stack.new.items []) (terms_of waiting)) }
+    ensures waits { IfOk result (λ waiting. (s : Stage) → AreWaiting s (constructs_before builder.new.arena.trees stack.new.items []) waiting) }
     ensures barred { IfErr result (λ fault. fault ≢ ItemFault.Memory → Barred (constructs_before builder.old.arena.trees stack.old.items []) (term.Atom atom)) }
     ensures held { HaveKids builder.new.arena.trees stack.new.items }
     ensures rest { builder.new ≡ with_arena builder.new.arena builder.old }

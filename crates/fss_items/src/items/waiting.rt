@@ -25,7 +25,7 @@ use owl_tree::{Atom, Tag};
 use std::alloc::Global;
 
 /// Takes the bracket behind the keyword of an import.
-fn take_import_bracket(next: &Term) -> Result<Waiting, ItemFault>
+pub fn take_import_bracket(next: &Term) -> Result<Waiting, ItemFault>
     ensures steps { IfOk result (λ waits. (d : Document) (cs : List kept.Open) (s : Stage) (heavy : Bool) → Steps (in_hand d cs waiting.Import s heavy) next.now (in_hand d cs waits s heavy)) }
     ensures waits { IfOk result (λ waits. (cs : List Construct) (s : Stage) → ImportWaits s cs → AreWaiting s cs waits) }
     ensures barred { IfErr result (λ fault. (d : Document) (cs : List kept.Open) (s : Stage) (heavy : Bool) → ImportWaits s (constructs_before d.arena.trees cs []) → Bars (in_hand d cs waiting.Import s heavy) next.now) }
@@ -37,7 +37,7 @@ fn take_import_bracket(next: &Term) -> Result<Waiting, ItemFault>
 }
 
 /// Takes the IRI of an import.
-fn take_import_name(next: Term) -> Result<Waiting, ItemFault>
+pub fn take_import_name(next: Term) -> Result<Waiting, ItemFault>
     ensures steps { IfOk result (λ waits. (d : Document) (cs : List kept.Open) (s : Stage) (heavy : Bool) → Steps (in_hand d cs waiting.ImportOpen s heavy) next (in_hand d cs waits s heavy)) }
     ensures waits { IfOk result (λ waits. (cs : List Construct) (s : Stage) → ImportWaits s cs → AreWaiting s cs waits) }
     ensures barred { IfErr result (λ fault. (d : Document) (cs : List kept.Open) (s : Stage) (heavy : Bool) → ImportWaits s (constructs_before d.arena.trees cs []) → Bars (in_hand d cs waiting.ImportOpen s heavy) next) }
@@ -81,7 +81,7 @@ pub fn take_bracket(alloc: Global, stack: &mut Vec<Open>, tag: Tag, next: &Term)
 }
 
 /// Takes the IRI of an entity in a declaration.
-fn take_entity_name(tag: Tag, next: Term) -> Result<Waiting, ItemFault>
+pub fn take_entity_name(tag: Tag, next: Term) -> Result<Waiting, ItemFault>
     ensures steps { IfOk result (λ waits. (d : Document) (cs : List kept.Open) (s : Stage) (heavy : Bool) → Steps (in_hand d cs (waiting.EntityOpen tag) s heavy) next (in_hand d cs waits s heavy)) }
     ensures waits { IfOk result (λ waits. (cs : List Construct) (s : Stage) → EntityWaits cs tag → AreWaiting s cs waits) }
     ensures barred { IfErr result (λ fault. (d : Document) (cs : List kept.Open) (s : Stage) (heavy : Bool) → EntityWaits (constructs_before d.arena.trees cs []) tag → Bars (in_hand d cs (waiting.EntityOpen tag) s heavy) next) }
