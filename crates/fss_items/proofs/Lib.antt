@@ -4,6 +4,7 @@ pub mod BodySteps
 pub mod Choices
 pub mod Closings
 pub mod Ended
+pub mod Expect
 pub mod Faults
 pub mod Firsts
 pub mod Fresh

@@ -24,6 +24,7 @@ pub mod openings;
 pub mod parts;
 pub mod places;
 pub mod settle;
+pub mod sites;
 pub mod stack;
 pub mod steps;
 pub mod waiting;

@@ -100,7 +100,7 @@ fn atom_place(builder: &Builder, stack: &Vec<Open>, sort: AtomSort) -> Result<At
 }
 
 /// How many constructs are open round an atom.
-fn level_of(place: AtomPlace, levels: usize) -> usize
+pub fn level_of(place: AtomPlace, levels: usize) -> usize
     requires { levels < 2 ^ 63 }
     ensures most { result ≤ levels + 1 }
     ensures other { levels < result → place ≡ Facet }
