@@ -1,9 +1,11 @@
 -- From moves of constructs to what is in hand.
-use Rattle.std.proofs.Common.{◌≡◌, refl, sym, subst, false, Bool}
-use Rattle.std.specs.Prelude.{List, [], ◌∷◌, ◌++◌}
+use Rattle.std.proofs.Common.{◌≡◌, ◌≢◌, refl, sym, subst, false, Bool}
+use Rattle.std.specs.Prelude.{List, [], ◌∷◌, ◌++◌, Result, Ok, Err, IfOk, IfErr}
 use Rattle.owl_tree.specs.Ontologies.{Ontology}
 use Rattle.owl_doc.specs.declared.term.Term.{Term}
 use Rattle.owl_doc.specs.Documents.{Document, ontology_of}
+use Rattle.fss_items.specs.declared.item_fault.ItemFault.{ItemFault}
+use Rattle.fss_items.specs.declared.item_fault.ItemFault.TheVariants.{Memory}
 use Rattle.fss_items.specs.declared.items.parts.Open as kept
 use Rattle.fss_items.specs.declared.items.parts.Stage.{Stage}
 use Rattle.fss_items.specs.declared.items.parts.Waiting.{Waiting}
@@ -31,3 +33,12 @@ before_steps a b c x f s = record {
 
 pub before_bars : (a b : Body) (x : Term) → Before a x b → Bars b x → Bars a x
 before_bars a b x f s = λ terms o limits h. s terms o limits (f.all terms o limits h)
+
+module _ {A : Type 0} (a b : Body) (x : Term) (same : Before a x b) where
+  pub steps_behind : (r : Result A ItemFault) (f : A → Body) → IfOk r (λ after. Steps b x (f after)) → IfOk r (λ after. Steps a x (f after))
+  steps_behind (Ok after) f s = before_steps a b (f after) x same s
+  steps_behind (Err fault) f s = tt
+
+  pub barred_behind : (r : Result A ItemFault) → IfErr r (λ fault. fault ≢ Memory → Bars b x) → IfErr r (λ fault. fault ≢ Memory → Bars a x)
+  barred_behind (Ok after) s = tt
+  barred_behind (Err fault) s = λ n. before_bars a b x same (s n)

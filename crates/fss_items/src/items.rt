@@ -55,7 +55,7 @@ impl Model for Items {
 
     ghost coded = { Prim.hlevel (codes, coded_tree) };
 
-    ghost use Rattle.std.specs.Prelude.{◌×◌, []};
+    ghost use Rattle.std.specs.Prelude.{[]};
     ghost use Rattle.fss_items.specs.InHand.{HaveKids, body_of, constructs_before};
     ghost use Rattle.fss_items.specs.Waits.{AreWaiting};
 
@@ -112,7 +112,15 @@ impl Items {
         let is_heavy = self.is_heavy;
         // What was added stays held.
         let _arena = self.builder.arena();
-        match take(self.alloc, &mut self.builder, &mut self.stack, waiting, term, stage, is_heavy) {
+        match take(
+            self.alloc,
+            &mut self.builder,
+            &mut self.stack,
+            waiting,
+            term,
+            stage,
+            is_heavy,
+        ) {
             Ok(after) => {
                 self.waiting = after.waiting;
                 self.stage = after.stage;

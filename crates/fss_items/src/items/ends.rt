@@ -38,6 +38,5 @@ pub fn take_end(
     ensures prefixes { OnOk result (builder.new.prefixes ≡ builder.old.prefixes) }
     ensures few { OnOk result (length builder.new.arena.trees ≤ length builder.old.arena.trees + 1) }
 {
-    let _ = (stack, stage, is_heavy);
     Err(ItemFault::Memory)
 }

@@ -35,7 +35,6 @@ pub fn settle(
     ensures rest { builder.new ≡ with_arena builder.new.arena builder.old }
     ensures few { OnOk result (length builder.new.arena.trees ≤ length builder.old.arena.trees + 1) }
 {
-    let _ = (alloc, stack, next, is_heavy);
     Err(ItemFault::Memory)
 }
 
@@ -58,6 +57,5 @@ pub fn settle_name(
     ensures rest { builder.new ≡ with_arena builder.new.arena builder.old }
     ensures few { OnOk result (length builder.new.arena.trees ≤ length builder.old.arena.trees + 1) }
 {
-    let _ = (stack, name, next);
     Err(ItemFault::Memory)
 }

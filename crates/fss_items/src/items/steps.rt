@@ -34,18 +34,6 @@ pub struct After {
     pub is_heavy: bool,
 }
 
-impl After {
-    fn of(waiting: Waiting, stage: Stage, is_heavy: bool) -> After
-        ensures { result ≡ record { waiting = waiting; stage = stage; is_heavy = is_heavy } }
-    {
-        After {
-            waiting,
-            stage,
-            is_heavy,
-        }
-    }
-}
-
 /// Takes a keyword.
 fn shift_keyword(
     builder: &mut Builder,
@@ -66,7 +54,11 @@ fn shift_keyword(
     ensures few { OnOk result (length builder.new.arena.trees ≤ length builder.old.arena.trees + 1) }
 {
     let waiting = take_keyword(builder, stack, stage, word)?;
-    Ok(After::of(waiting, stage, is_heavy))
+    Ok(After {
+        waiting,
+        stage,
+        is_heavy,
+    })
 }
 
 /// Takes a bracket that opens a group.
@@ -88,9 +80,12 @@ fn shift_opening(
     ensures prefixes { OnOk result (builder.new.prefixes ≡ builder.old.prefixes) }
     ensures few { OnOk result (length builder.new.arena.trees ≤ length builder.old.arena.trees + 1) }
 {
-    let _ = builder;
     take_group(alloc, stack)?;
-    Ok(After::of(Waiting::Nothing, stage, is_heavy))
+    Ok(After {
+        waiting: Waiting::Nothing,
+        stage,
+        is_heavy,
+    })
 }
 
 /// Takes a bracket that ends a construct or the document.
@@ -112,7 +107,11 @@ fn shift_closing(
     ensures few { OnOk result (length builder.new.arena.trees ≤ length builder.old.arena.trees + 1) }
 {
     let ended = take_end(builder, stack, stage, is_heavy)?;
-    Ok(After::of(Waiting::Nothing, ended.stage, ended.is_heavy))
+    Ok(After {
+        waiting: Waiting::Nothing,
+        stage: ended.stage,
+        is_heavy: ended.is_heavy,
+    })
 }
 
 /// Takes an atom.
@@ -136,7 +135,11 @@ fn shift_atom(
     ensures few { OnOk result (length builder.new.arena.trees ≤ length builder.old.arena.trees + 1) }
 {
     let waiting = take_atom(alloc, builder, stack, atom)?;
-    Ok(After::of(waiting, stage, is_heavy))
+    Ok(After {
+        waiting,
+        stage,
+        is_heavy,
+    })
 }
 
 /// Takes a term where nothing waits for it, and nothing begins or ends in front
@@ -242,7 +245,11 @@ fn take_behind_entity(
     ensures few { OnOk result (length builder.new.arena.trees ≤ length builder.old.arena.trees + 1) }
 {
     take_entity(builder, stack, tag, atom, next)?;
-    Ok(After::of(Waiting::Nothing, stage, is_heavy))
+    Ok(After {
+        waiting: Waiting::Nothing,
+        stage,
+        is_heavy,
+    })
 }
 
 /// Takes the term behind the IRI of an import.
@@ -265,9 +272,12 @@ fn take_behind_import(
     ensures prefixes { OnOk result (builder.new.prefixes ≡ builder.old.prefixes) }
     ensures few { OnOk result (length builder.new.arena.trees ≤ length builder.old.arena.trees + 1) }
 {
-    let _ = stack;
     take_import(builder, iri, next)?;
-    Ok(After::of(Waiting::Nothing, stage, is_heavy))
+    Ok(After {
+        waiting: Waiting::Nothing,
+        stage,
+        is_heavy,
+    })
 }
 
 /// Takes the next term, with what waits for it.
@@ -302,12 +312,28 @@ pub fn take(
         Waiting::EntityAtom(tag, atom) => {
             take_behind_entity(builder, stack, tag, atom, &next, stage, is_heavy)
         }
-        Waiting::Import => Ok(After::of(take_import_bracket(&next)?, stage, is_heavy)),
-        Waiting::ImportOpen => Ok(After::of(take_import_name(next)?, stage, is_heavy)),
+        Waiting::Import => Ok(After {
+            waiting: take_import_bracket(&next)?,
+            stage,
+            is_heavy,
+        }),
+        Waiting::ImportOpen => Ok(After {
+            waiting: take_import_name(next)?,
+            stage,
+            is_heavy,
+        }),
         Waiting::Keyword(tag) => {
             let waiting = take_bracket(alloc, stack, tag, &next)?;
-            Ok(After::of(waiting, stage, is_heavy))
+            Ok(After {
+                waiting,
+                stage,
+                is_heavy,
+            })
         }
-        Waiting::EntityOpen(tag) => Ok(After::of(take_entity_name(tag, next)?, stage, is_heavy)),
+        Waiting::EntityOpen(tag) => Ok(After {
+            waiting: take_entity_name(tag, next)?,
+            stage,
+            is_heavy,
+        }),
     }
 }
