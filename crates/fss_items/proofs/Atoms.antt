@@ -160,7 +160,7 @@ facet_deep stage whole o limits c cs a terms n g =
     let p : Construct = record { tag = tag.FacetPair; kids = [] } in
     let d = deep_inside stage whole o limits (p ∷ c ∷ cs) (leaf tag.Facet a) terms g in omega (arith, d, n)
 
-facet_too_deep : (c : Construct) (cs : List Construct) (a : Atom) → 127 ≤ length (c ∷ cs) → next_of c.tag (length c.kids) ≡ next.Tree sort.FacetPair → IsReady c.tag c.kids (term.Atom a) → Barred (c ∷ cs) (term.Atom a)
+pub facet_too_deep : (c : Construct) (cs : List Construct) (a : Atom) → 127 ≤ length (c ∷ cs) → next_of c.tag (length c.kids) ≡ next.Tree sort.FacetPair → IsReady c.tag c.kids (term.Atom a) → Barred (c ∷ cs) (term.Atom a)
 facet_too_deep c cs a n e r stage whole o terms limits h =
     facet_deep stage whole o limits c cs a terms n (pair_comes c.tag c.kids (Takes cs stage whole o) sort.FacetPair e a terms refl (construct_turns stage whole o c cs (term.Atom a) terms r h))
 

@@ -64,12 +64,7 @@ pub fn take_import(builder: &mut Builder, iri: Iri, next: &Term) -> Result<(), I
 
 /// Takes the bracket behind the keyword of a construct, which begins then, or of
 /// an entity in a declaration.
-pub fn take_bracket(
-    alloc: Global,
-    stack: &mut Vec<Open>,
-    tag: Tag,
-    next: &Term,
-) -> Result<Waiting, ItemFault>
+pub fn take_bracket(alloc: Global, stack: &mut Vec<Open>, tag: Tag, next: &Term) -> Result<Waiting, ItemFault>
     ensures steps { IfOk result (λ waits. (d : Document) (s : Stage) (heavy : Bool) → AreWaiting s (constructs_before d.arena.trees stack.old.items []) (waiting.Keyword tag) → Steps (in_hand d stack.old.items (waiting.Keyword tag) s heavy) next.now (in_hand d stack.new.items waits s heavy)) }
     ensures waits { IfOk result (λ waits. (ts : List Tree) (s : Stage) → AreWaiting s (constructs_before ts stack.old.items []) (waiting.Keyword tag) → AreWaiting s (constructs_before ts stack.new.items []) waits) }
     ensures barred { IfErr result (λ fault. fault ≢ ItemFault.Memory → (d : Document) (s : Stage) (heavy : Bool) → AreWaiting s (constructs_before d.arena.trees stack.old.items []) (waiting.Keyword tag) → Bars (in_hand d stack.old.items (waiting.Keyword tag) s heavy) next.now) }
@@ -131,7 +126,7 @@ fn take_item_keyword(stage: Stage, word: &Text) -> Result<Waiting, ItemFault>
     if word.is("Import") && stage == Stage::Imports {
         return Ok(Waiting::Import);
     }
-    match tag_named(word.as_str()) {
+    match tag_named(word) {
         Some(tag) => if may_be_item(stage, tag) {
             Ok(Waiting::Keyword(tag))
         } else {
@@ -165,6 +160,6 @@ pub fn take_keyword(
 {
     match stack.last() {
         None => take_item_keyword(stage, word),
-        Some(top) => Ok(Waiting::Keyword(kid_keyword(builder, stack, top, word.as_str())?)),
+        Some(top) => Ok(Waiting::Keyword(kid_keyword(builder, stack, top, word)?)),
     }
 }
