@@ -1,20 +1,19 @@
 -- What comes of a term behind one that waits.
-use Rattle.std.proofs.Common.{◌≡◌, ◌⊎◌, inl, inr, refl, sym, ap, ◌∙◌, subst, true, false, Bool, arith, ◌<◌}
-use Rattle.std.specs.Prelude.{◌-◌, slice_get, ℕ, zero, suc, ◌||◌, ◌&&◌, not, List, [], ◌∷◌, ◌++◌, codes, length, Some, Result, Ok, Err, IfErr, OnOk, ◌≢◌, if◌then◌else◌}
+use Rattle.std.proofs.Common.{◌≡◌, inl, inr, refl, sym, ap, ◌∙◌, subst, true, false, Bool, arith, ◌<◌}
+use Rattle.std.specs.Prelude.{◌-◌, slice_get, ℕ, zero, suc, ◌||◌, not, List, [], ◌∷◌, ◌++◌, codes, length, Some, Result, Ok, Err, IfErr, OnOk, ◌≢◌, if◌then◌else◌}
 use Rattle.std.specs.Str.{bytes_eq}
 use Rattle.std.proofs.lemmas.Bool.{and_parts, eqb-true, false≢true, true≢false}
 use Rattle.owl_text.specs.Iri.{IsIri}
 use Rattle.owl_tree.proofs.Keywords.{same_keyword}
 use Rattle.owl_tree.specs.declared.atom.Atom.{Atom}
 use Rattle.owl_tree.specs.declared.atom.Atom.TheVariants as held_atom
-use Rattle.owl_tree.specs.declared.row.AtomSort.{AtomSort}
 use Rattle.owl_tree.specs.declared.row.AtomSort.TheVariants as atom
 use Rattle.owl_tree.specs.declared.row.Sort.TheVariants as sort
 use Rattle.owl_tree.specs.declared.tag.Tag.{Tag}
 use Rattle.owl_tree.specs.declared.tag.Tag.TheVariants as tag
 use Rattle.owl_tree.specs.Ontologies.{Ontology}
 use Rattle.owl_tree.specs.OrderLaws.{same_number}
-use Rattle.owl_tree.specs.Rows.{Row, Leaf, Node, admits, is_of_sort, is_tag, row_of, sort_of, takes}
+use Rattle.owl_tree.specs.Rows.{Row, Leaf, Node, admits, is_tag, row_of, sort_of, takes}
 use Rattle.owl_tree.specs.Shape.{IsShaped}
 use Rattle.owl_tree.specs.Tags.{is_axiom, keyword_of, number_of}
 use Rattle.owl_tree.specs.Trees.{Tree, leaf, tag_of}
@@ -34,12 +33,12 @@ use Rattle.fss_items.specs.Bodies.{AreReady, Bars, Completion, Construct, EndsWi
 use Rattle.fss_items.specs.InHand.{construct_of, constructs_before, terms_of, with_kid}
 use Rattle.fss_items.specs.Places.{May, has_keyword, has_notes, is_iri_sort, is_leaf_row, keyword_in, may_begin, next_of}
 use Rattle.fss_items.specs.Sites.{BarsWord}
-use Rattle.fss_items.specs.Waits.{AreWaiting, EntityWaits, ImportWaits, InDeclaration, KeywordWaits, NodeWaits, in_hand, may_be_item}
+use Rattle.fss_items.specs.Waits.{AreWaiting, EntityWaits, ImportWaits, KeywordWaits, NodeWaits, in_hand, may_be_item}
 use Rattle.fss_items.proofs.Firsts.{head_is, last_shaped, last_stands, tail_is}
 use Rattle.fss_items.proofs.Keyed.{leaf_row, node_row}
 use Rattle.fss_items.proofs.Moves.{atom_is, atom_keyword, construct_turns, keyword_closing, keyword_opening, pair_begins, word_is}
 use Rattle.fss_items.proofs.Openings.{begins, opened_with}
-use Rattle.fss_items.proofs.Stacks.{nothing_begun, top_is}
+use Rattle.fss_items.proofs.Stacks.{top_is}
 use Rattle.fss_items.proofs.Taken.{entity_back}
 use Rattle.fss_items.proofs.Topmost.{ItemTurns, annotation_has_notes, body_ends, import_comes, item_comes, item_turns, items_have_keywords, keyworded, or_right, second}
 use Rattle.fss_items.proofs.Tops.{import_back}

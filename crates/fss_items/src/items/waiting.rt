@@ -1,6 +1,6 @@
 //! Terms behind those that wait for them.
 
-ghost use Rattle.std.specs.Prelude.{◌≡◌, ◌≢◌, ◌≤◌, ◌<◌, ◌+◌, ◌^◌, [], ◌∷◌, Bool, IfErr, IfOk, IfSome, IsNone, List, OnOk, codes, false, length, true, ℕ};
+ghost use Rattle.std.specs.Prelude.{◌≡◌, ◌≢◌, ◌≤◌, ◌<◌, ◌+◌, ◌^◌, [], Bool, IfErr, IfOk, IfSome, IsNone, List, OnOk, codes, false, length, true, ℕ};
 ghost use Rattle.owl_doc.specs.Documents.{Document, IsBegun, with_arena};
 ghost use Rattle.owl_doc.specs.declared.term.Term.TheVariants as term;
 ghost use Rattle.owl_doc.specs.Functional.{iri_term};
@@ -93,7 +93,12 @@ pub fn take_import(builder: &mut Builder, iri: Iri, next: &Term) -> Result<(), I
 
 /// Takes the bracket behind the keyword of a construct, which begins then, or of
 /// an entity in a declaration.
-pub fn take_bracket(alloc: Global, stack: &mut Vec<Open>, tag: Tag, next: &Term) -> Result<Waiting, ItemFault>
+pub fn take_bracket(
+    alloc: Global,
+    stack: &mut Vec<Open>,
+    tag: Tag,
+    next: &Term,
+) -> Result<Waiting, ItemFault>
     ensures steps { IfOk result (λ waits. (d : Document) (s : Stage) (heavy : Bool) → AreWaiting s (constructs_before d.arena.trees stack.old.items []) (waiting.Keyword tag) → Steps (in_hand d stack.old.items (waiting.Keyword tag) s heavy) next.now (in_hand d stack.new.items waits s heavy)) }
     ensures waits { IfOk result (λ waits. (ts : List Tree) (s : Stage) → AreWaiting s (constructs_before ts stack.old.items []) (waiting.Keyword tag) → AreWaiting s (constructs_before ts stack.new.items []) waits) }
     ensures barred { IfErr result (λ fault. fault ≢ ItemFault.Memory → (d : Document) (s : Stage) (heavy : Bool) → AreWaiting s (constructs_before d.arena.trees stack.old.items []) (waiting.Keyword tag) → Bars (in_hand d stack.old.items (waiting.Keyword tag) s heavy) next.now) }

@@ -1,5 +1,4 @@
-use Rattle.std.proofs.Common.{rules, ◌≡◌, length, refl, sym, ap, ◌∙◌, true, false}
-use Rattle.owl_tree.specs.Tags.{keyword_of}
+use Rattle.std.proofs.Common.{rules, ◌≡◌, length, refl, true, false}
 use Rattle.fss_items.specs.Places.{may_begin}
 use Rattle.fss_items.proofs.Keyed.{bars_deep_word, bars_word, one_named}
 use Rattle.fss_items.proofs.Stacks.{top_held}

@@ -1,4 +1,4 @@
-use Rattle.std.proofs.Common.{rules, ◌≡◌, ◌∙◌, sym, subst, false}
+use Rattle.std.proofs.Common.{rules, ◌≡◌, sym, subst, false}
 use Rattle.owl_doc.specs.declared.term.Term.{Term}
 use Rattle.owl_tree.specs.Rows.{row_of}
 use Rattle.fss_items.specs.declared.items.parts.Waiting.TheVariants as waiting
@@ -20,5 +20,5 @@ pub returns-clause-steps : goal.returns-clause-steps
 returns-clause-steps c =
     let node : is_leaf_row (row_of c.args.tag) ≡ false = search rules in
     λ d s heavy w.
-        subst (λ (x : Term). Steps (in_hand d c.args.stack.now.items (waiting.Keyword c.args.tag) s heavy) x (in_hand d c.begin.new.stack.items waiting.Nothing s heavy)) (sym c.in-Opening.is)
-        (node_begins d c.args.stack.now.items c.begin.new.stack.items c.args.tag s heavy node (c.in_ok-begin.ensures.begun d.arena.trees) w)
+    subst (λ (x : Term). Steps (in_hand d c.args.stack.now.items (waiting.Keyword c.args.tag) s heavy) x (in_hand d c.begin.new.stack.items waiting.Nothing s heavy)) (sym c.in-Opening.is)
+    (node_begins d c.args.stack.now.items c.begin.new.stack.items c.args.tag s heavy node (c.in_ok-begin.ensures.begun d.arena.trees) w)

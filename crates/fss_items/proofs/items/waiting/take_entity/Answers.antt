@@ -1,4 +1,3 @@
-use Rattle.std.proofs.Common.{rules}
 use Rattle.fss_items.proofs.Waited.{bars_entity_end, entity_refused, entity_taken, not_closing}
 use Rattle.fss_items.proofs.Wholes.{same_whole}
 use Rattle.fss_items.proofs.items.waiting.take_entity.Goals as goal

@@ -1,4 +1,3 @@
-use Rattle.std.proofs.Common.{rules}
 use Rattle.fss_items.proofs.Waited.{bars_import, not_opening}
 use Rattle.fss_items.proofs.items.waiting.take_import_bracket.Goals as goal
 

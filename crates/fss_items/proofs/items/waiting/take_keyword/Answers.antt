@@ -1,4 +1,3 @@
-use Rattle.std.proofs.Common.{rules}
 use Rattle.fss_items.proofs.items.waiting.take_keyword.Goals as goal
 
 pub returns-in_ok-kid_keyword-in-Some-clause-waits : goal.returns-in_ok-kid_keyword-in-Some-clause-waits
