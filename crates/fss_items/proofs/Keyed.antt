@@ -38,11 +38,11 @@ use Rattle.fss_items.proofs.Names.{data_names, names_everywhere}
 use Rattle.fss_items.proofs.Sites.{full_ends}
 use Rattle.fss_items.proofs.Turns.{Turns, an_atom_comes, a_construct_comes, a_group_comes, a_pair_comes, an_entity_comes, ends}
 
-leaf_row : (row : Row) (a : Atom) → takes row a ≡ true → is_leaf_row row ≡ true
+pub leaf_row : (row : Row) (a : Atom) → takes row a ≡ true → is_leaf_row row ≡ true
 leaf_row (Leaf s) a e = refl
 leaf_row (Node front r) a e = absurd (false≢true e)
 
-node_row : (row : Row) (ts : List Tag) → fits row ts ≡ true → is_leaf_row row ≡ false
+pub node_row : (row : Row) (ts : List Tag) → fits row ts ≡ true → is_leaf_row row ≡ false
 node_row (Leaf s) ts e = absurd (false≢true e)
 node_row (Node front r) ts e = refl
 

@@ -26,4 +26,6 @@ pub mod Taken
 pub mod Topmost
 pub mod Tops
 pub mod Turns
+pub mod Waited
+pub mod Wholes
 pub mod Words

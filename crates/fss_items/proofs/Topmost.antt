@@ -26,20 +26,20 @@ use Rattle.fss_items.proofs.Moves.{atom_closing, atom_keyword}
 use Rattle.fss_items.proofs.Taken.{no_leaf_of}
 use Rattle.fss_items.proofs.Tops.{TopTurns, all_ends, an_import_comes, an_item_comes, item_back, top_turns}
 
-items_have_keywords : (t : Tag) → (not (has_notes t) || has_keyword t) ≡ true
+pub items_have_keywords : (t : Tag) → (not (has_notes t) || has_keyword t) ≡ true
 unfolding row_of number_of
 items_have_keywords tag.Class = refl
 items_have_keywords _ = refl
 
-annotation_has_notes : has_notes tag.Annotation ≡ true
+pub annotation_has_notes : has_notes tag.Annotation ≡ true
 unfolding number_of
 annotation_has_notes = refl
 
-or_right : (b c : Bool) → c ≡ true → (b || c) ≡ true
+pub or_right : (b c : Bool) → c ≡ true → (b || c) ≡ true
 or_right true c e = refl
 or_right false c e = e
 
-second : (b c : Bool) → (not b || c) ≡ true → b ≡ true → c ≡ true
+pub second : (b c : Bool) → (not b || c) ≡ true → b ≡ true → c ≡ true
 second true c e f = e
 second false c e f = absurd (false≢true f)
 

@@ -6,14 +6,14 @@ use Rattle.owl_tree.specs.declared.tag.Tag.{Tag}
 use Rattle.owl_tree.specs.declared.tag.Tag.TheVariants as tag
 use Rattle.owl_tree.specs.Ontologies.{Ontology}
 use Rattle.owl_tree.specs.Rows.{is_tag, row_of, sort_of}
-use Rattle.owl_tree.specs.Tags.{keyword_of}
+use Rattle.owl_tree.specs.Tags.{is_axiom, keyword_of}
 use Rattle.owl_doc.specs.declared.term.Term.{Term}
 use Rattle.owl_doc.specs.declared.term.Term.TheVariants as term
 use Rattle.owl_doc.specs.Documents.{Document, ontology_of}
 use Rattle.owl_doc.specs.Functional.{IsWithinLimits}
 use Rattle.fss_items.specs.declared.items.parts.Open as kept
 use Rattle.fss_items.specs.declared.items.parts.Stage.{Stage}
-use Rattle.fss_items.specs.declared.items.parts.Stage.TheVariants.{Imports}
+use Rattle.fss_items.specs.declared.items.parts.Stage.TheVariants.{Imports, Annotations, Axioms, Ended}
 use Rattle.fss_items.specs.declared.items.parts.Waiting.{Waiting}
 use Rattle.fss_items.specs.declared.items.parts.Waiting.TheVariants as waiting
 use Rattle.fss_items.specs.declared.items.places.Next.TheVariants.{Names}
@@ -53,6 +53,13 @@ pub record EntityWaits (cs : List Construct) (t : Tag) : Type 0 where
 pub record NodeWaits (cs : List Construct) (t : Tag) : Type 0 where
   pub ready : AreReady cs (term.Keyword (keyword_of t))
   pub word : has_keyword t ≡ true
+
+-- The keyword of the tag may begin an item: an annotation of the ontology or an axiom.
+abbrev pub may_be_item : Stage → Tag → Bool
+may_be_item Imports t = has_notes t
+may_be_item Annotations t = has_notes t
+may_be_item Axioms t = is_axiom t
+may_be_item Ended t = false
 
 -- imports stand outside all constructs, in front of all else
 pub record ImportWaits (stage : Stage) (cs : List Construct) : Type 0 where

@@ -1,20 +1,23 @@
 //! Terms behind those that wait for them.
 
-ghost use Rattle.std.specs.Prelude.{◌≡◌, ◌≢◌, ◌≤◌, ◌<◌, ◌+◌, ◌^◌, [], ◌∷◌, Bool, IfErr, IfOk, List, OnOk, length};
+ghost use Rattle.std.specs.Prelude.{◌≡◌, ◌≢◌, ◌≤◌, ◌<◌, ◌+◌, ◌^◌, [], Bool, IfErr, IfOk, IfSome, IsNone, List, OnOk, codes, false, length, true, ℕ};
 ghost use Rattle.owl_doc.specs.Documents.{Document, IsBegun, with_arena};
 ghost use Rattle.owl_doc.specs.declared.term.Term.TheVariants as term;
+ghost use Rattle.owl_doc.specs.Functional.{iri_term};
+ghost use Rattle.owl_tree.specs.declared.atom.Atom.TheVariants as held;
 ghost use Rattle.owl_tree.specs.Trees.{Tree};
 ghost use Rattle.fss_items.specs.declared.items.parts.Open as kept;
 ghost use Rattle.fss_items.specs.declared.items.parts.Stage.{Stage};
+ghost use Rattle.fss_items.specs.declared.items.parts.Stage.TheVariants.{Imports};
 ghost use Rattle.fss_items.specs.declared.items.parts.Waiting.TheVariants as waiting;
 ghost use Rattle.fss_items.specs.Bodies.{AreReady, Bars, Construct, Steps};
 ghost use Rattle.fss_items.specs.InHand.{HaveKids, constructs_before};
-ghost use Rattle.fss_items.specs.Waits.{AreWaiting, EntityWaits, ImportWaits, in_hand};
+ghost use Rattle.fss_items.specs.Waits.{AreWaiting, EntityWaits, ImportWaits, in_hand, may_be_item};
 ghost use Rattle.fss_items.specs.declared.item_fault.ItemFault.{ItemFault};
 
 use super::keywords::kid_keyword;
 use super::parts::{Open, Stage, Waiting};
-use super::places::is_leaf;
+use super::places::{has_notes, is_leaf};
 use super::stack::{begin, put_leaf};
 use super::words::tag_named;
 use crate::item_fault::ItemFault;
@@ -30,10 +33,10 @@ pub fn take_import_bracket(next: &Term) -> Result<Waiting, ItemFault>
     ensures waits { IfOk result (λ waits. (cs : List Construct) (s : Stage) → ImportWaits s cs → AreWaiting s cs waits) }
     ensures barred { IfErr result (λ fault. (d : Document) (cs : List kept.Open) (s : Stage) (heavy : Bool) → ImportWaits s (constructs_before d.arena.trees cs []) → Bars (in_hand d cs waiting.Import s heavy) next.now) }
 {
-    match next {
-        Term::Opening => Ok(Waiting::ImportOpen),
-        Term::Keyword(_) | Term::Closing | Term::Atom(_) => Err(ItemFault::NotHere),
-    }
+    let Term::Opening = next else {
+        return Err(ItemFault::NotHere);
+    };
+    Ok(Waiting::ImportOpen)
 }
 
 /// Takes the IRI of an import.
@@ -42,10 +45,34 @@ pub fn take_import_name(next: Term) -> Result<Waiting, ItemFault>
     ensures waits { IfOk result (λ waits. (cs : List Construct) (s : Stage) → ImportWaits s cs → AreWaiting s cs waits) }
     ensures barred { IfErr result (λ fault. (d : Document) (cs : List kept.Open) (s : Stage) (heavy : Bool) → ImportWaits s (constructs_before d.arena.trees cs []) → Bars (in_hand d cs waiting.ImportOpen s heavy) next) }
 {
-    match next {
-        Term::Atom(Atom::Iri(iri)) => Ok(Waiting::ImportIri(iri)),
-        Term::Atom(Atom::Label(_) | Atom::Literal(_) | Atom::Number(_)) => Err(ItemFault::NotHere),
-        Term::Keyword(_) | Term::Opening | Term::Closing => Err(ItemFault::NotHere),
+    match iri_in(next) {
+        Some(iri) => Ok(Waiting::ImportIri(iri)),
+        None => Err(ItemFault::NotHere),
+    }
+}
+
+/// The IRI that the term is.
+fn iri_in(term: Term) -> Option<Iri>
+    ensures some { IfSome result (λ iri. term ≡ iri_term iri) }
+    ensures none { IsNone result → (iri : List ℕ) → term ≡ iri_term iri → ⊥ }
+{
+    match term {
+        Term::Atom(atom) => iri_of(atom),
+        Term::Keyword(_) => None,
+        Term::Opening => None,
+        Term::Closing => None,
+    }
+}
+
+fn iri_of(atom: Atom) -> Option<Iri>
+    ensures some { IfSome result (λ iri. atom ≡ held.Iri iri) }
+    ensures none { IsNone result → (iri : List ℕ) → atom ≡ held.Iri iri → ⊥ }
+{
+    match atom {
+        Atom::Iri(iri) => Some(iri),
+        Atom::Label(_) => None,
+        Atom::Literal(_) => None,
+        Atom::Number(_) => None,
     }
 }
 
@@ -56,15 +83,22 @@ pub fn take_import(builder: &mut Builder, iri: Iri, next: &Term) -> Result<(), I
     ensures trees { builder.new.arena ≡ builder.old.arena }
     ensures prefixes { builder.new.prefixes ≡ builder.old.prefixes }
 {
-    match next {
-        Term::Closing => Ok(builder.import(iri)?),
-        Term::Keyword(_) | Term::Opening | Term::Atom(_) => Err(ItemFault::NotHere),
-    }
+    let Term::Closing = next else {
+        return Err(ItemFault::NotHere);
+    };
+    // The text of an IRI tells that it is one.
+    let _text = iri.text();
+    Ok(builder.import(iri)?)
 }
 
 /// Takes the bracket behind the keyword of a construct, which begins then, or of
 /// an entity in a declaration.
-pub fn take_bracket(alloc: Global, stack: &mut Vec<Open>, tag: Tag, next: &Term) -> Result<Waiting, ItemFault>
+pub fn take_bracket(
+    alloc: Global,
+    stack: &mut Vec<Open>,
+    tag: Tag,
+    next: &Term,
+) -> Result<Waiting, ItemFault>
     ensures steps { IfOk result (λ waits. (d : Document) (s : Stage) (heavy : Bool) → AreWaiting s (constructs_before d.arena.trees stack.old.items []) (waiting.Keyword tag) → Steps (in_hand d stack.old.items (waiting.Keyword tag) s heavy) next.now (in_hand d stack.new.items waits s heavy)) }
     ensures waits { IfOk result (λ waits. (ts : List Tree) (s : Stage) → AreWaiting s (constructs_before ts stack.old.items []) (waiting.Keyword tag) → AreWaiting s (constructs_before ts stack.new.items []) waits) }
     ensures barred { IfErr result (λ fault. fault ≢ ItemFault.Memory → (d : Document) (s : Stage) (heavy : Bool) → AreWaiting s (constructs_before d.arena.trees stack.old.items []) (waiting.Keyword tag) → Bars (in_hand d stack.old.items (waiting.Keyword tag) s heavy) next.now) }
@@ -86,10 +120,9 @@ pub fn take_entity_name(tag: Tag, next: Term) -> Result<Waiting, ItemFault>
     ensures waits { IfOk result (λ waits. (cs : List Construct) (s : Stage) → EntityWaits cs tag → AreWaiting s cs waits) }
     ensures barred { IfErr result (λ fault. (d : Document) (cs : List kept.Open) (s : Stage) (heavy : Bool) → EntityWaits (constructs_before d.arena.trees cs []) tag → Bars (in_hand d cs (waiting.EntityOpen tag) s heavy) next) }
 {
-    match next {
-        Term::Atom(Atom::Iri(iri)) => Ok(Waiting::EntityAtom(tag, Atom::Iri(iri))),
-        Term::Atom(Atom::Label(_) | Atom::Literal(_) | Atom::Number(_)) => Err(ItemFault::NotHere),
-        Term::Keyword(_) | Term::Opening | Term::Closing => Err(ItemFault::NotHere),
+    match iri_in(next) {
+        Some(iri) => Ok(Waiting::EntityAtom(tag, Atom::Iri(iri))),
+        None => Err(ItemFault::NotHere),
     }
 }
 
@@ -123,7 +156,7 @@ fn take_item_keyword(stage: Stage, word: &Text) -> Result<Waiting, ItemFault>
     ensures waits { IfOk result (AreWaiting stage []) }
     ensures barred { IfErr result (λ fault. (d : Document) (heavy : Bool) → Bars (in_hand d [] waiting.Nothing stage heavy) (term.Keyword word.now)) }
 {
-    if word.is("Import") && stage == Stage::Imports {
+    if begins_import(stage, word) {
         return Ok(Waiting::Import);
     }
     match tag_named(word) {
@@ -136,10 +169,23 @@ fn take_item_keyword(stage: Stage, word: &Text) -> Result<Waiting, ItemFault>
     }
 }
 
-/// Whether an item with the tag may come.
-fn may_be_item(stage: Stage, tag: Tag) -> bool {
+/// Whether the word begins an import.
+fn begins_import(stage: Stage, word: &Text) -> bool
+    ensures yes { result ≡ true → (stage ≡ Imports) × (word.now ≡ codes "Import") }
+    ensures other { result ≡ false → stage ≡ Imports → word.now ≡ codes "Import" → ⊥ }
+{
     match stage {
-        Stage::Imports | Stage::Annotations => tag == Tag::Annotation || tag.is_axiom(),
+        Stage::Imports => word.is("Import"),
+        Stage::Annotations | Stage::Axioms | Stage::Ended => false,
+    }
+}
+
+/// Whether the keyword of the tag may begin an item.
+fn may_be_item(stage: Stage, tag: Tag) -> bool
+    ensures { result ≡ may_be_item stage tag }
+{
+    match stage {
+        Stage::Imports | Stage::Annotations => has_notes(tag),
         Stage::Axioms => tag.is_axiom(),
         Stage::Ended => false,
     }

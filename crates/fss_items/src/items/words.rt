@@ -4,6 +4,7 @@ ghost use Rattle.std.specs.Prelude.{◌≡◌, IfSome, IsNone};
 ghost use Rattle.owl_tree.specs.Tags.{keyword_of};
 ghost use Rattle.owl_tree.specs.declared.tag.Tag.{Tag};
 
+use owl_text::Text;
 use owl_tree::Tag;
 
 const TAGS: [Tag; 77] = [
@@ -87,12 +88,12 @@ const TAGS: [Tag; 77] = [
 ];
 
 /// The tag with this name.
-pub fn tag_named(word: &str) -> Option<Tag>
+pub fn tag_named(word: &Text) -> Option<Tag>
     ensures some { IfSome result (λ t. keyword_of t ≡ word.now) }
     ensures none { IsNone result → (t : Tag) → keyword_of t ≡ word.now → ⊥ }
 {
     for tag in TAGS {
-        if tag.keyword() == word {
+        if word.is(tag.keyword()) {
             return Some(tag);
         }
     }

@@ -1,8 +1,8 @@
-use Rattle.std.proofs.Common.{rules, ◌≡◌, length, refl, sym, ap, ◌∙◌, true, false}
-use Rattle.owl_tree.specs.Tags.{keyword_of}
+use Rattle.std.proofs.Common.{rules, ◌≡◌, length, refl, true, false}
 use Rattle.fss_items.specs.Places.{may_begin}
 use Rattle.fss_items.proofs.Keyed.{bars_deep_word, bars_word, one_named}
 use Rattle.fss_items.proofs.Stacks.{top_held}
+use Rattle.fss_items.proofs.Waited.{keyword_waits}
 use Rattle.fss_items.proofs.items.keywords.kid_keyword.Goals as goal
 
 pub returns-in_default-clause-barred : goal.returns-in_default-clause-barred
@@ -25,3 +25,9 @@ returns-then-len-ge-DEEPEST-clause-barred c =
     let ts = c.args.builder.now.arena.trees in
     let long : c.len-2.result ≡ length c.args.stack.now.items = search rules in
     bars_deep_word ts c.args.stack.now.items c.args.top.now c.requires.top c.args.word.now c.len-2.result c.if-len-ge-DEEPEST.true long
+
+pub returns-clause-waits : goal.returns-clause-waits
+returns-clause-waits c =
+    let ts = c.args.builder.now.arena.trees in
+    let begins : may_begin c.args.top.now.tag c.len.result c.is_full.result c.in-Some.tag ≡ true = search rules in
+    keyword_waits ts c.args.stack.now.items c.args.top.now c.args.word.now c.in-Some.tag c.len.result c.is_full.result c.requires.top c.in-Some.ensures.some begins
