@@ -1,5 +1,6 @@
 pub mod Alike
 pub mod Atoms
+pub mod BodyEnds
 pub mod Choices
 pub mod Closings
 pub mod Ended
@@ -7,6 +8,9 @@ pub mod Faults
 pub mod Firsts
 pub mod Fresh
 pub mod Going
+pub mod ItemAdded
+pub mod ItemEnds
+pub mod ItemWeights
 pub mod Keyed
 pub mod Limits
 pub mod Moves
@@ -24,4 +28,5 @@ pub mod Taken
 pub mod Topmost
 pub mod Tops
 pub mod Turns
+pub mod Wholes
 pub mod Words
