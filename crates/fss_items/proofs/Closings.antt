@@ -54,12 +54,12 @@ is_itself : (t : Tag) → t ≡ tag.InverseObjectProperties → is_tag tag.Inver
 unfolding number_of
 is_itself t e = subst (λ (u : Tag). is_tag tag.InverseObjectProperties u ≡ true) (sym e) refl
 
-record MayClose (t : Tag) (n : ℕ) : Type 0 where
+pub record MayClose (t : Tag) (n : ℕ) : Type 0 where
   pub brackets : is_bare t ≡ false
   pub counted : MeetsMinimum (row_of t) n
   pub inverses : t ≡ tag.InverseObjectProperties → n ≡ 3
 
-closing_parts : (t : Tag) (n : ℕ) → may_close t n ≡ true → MayClose t n
+pub closing_parts : (t : Tag) (n : ℕ) → may_close t n ≡ true → MayClose t n
 closing_parts t n e =
     let p = and_parts _ _ e in
     let q = and_parts _ _ p.1 in

@@ -1,5 +1,6 @@
 pub mod Alike
 pub mod Atoms
+pub mod BodyEnds
 pub mod BodySteps
 pub mod Choices
 pub mod Closings
@@ -9,6 +10,9 @@ pub mod Faults
 pub mod Firsts
 pub mod Fresh
 pub mod Going
+pub mod ItemAdded
+pub mod ItemEnds
+pub mod ItemWeights
 pub mod Keyed
 pub mod Limits
 pub mod Moves
