@@ -166,12 +166,6 @@ module _ (stage : Stage) (d : Document) (id : ℕ) where
           only = λ o terms r. inr (record { tag = a; early = m; more = axiom_more whole o it terms there r });
         }
 
-    pub axiom_late : (MayAdd stage → ⊥) → BarsItem stage whole it
-    axiom_late late o terms limits k = late (only_axiom stage whole o it terms e k).early
-
-    pub no_item : (IsAxiomAt d id → ⊥) → BarsItem stage whole it
-    no_item n o terms limits k = n (only_axiom stage whole o it terms e k).tag
-
     pub axiom_heavy : IsBegun d → AreShared d.arena.trees → id < length d.arena.trees → PassesWeight d d.axioms id → BarsItem stage whole it
     axiom_heavy begun shared here p o terms limits k =
         let r = (only_axiom stage whole o it terms e k).more in

@@ -1,16 +1,11 @@
-use Rattle.std.proofs.Common.{rules, ◌≡◌, true, false, sym, subst}
+use Rattle.std.proofs.Common.{rules, ◌≡◌, true, sym, subst}
 use Rattle.owl_arena.specs.Held.{Held, tree_at}
 use Rattle.owl_arena.specs.Shared.{AreShared}
 use Rattle.owl_doc.specs.Documents.{Document, IsAxiomAt, PassesWeight, ontology_of}
 use Rattle.fss_items.specs.declared.items.parts.Stage.TheVariants.{Axioms}
 use Rattle.fss_items.specs.Ends.{TakesItem}
-use Rattle.fss_items.proofs.ItemAdded.{axiom_heavy, axiom_late, axiom_taken}
+use Rattle.fss_items.proofs.ItemAdded.{axiom_heavy, axiom_taken}
 use Rattle.fss_items.proofs.items.ends.add_axiom.Goals as goal
-
-pub returns-then-not-may_add-clause-barred : goal.returns-then-not-may_add-clause-barred
-returns-then-not-may_add-clause-barred c =
-    let late : c.may_add.result ≡ false = search rules in
-    λ m. axiom_late c.args.stage c.args.builder.now c.args.id c.requires.tag (c.may_add.ensures.late late)
 
 pub returns-in-Ok-clause-taken : goal.returns-in-Ok-clause-taken
 returns-in-Ok-clause-taken c =
