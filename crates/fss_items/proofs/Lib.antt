@@ -1,6 +1,7 @@
 pub mod Alike
 pub mod Atoms
 pub mod BodySteps
+pub mod Changes
 pub mod Choices
 pub mod Closings
 pub mod Ended
@@ -9,10 +10,12 @@ pub mod Faults
 pub mod Firsts
 pub mod Fresh
 pub mod Going
+pub mod Hands
 pub mod Keyed
 pub mod Limits
 pub mod Moves
 pub mod Names
+pub mod Naming
 pub mod OneBody
 pub mod OneTree
 pub mod Openings
@@ -26,4 +29,5 @@ pub mod Taken
 pub mod Topmost
 pub mod Tops
 pub mod Turns
+pub mod Wholes
 pub mod Words
