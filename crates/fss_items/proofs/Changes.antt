@@ -281,3 +281,29 @@ barred_before old mid x s b stage whole o terms limits h = b stage whole o terms
 
 pub settles_itself : (old : List Construct) (x : Term) → Settles old [] x old
 settles_itself old x = record { all = λ stage whole o terms limits h. h; only = λ stage whole o terms h. h }
+
+module _ (old mid : List Construct) (x : Term) (f : mid ≡ opened_with tag.Notes old) where
+  pub notes_settle : IsChange change.Begin old x → Settles old [] x mid
+  notes_settle h = subst (Settles old [] x) (sym f) (begins_notes old x h)
+
+  pub notes_are_ready : IsChange change.Begin old x → AreReady mid x
+  notes_are_ready h = subst (λ (cs : List Construct). AreReady cs x) (sym f) (notes_ready old x (word_comes old x h))
+
+  module _ (h : IsChange change.BeginAndEnd old x) where
+    begun : Settles old [] x mid
+    begun = subst (Settles old [] x) (sym f) (begins_empty old x h)
+
+    pub empty_ends : IsChange change.End mid x
+    empty_ends = subst (λ (cs : List Construct). IsChange change.End cs x) (sym f) (then_ends old x h)
+
+    pub empty_settles : (new : List Construct) (r : Result Bool ItemFault) → IfOk r (λ heavy. heavy ≡ false → Settles mid [] x new) → IfOk r (λ heavy. heavy ≡ false → Settles old [] x new)
+    empty_settles new (Ok heavy) g = λ e. settles_then old mid new x begun (g e)
+    empty_settles new (Err fault) g = tt
+
+    pub empty_heavy : (is_heavy : Bool) (r : Result Bool ItemFault) → IfOk r (λ heavy. heavy ≡ true → is_heavy ≡ false → Barred mid x) → IfOk r (λ heavy. heavy ≡ true → is_heavy ≡ false → Barred old x)
+    empty_heavy is_heavy (Ok heavy) g = λ e e2. barred_before old mid x begun (g e e2)
+    empty_heavy is_heavy (Err fault) g = tt
+
+    pub empty_bars : (is_heavy : Bool) (r : Result Bool ItemFault) → IfErr r (λ fault. fault ≢ Memory → is_heavy ≡ false → Barred mid x) → IfErr r (λ fault. fault ≢ Memory → is_heavy ≡ false → Barred old x)
+    empty_bars is_heavy (Ok heavy) g = tt
+    empty_bars is_heavy (Err fault) g = λ m e. barred_before old mid x begun (g m e)
