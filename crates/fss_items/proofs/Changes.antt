@@ -1,6 +1,6 @@
 -- What begins or ends in front of a term.
 use Rattle.std.proofs.Common.{◌≡◌, ◌≢◌, ◌⊎◌, inl, inr, refl, sym, ap, ◌∙◌, subst, true, false, Bool, arith, ◌<◌, ◌≤◌, ◌+◌}
-use Rattle.std.specs.Prelude.{ℕ, zero, suc, ◌-◌, ◌||◌, ◌&&◌, not, nat_eq, nat_le, if◌then◌else◌, List, [], ◌∷◌, ◌++◌, length, Some, slice_get, Result, Ok, Err, IfOk, IfErr}
+use Rattle.std.specs.Prelude.{ℕ, ◌-◌, ◌||◌, ◌&&◌, not, nat_eq, nat_le, if◌then◌else◌, List, [], ◌∷◌, ◌++◌, length, Some, slice_get, Result, Ok, Err, IfOk, IfErr}
 use Rattle.std.proofs.lemmas.Bool.{and_parts, eqb-true, eq-eqb, leb-true, leb-false, false≢true, true≢false}
 use Rattle.owl_arena.specs.Growth.{IsTooHeavy, IsWithin}
 use Rattle.owl_tree.specs.Canonical.{canonical}
@@ -9,10 +9,9 @@ use Rattle.owl_tree.specs.declared.tag.Tag.TheVariants as tag
 use Rattle.owl_tree.specs.Ontologies.{Ontology}
 use Rattle.owl_tree.specs.OrderLaws.{same_number}
 use Rattle.owl_tree.specs.Rows.{admits, is_tag, row_of}
-use Rattle.owl_tree.specs.Tags.{is_axiom, keyword_of, number_of}
+use Rattle.owl_tree.specs.Tags.{is_axiom, number_of}
 use Rattle.owl_tree.specs.Trees.{Tree, kids_of, node}
 use Rattle.owl_doc.specs.declared.term.Term.{Term}
-use Rattle.owl_doc.specs.Functional.{IsWithinLimits}
 use Rattle.owl_doc.specs.Spelling.{is_bare}
 use Rattle.fss_items.specs.declared.item_fault.ItemFault.{ItemFault}
 use Rattle.fss_items.specs.declared.item_fault.ItemFault.TheVariants.{Memory}
@@ -20,7 +19,7 @@ use Rattle.fss_items.specs.declared.items.parts.Open as kept
 use Rattle.fss_items.specs.declared.items.parts.Stage.{Stage}
 use Rattle.fss_items.specs.declared.items.settle.Change.{Change}
 use Rattle.fss_items.specs.declared.items.settle.Change.TheVariants as change
-use Rattle.fss_items.specs.Bodies.{AreReady, Barred, Completion, Construct, Goes, IsReady, Takes, TakesAnnotation, TakesAxiom}
+use Rattle.fss_items.specs.Bodies.{AreReady, Barred, Construct, IsReady, Takes}
 use Rattle.fss_items.specs.Changes.{EndsBefore, IsChange, NotesBegin, Settles, annotation_word, change_of}
 use Rattle.fss_items.specs.InHand.{construct_of, constructs_before, innermost, shut_in}
 use Rattle.fss_items.specs.Places.{May, has_notes, next_of}

@@ -1,7 +1,7 @@
 -- What comes of a name among properties.
-use Rattle.std.proofs.Common.{◌≡◌, ◌≢◌, ◌⊎◌, inl, inr, refl, sym, ap, ◌∙◌, subst, true, false, Bool, arith, ◌<◌, ◌≤◌, ◌+◌}
-use Rattle.std.specs.Prelude.{ℕ, zero, suc, ◌||◌, ◌&&◌, not, List, [], ◌∷◌, ◌++◌, length, Option, None, Some, Result, Ok, Err, IfErr, OnOk}
-use Rattle.std.proofs.lemmas.Bool.{and_parts, false≢true, true≢false}
+use Rattle.std.proofs.Common.{◌≡◌, ◌≢◌, inl, inr, refl, sym, ap, ◌∙◌, subst, true, false, Bool, arith, ◌<◌, ◌+◌}
+use Rattle.std.specs.Prelude.{ℕ, zero, suc, ◌||◌, ◌&&◌, not, List, [], ◌∷◌, ◌++◌, length, None, Some, Result, Ok, Err, IfErr, OnOk}
+use Rattle.std.proofs.lemmas.Bool.{and_parts, false≢true}
 use Rattle.owl_tree.specs.declared.atom.Atom.{Atom}
 use Rattle.owl_tree.specs.declared.row.AtomSort.{AtomSort}
 use Rattle.owl_tree.specs.declared.row.AtomSort.TheVariants as atom
@@ -15,11 +15,10 @@ use Rattle.owl_tree.specs.Shape.{IsShaped}
 use Rattle.owl_tree.specs.Tags.{keyword_of, number_of}
 use Rattle.owl_tree.specs.Trees.{Tree, kids_of, leaf, tag_of}
 use Rattle.owl_doc.specs.declared.term.Term.{Term}
-use Rattle.owl_doc.specs.declared.term.Term.TheVariants.{Keyword, Opening, Closing}
+use Rattle.owl_doc.specs.declared.term.Term.TheVariants.{Closing}
 use Rattle.owl_doc.specs.declared.term.Term.TheVariants as term
 use Rattle.owl_doc.specs.Documents.{Document, ontology_of}
-use Rattle.owl_doc.specs.Functional.{IsWithinLimits}
-use Rattle.owl_doc.specs.Spelling.{closed, is_bare, is_group, spellings}
+use Rattle.owl_doc.specs.Spelling.{closed, is_bare, spellings}
 use Rattle.fss_items.specs.declared.item_fault.ItemFault.{ItemFault}
 use Rattle.fss_items.specs.declared.item_fault.ItemFault.TheVariants.{Memory}
 use Rattle.fss_items.specs.declared.items.parts.Open as kept
@@ -37,7 +36,6 @@ use Rattle.fss_items.proofs.Choices.{leaf_is}
 use Rattle.fss_items.proofs.Firsts.{Begins, a_bare, a_construct, a_group, an_atom, an_entity, begins, closed_bracket, head_is, last_shaped, last_stands}
 use Rattle.fss_items.proofs.Moves.{atom_closing, atom_is, atom_keyword, atom_opening, construct_turns, keyword_closing, opening_closing}
 use Rattle.fss_items.proofs.Names.{data_names, names_everywhere}
-use Rattle.fss_items.proofs.Settled.{notes_bare, pair_bare}
 use Rattle.fss_items.proofs.Sites.{no_pair_name}
 use Rattle.fss_items.proofs.Standing.{stands}
 use Rattle.fss_items.proofs.Stacks.{long_constructs}
@@ -61,9 +59,6 @@ second false c e f = absurd (false≢true f)
 unset : (b : Bool) → not b ≡ true → b ≡ false
 unset true e = absurd (false≢true e)
 unset false e = refl
-
-not_both : (b : Bool) → b ≡ true → b ≡ false → ⊥
-not_both b e f = true≢false (sym e ∙ f)
 
 record HasNames (t : Tag) : Type 0 where
   pub brackets : is_bare t ≡ false
@@ -146,7 +141,6 @@ module _ (t : Tag) (kids : List Tree) (on : Tree → List Term → Type 0) (s l 
   name_comes a x terms (a_pair_comes m g) = absurd (no_pair_name m.0 (subst (λ (n : Next). May n m.0 tag.FacetPair) (names_everywhere t (length kids) s l names (length kids)) m.1))
   name_comes a x terms (a_group_comes v e f g m h) = absurd (atom_opening a e)
   name_comes a x terms (a_construct_comes v inner ks e f g i m h j) = absurd (atom_keyword a (keyword_of v) e)
-
 
 among_ready : (c : Construct) (x : Term) → IsAmongNames c → IsReady c.tag c.kids x
 among_ready c x n =

@@ -150,7 +150,11 @@ fn change_in(tag: Tag, count: usize, is_word: bool) -> Change
     ensures { result ≡ change_of tag count is_word }
 {
     if has_notes(tag) && count == 0 {
-        if is_word { Change::Begin } else { Change::BeginAndEnd }
+        if is_word {
+            Change::Begin
+        } else {
+            Change::BeginAndEnd
+        }
     } else if (tag == Tag::Notes && !is_word) || (tag == Tag::FacetPair && 2 <= count) {
         Change::End
     } else {

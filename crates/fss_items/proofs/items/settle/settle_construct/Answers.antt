@@ -1,6 +1,5 @@
-use Rattle.std.proofs.Common.{◌≡◌, [], subst}
+use Rattle.std.proofs.Common.{[], subst}
 use Rattle.fss_items.specs.declared.items.settle.Change.{Change}
-use Rattle.fss_items.specs.declared.items.settle.Change.TheVariants as change
 use Rattle.fss_items.specs.Changes.{IsChange}
 use Rattle.fss_items.specs.InHand.{constructs_before}
 use Rattle.fss_items.proofs.Changes.{empty_bars, empty_heavy, empty_settles, notes_are_ready, notes_settle}

@@ -3,7 +3,6 @@ use Rattle.owl_tree.specs.declared.tag.Tag.{Tag}
 use Rattle.owl_tree.specs.Shape.{IsShaped}
 use Rattle.owl_tree.specs.Trees.{leaf}
 use Rattle.fss_items.specs.declared.item_fault.ItemFault.TheVariants.{Memory}
-use Rattle.fss_items.specs.Changes.{name_tag}
 use Rattle.fss_items.specs.InHand.{constructs_before, with_kid}
 use Rattle.fss_items.proofs.Hands.{before_named}
 use Rattle.fss_items.proofs.Naming.{name_bars, name_readies, name_settled}
