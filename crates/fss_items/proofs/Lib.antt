@@ -2,6 +2,7 @@ pub mod Alike
 pub mod Atoms
 pub mod BodyEnds
 pub mod BodySteps
+pub mod Changes
 pub mod Choices
 pub mod Closings
 pub mod Ended
@@ -10,6 +11,7 @@ pub mod Faults
 pub mod Firsts
 pub mod Fresh
 pub mod Going
+pub mod Hands
 pub mod ItemAdded
 pub mod ItemEnds
 pub mod ItemWeights
@@ -17,6 +19,7 @@ pub mod Keyed
 pub mod Limits
 pub mod Moves
 pub mod Names
+pub mod Naming
 pub mod OneBody
 pub mod OneTree
 pub mod Openings

@@ -130,7 +130,7 @@ unfolding number_of
 bare_has_no_notes t (inl e) = subst (λ (u : Tag). has_notes u ≡ false) (sym e) refl
 bare_has_no_notes t (inr e) = subst (λ (u : Tag). has_notes u ≡ false) (sym e) refl
 
-long_enough : (ks : List Tree) (k : Tree) → length (ks ++ k ∷ []) ≡ 0 → ⊥
+pub long_enough : (ks : List Tree) (k : Tree) → length (ks ++ k ∷ []) ≡ 0 → ⊥
 long_enough [] k e = omega (arith, e)
 long_enough (j ∷ ks) k e = omega (arith, e)
 

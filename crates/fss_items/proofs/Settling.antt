@@ -1,22 +1,19 @@
 -- Constructs before a term, where annotations begin or end without a word.
-use Rattle.std.proofs.Common.{◌≡◌, ◌≢◌, refl, sym, ap, ◌∙◌, subst, true, false, Bool, arith, ◌<◌, ◌≤◌, ◌+◌}
-use Rattle.std.specs.Prelude.{ℕ, List, [], ◌∷◌, ◌++◌, length}
-use Rattle.std.proofs.lemmas.Bool.{false≢true}
+use Rattle.std.proofs.Common.{◌≡◌, sym, true, arith}
+use Rattle.std.specs.Prelude.{ℕ, List, [], ◌∷◌, length}
 use Rattle.owl_arena.specs.Growth.{IsWithin}
 use Rattle.owl_tree.specs.Canonical.{canonical}
 use Rattle.owl_tree.specs.CanonicalLaws.{canonical_again}
 use Rattle.owl_tree.specs.declared.tag.Tag.{Tag}
 use Rattle.owl_tree.specs.declared.tag.Tag.TheVariants as tag
-use Rattle.owl_tree.specs.Ontologies.{Ontology}
 use Rattle.owl_tree.specs.Rows.{row_of}
 use Rattle.owl_tree.specs.Tags.{keyword_of}
 use Rattle.owl_tree.specs.Trees.{Tree, kids_of, node}
 use Rattle.owl_doc.specs.declared.term.Term.{Term}
 use Rattle.owl_doc.specs.declared.term.Term.TheVariants.{Keyword}
-use Rattle.owl_doc.specs.Functional.{IsWithinLimits}
 use Rattle.owl_doc.specs.Spelling.{MeetsMinimum, is_bare}
-use Rattle.fss_items.specs.declared.items.parts.Stage.{Stage}
-use Rattle.fss_items.specs.Bodies.{Barred, Closes, Completion, Construct, Goes, Takes}
+use Rattle.fss_items.specs.Bodies.{Barred, Closes, Construct, Goes, Takes}
+use Rattle.fss_items.specs.Changes.{Settles}
 use Rattle.fss_items.specs.InHand.{shut_in}
 use Rattle.fss_items.specs.Places.{has_notes}
 use Rattle.fss_items.proofs.Alike.{takes_alike}
@@ -25,16 +22,11 @@ use Rattle.fss_items.proofs.Limits.{deep_inside, heavy_inside}
 use Rattle.fss_items.proofs.Openings.{opened_with}
 use Rattle.fss_items.proofs.Settled.{bare_end_back, notes_bare, notes_end, notes_open, notes_open_back, pair_bare, pair_end}
 
--- before the term the constructs are as good as these
-pub record Settles (old : List Construct) (x : Term) (new : List Construct) : Type 0 where
-  pub all : (stage : Stage) (whole o : Ontology) (terms : List Term) → IsWithinLimits o → Completion old stage whole o (x ∷ terms) → Completion new stage whole o (x ∷ terms)
-  pub only : (stage : Stage) (whole o : Ontology) (terms : List Term) → Completion new stage whole o (x ∷ terms) → Completion old stage whole o (x ∷ terms)
-
 abbrev pub construct : Tag → List Tree → Construct
 construct t kids = record { tag = t; kids = kids }
 
 -- annotations begin
-pub settles_notes : (t : Tag) (cs : List Construct) (x : Term) → has_notes t ≡ true → Settles (construct t [] ∷ cs) x (opened_with tag.Notes (construct t [] ∷ cs))
+pub settles_notes : (t : Tag) (cs : List Construct) (x : Term) → has_notes t ≡ true → Settles (construct t [] ∷ cs) [] x (opened_with tag.Notes (construct t [] ∷ cs))
 settles_notes t cs x e = record {
   all = λ stage whole o terms limits h. notes_open t (Takes cs stage whole o) (x ∷ terms) e h;
   only = λ stage whole o terms h. notes_open_back t (Takes cs stage whole o) (x ∷ terms) h;
@@ -71,7 +63,7 @@ module _ (t : Tag) (kids : List Tree) (x : Term) (e : EndsBare t kids x) (d : Co
   abbrev it : Tree
   it = node t (kids_of kids)
 
-  pub settles_end : IsWithin it → Settles (construct t kids ∷ d ∷ cs) x (shut_in (construct t kids ∷ d ∷ cs))
+  pub settles_end : IsWithin it → Settles (construct t kids ∷ d ∷ cs) [] x (shut_in (construct t kids ∷ d ∷ cs))
   settles_end w =
       let closes : Closes t kids [] = record { shaped = w.shaped; counted = e.met; inverses = λ i. absurd (e.other i); members = tt } in
       record {

@@ -70,7 +70,7 @@ name_iri : (later : ℕ) (u : Tag) (b : Atom) → May data_names later u → tak
 name_iri zero u b m h = range_iri (sort_of b) u (leaf_is sort.DataRange u b refl m h)
 name_iri (suc later) u b m h = property_iri (sort_of b) u (leaf_is sort.DataPropertyExpression u b refl m h)
 
-no_pair_name : (later : ℕ) → May data_names later tag.FacetPair → ⊥
+pub no_pair_name : (later : ℕ) → May data_names later tag.FacetPair → ⊥
 unfolding admits number_of
 no_pair_name zero m = false≢true m
 no_pair_name (suc later) m = false≢true m

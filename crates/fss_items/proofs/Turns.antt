@@ -21,7 +21,7 @@ use Rattle.fss_items.proofs.Firsts.{Begins, an_atom, an_entity, a_bare, a_group,
 use Rattle.fss_items.proofs.Going.{On, GoesOn, Stops, stops_or_goes}
 use Rattle.fss_items.proofs.Tables.{no_notes}
 
-bare_tag : (t : Tag) → is_bare t ≡ true → (t ≡ tag.Notes) ⊎ (t ≡ tag.FacetPair)
+pub bare_tag : (t : Tag) → is_bare t ≡ true → (t ≡ tag.Notes) ⊎ (t ≡ tag.FacetPair)
 bare_tag t e = or_tag (is_tag tag.Notes t) (is_tag tag.FacetPair t) refl refl e
   where
     or_tag : (b c : Bool) → is_tag tag.Notes t ≡ b → is_tag tag.FacetPair t ≡ c → (b || c) ≡ true → (t ≡ tag.Notes) ⊎ (t ≡ tag.FacetPair)

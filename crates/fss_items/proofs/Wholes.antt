@@ -1,15 +1,10 @@
 -- What was read in full stays where only the arena grows.
-use Rattle.std.proofs.Common.{◌≡◌, refl, sym, ap, ◌∙◌, subst, Bool, false}
-use Rattle.std.specs.Prelude.{ℕ, List, [], ◌∷◌, ◌++◌, length}
-use Rattle.owl_atom.specs.declared.prefixes.Prefix.{Prefix}
-use Rattle.owl_arena.specs.Held.{trees_at}
-use Rattle.owl_tree.specs.Ontologies.{Ontology}
-use Rattle.owl_tree.specs.Trees.{Tree}
+use Rattle.std.proofs.Common.{◌≡◌, ap, ◌∙◌, Bool}
+use Rattle.std.specs.Prelude.{List, [], length}
 use Rattle.owl_doc.specs.Documents.{Document, IsBegun, ontology_of, with_arena}
 use Rattle.fss_items.specs.declared.items.parts.Open as kept
 use Rattle.fss_items.specs.declared.items.parts.Stage.{Stage}
 use Rattle.fss_items.specs.declared.items.parts.Waiting.{Waiting}
-use Rattle.fss_items.specs.Bodies.{Body}
 use Rattle.fss_items.specs.InHand.{Keeps, constructs_before, terms_of}
 use Rattle.fss_items.specs.Waits.{in_hand}
 

@@ -1,4 +1,5 @@
 pub mod Bodies
+pub mod Changes
 pub mod Ends
 pub mod InHand
 pub mod Places
