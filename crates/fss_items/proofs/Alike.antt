@@ -1,17 +1,15 @@
 -- What goes on from a tree goes on from its canonical form.
-use Rattle.std.proofs.Common.{◌≡◌, ◌⊎◌, inl, inr, refl, sym, ap, ◌∙◌, subst}
+use Rattle.std.proofs.Common.{◌≡◌, inl, inr, refl, sym, ap, ◌∙◌, subst}
 use Rattle.std.specs.Prelude.{ℕ, suc, List, [], ◌∷◌, ◌++◌, length, map, IsTrue}
 use Rattle.owl_list.specs.Ascending.{ascending}
 use Rattle.owl_tree.specs.declared.tag.Tag.{Tag}
-use Rattle.owl_tree.specs.declared.tag.Tag.TheVariants as tag
 use Rattle.owl_tree.specs.Canonical.{arranged, canonical}
 use Rattle.owl_tree.specs.CanonicalLaws.{canonical_tag, canonicals_kids_of}
 use Rattle.owl_tree.specs.EquivalenceLaws.{equivalent_is_equal_form}
-use Rattle.owl_tree.specs.Ontologies.{IsSameOntology, Ontology, canonical_list, canonical_ontology}
+use Rattle.owl_tree.specs.Ontologies.{IsSameOntology, Ontology, canonical_ontology}
 use Rattle.owl_tree.specs.OntologyLaws.{same_ontology_is_equal_form, same_ontology_trans}
 use Rattle.owl_tree.specs.Order.{tree_cmp}
 use Rattle.owl_tree.specs.Rows.{row_of, set_start}
-use Rattle.owl_tree.specs.Shape.{IsShaped}
 use Rattle.owl_tree.specs.ShapeLaws.{equivalent_shape}
 use Rattle.owl_tree.specs.Tags.{is_axiom}
 use Rattle.owl_tree.specs.Trees.{Tree, kids_of, node, tag_of}
@@ -19,7 +17,7 @@ use Rattle.owl_doc.specs.declared.term.Term.{Term}
 use Rattle.owl_doc.specs.Spelling.{MeetsMinimum}
 use Rattle.fss_items.specs.declared.items.parts.Stage.TheVariants.{Annotations, Axioms}
 use Rattle.fss_items.specs.declared.items.parts.Stage.{Stage}
-use Rattle.fss_items.specs.Bodies.{Closes, Completion, Construct, Goes, Remains, Takes, TakesAnnotation, TakesAxiom, joined, with_annotation, with_axiom}
+use Rattle.fss_items.specs.Bodies.{Construct, Goes, Remains, Takes, joined, with_annotation, with_axiom}
 use Rattle.fss_items.proofs.Going.{On}
 
 forms_alike : (kids : List Tree) (k l : Tree) (later : List Tree) → canonical k ≡ canonical l → map canonical ((kids ++ k ∷ []) ++ later) ≡ map canonical ((kids ++ l ∷ []) ++ later)

@@ -1,7 +1,7 @@
 -- What comes of an atom in constructs.
-use Rattle.std.proofs.Common.{◌≡◌, ◌≢◌, ◌⊎◌, inl, inr, refl, sym, ap, ◌∙◌, subst, true, false, Bool, arith, ◌<◌, ◌≤◌, ◌+◌}
-use Rattle.std.specs.Prelude.{◌-◌, slice_get, ℕ, zero, suc, List, [], ◌∷◌, ◌++◌, length, Option, None, Some, if◌then◌else◌}
-use Rattle.std.proofs.lemmas.Bool.{cases_lt, false≢true, true≢false}
+use Rattle.std.proofs.Common.{◌≡◌, inl, inr, refl, sym, ap, ◌∙◌, subst, true, false, Bool, arith, ◌<◌, ◌≤◌, ◌+◌}
+use Rattle.std.specs.Prelude.{◌-◌, slice_get, ℕ, List, [], ◌∷◌, ◌++◌, length, Option, None, Some, if◌then◌else◌}
+use Rattle.std.proofs.lemmas.Bool.{cases_lt}
 use Rattle.owl_tree.specs.declared.atom.Atom.{Atom}
 use Rattle.owl_tree.specs.declared.row.AtomSort.{AtomSort}
 use Rattle.owl_tree.specs.declared.row.Sort.{Sort}
@@ -33,7 +33,7 @@ use Rattle.fss_items.proofs.Limits.{deep_inside}
 use Rattle.fss_items.proofs.Moves.{atom_closing, atom_keyword, atom_opening, construct_turns, pair_begins}
 use Rattle.fss_items.proofs.Settled.{pair_bare}
 use Rattle.fss_items.proofs.Sites.{no_atom_comes}
-use Rattle.fss_items.specs.Sites.{BarsSort, IsFull, IsPlace, IsPlaceIn}
+use Rattle.fss_items.specs.Sites.{BarsSort, IsFull, IsPlace}
 use Rattle.fss_items.proofs.Taken.{leaf_back, leaf_comes, no_declaration, pair_comes}
 use Rattle.fss_items.proofs.Topmost.{atoms_not_here}
 use Rattle.fss_items.proofs.Turns.{Turns, an_atom_comes, a_construct_comes, a_group_comes, a_pair_comes, an_entity_comes, ends}

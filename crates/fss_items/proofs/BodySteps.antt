@@ -1,6 +1,6 @@
 -- From moves of constructs to what is in hand.
-use Rattle.std.proofs.Common.{◌≡◌, ◌≢◌, refl, sym, subst, false, Bool}
-use Rattle.std.specs.Prelude.{List, [], ◌∷◌, ◌++◌, Result, Ok, Err, IfOk, IfErr}
+use Rattle.std.proofs.Common.{◌≡◌, ◌≢◌, sym, subst, Bool}
+use Rattle.std.specs.Prelude.{List, [], ◌++◌, Result, Ok, Err, IfOk, IfErr}
 use Rattle.owl_tree.specs.Ontologies.{Ontology}
 use Rattle.owl_doc.specs.declared.term.Term.{Term}
 use Rattle.owl_doc.specs.Documents.{Document, ontology_of}

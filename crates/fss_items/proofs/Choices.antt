@@ -1,6 +1,6 @@
 -- What a term may be at a place.
-use Rattle.std.proofs.Common.{◌≡◌, ◌≢◌, ◌⊎◌, inl, inr, refl, sym, ap, ◌∙◌, subst, true, false, Bool, IsTrue, arith, ◌<◌, ◌≤◌, ◌+◌, ◌-◌}
-use Rattle.std.specs.Prelude.{ℕ, zero, suc, ◌||◌, ◌&&◌, not, nat_eq, nat_le, List, [], ◌∷◌, ◌++◌, length, map, Option, None, Some, IsSome, is_some}
+use Rattle.std.proofs.Common.{◌≡◌, refl, sym, ap, ◌∙◌, subst, true, false, Bool, arith, ◌-◌}
+use Rattle.std.specs.Prelude.{ℕ, suc, ◌||◌, not, nat_eq, List, [], ◌∷◌, length, map, Option, None, Some}
 use Rattle.std.proofs.lemmas.Bool.{and_from, and_parts, eq-eqb, eqb-true, le-leb, false≢true, true≢false}
 use Rattle.owl_tree.specs.declared.atom.Atom.{Atom}
 use Rattle.owl_tree.specs.declared.atom.Atom.TheVariants as held_atom
@@ -15,9 +15,8 @@ use Rattle.owl_tree.specs.OrderLaws.{same_number}
 use Rattle.owl_tree.specs.Places.{counts}
 use Rattle.owl_tree.specs.PlacesLaws.{fits_by_place}
 use Rattle.owl_tree.specs.Rows.{Row, Leaf, Node, admits, fits, is_of_sort, is_tag, row_of, sort_of, takes}
-use Rattle.owl_tree.specs.Shape.{IsShaped}
 use Rattle.owl_tree.specs.Tags.{number_of}
-use Rattle.owl_tree.specs.Trees.{Tree, kids_of, leaf, node, tag_of}
+use Rattle.owl_tree.specs.Trees.{Tree, tag_of}
 use Rattle.owl_tree.specs.TreeLaws.{list_of_kids_of}
 use Rattle.owl_doc.specs.Spelling.{MeetsMinimum, is_bare, is_group}
 use Rattle.fss_items.specs.Bodies.{Closes}

@@ -1,6 +1,6 @@
 -- What comes of the bracket that ends a construct inside another.
-use Rattle.std.proofs.Common.{◌≡◌, ◌≢◌, ◌⊎◌, inl, inr, refl, sym, ap, ◌∙◌, subst, true, false, Bool, arith, ◌<◌, ◌≤◌, ◌+◌, ◌-◌}
-use Rattle.std.specs.Prelude.{ℕ, ◌||◌, ◌&&◌, not, nat_eq, nat_le, List, [], ◌∷◌, ◌++◌, length, Some, slice_get, Result, Ok, Err, IfOk, IfErr}
+use Rattle.std.proofs.Common.{◌≡◌, ◌≢◌, refl, sym, ap, ◌∙◌, subst, true, false, Bool, arith, ◌<◌, ◌-◌}
+use Rattle.std.specs.Prelude.{ℕ, ◌||◌, not, List, [], ◌∷◌, length, Some, slice_get, Result, Ok, Err, IfOk, IfErr}
 use Rattle.std.proofs.lemmas.Bool.{and_parts, eqb-true, false≢true, leb-true, true≢false}
 use Rattle.owl_arena.specs.Growth.{IsTooHeavy, IsWithin}
 use Rattle.owl_tree.specs.Canonical.{canonical}
@@ -8,20 +8,17 @@ use Rattle.owl_tree.specs.CanonicalLaws.{canonical_again}
 use Rattle.owl_tree.specs.declared.row.Rest.TheVariants as rest
 use Rattle.owl_tree.specs.declared.tag.Tag.{Tag}
 use Rattle.owl_tree.specs.declared.tag.Tag.TheVariants as tag
-use Rattle.owl_tree.specs.Ontologies.{Ontology}
 use Rattle.owl_tree.specs.Rows.{Row, Leaf, Node, is_tag, row_of}
 use Rattle.owl_tree.specs.Tags.{number_of}
-use Rattle.owl_tree.specs.Trees.{Tree, depth, kids_of, node}
+use Rattle.owl_tree.specs.Trees.{Tree, kids_of, node}
 use Rattle.owl_doc.specs.declared.term.Term.{Term}
 use Rattle.owl_doc.specs.declared.term.Term.TheVariants.{Closing}
-use Rattle.owl_doc.specs.Functional.{IsWithinLimits}
 use Rattle.owl_doc.specs.Spelling.{MeetsMinimum, is_bare}
 use Rattle.fss_items.specs.declared.item_fault.ItemFault.{ItemFault}
 use Rattle.fss_items.specs.declared.item_fault.ItemFault.TheVariants.{Memory}
 use Rattle.fss_items.specs.declared.items.parts.Open as kept
-use Rattle.fss_items.specs.declared.items.parts.Stage.{Stage}
-use Rattle.fss_items.specs.Bodies.{AreReady, Barred, Closes, Completion, Construct, Goes, IsReady, Takes, Turned}
-use Rattle.fss_items.specs.InHand.{construct_of, constructs_before, innermost, may_close_in, shut_in}
+use Rattle.fss_items.specs.Bodies.{AreReady, Barred, Closes, Completion, Construct, IsReady, Takes, Turned}
+use Rattle.fss_items.specs.InHand.{constructs_before, innermost, may_close_in, shut_in}
 use Rattle.fss_items.specs.Places.{may_close, meets_minimum}
 use Rattle.fss_items.proofs.Alike.{takes_alike}
 use Rattle.fss_items.proofs.Firsts.{closed_bracket, last_shaped}

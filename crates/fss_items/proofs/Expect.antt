@@ -1,6 +1,6 @@
 -- Where an atom would stand, when what ends in front of it has ended.
-use Rattle.std.proofs.Common.{◌≡◌, ◌≢◌, ◌⊎◌, inl, inr, refl, sym, ap, ◌∙◌, subst, true, false, Bool, IsTrue, arith, ◌<◌, ◌≤◌, ◌+◌}
-use Rattle.std.specs.Prelude.{◌-◌, ◌&&◌, ◌||◌, ℕ, zero, suc, nat_le, not, List, [], ◌∷◌, ◌++◌, length, Option, None, Some, slice_get}
+use Rattle.std.proofs.Common.{◌≡◌, ◌⊎◌, inl, inr, refl, sym, ap, ◌∙◌, subst, true, false, Bool, IsTrue, arith, ◌<◌, ◌≤◌, ◌+◌}
+use Rattle.std.specs.Prelude.{◌-◌, ◌&&◌, ◌||◌, ℕ, zero, suc, nat_le, List, [], ◌∷◌, ◌++◌, length, None, Some, slice_get}
 use Rattle.std.proofs.lemmas.Bool.{and_parts, cases_lt, eqb-true, false≢true, leb-false, true≢false}
 use Rattle.owl_tree.specs.declared.atom.Atom.{Atom}
 use Rattle.owl_tree.specs.declared.row.AtomSort.{AtomSort}
@@ -8,7 +8,7 @@ use Rattle.owl_tree.specs.declared.tag.Tag.{Tag}
 use Rattle.owl_tree.specs.declared.tag.Tag.TheVariants as tag
 use Rattle.owl_tree.specs.Ontologies.{Ontology}
 use Rattle.owl_tree.specs.OrderLaws.{same_number}
-use Rattle.owl_tree.specs.Rows.{admits, is_tag, row_of, sort_of}
+use Rattle.owl_tree.specs.Rows.{admits, is_tag, row_of}
 use Rattle.owl_tree.specs.Tags.{is_axiom, keyword_of, number_of}
 use Rattle.owl_tree.specs.Trees.{Tree, kids_of, node, no_kids, tag_of}
 use Rattle.owl_doc.specs.declared.term.Term.{Term}
@@ -29,7 +29,6 @@ use Rattle.fss_items.proofs.Firsts.{last_stands}
 use Rattle.fss_items.proofs.Moves.{atom_keyword}
 use Rattle.fss_items.proofs.Settled.{notes_end, notes_open, pair_end}
 use Rattle.fss_items.proofs.Stacks.{last_first, long_trees, nothing_begun, split_last, top_is}
-use Rattle.fss_items.proofs.Tables.{no_notes}
 
 -- neither annotations nor a facet with its value stand in what has no brackets
 notes_not_bare : (n later : ℕ) (t : Tag) → (t ≡ tag.Notes) ⊎ (t ≡ tag.FacetPair) → May (next_of t n) later tag.Notes → ⊥

@@ -1,18 +1,17 @@
 -- How the kids of a construct begin.
-use Rattle.std.proofs.Common.{◌≡◌, ◌≢◌, ◌⊎◌, inl, inr, refl, sym, ap, ◌∙◌, subst, true, false, Bool, IsTrue, arith, ◌<◌, ◌≤◌, ◌+◌}
-use Rattle.std.specs.Prelude.{ℕ, zero, suc, ◌||◌, List, [], ◌∷◌, ◌++◌, length, codes, if◌then◌else◌}
-use Rattle.std.proofs.lemmas.Bool.{false≢true}
+use Rattle.std.proofs.Common.{◌≡◌, refl, sym, ap, ◌∙◌, subst, true, false, Bool}
+use Rattle.std.specs.Prelude.{List, [], ◌∷◌, ◌++◌, length, if◌then◌else◌}
 use Rattle.owl_tree.specs.declared.atom.Atom.{Atom}
 use Rattle.owl_tree.specs.declared.tag.Tag.{Tag}
 use Rattle.owl_tree.specs.declared.tag.Tag.TheVariants as tag
 use Rattle.owl_tree.specs.Rows.{is_tag, row_of}
 use Rattle.owl_tree.specs.Tags.{keyword_of}
-use Rattle.owl_tree.specs.Trees.{Tree, Kids, leaf, node, no_kids, kid, kids_of, list_of, tag_of}
+use Rattle.owl_tree.specs.Trees.{Tree, Kids, leaf, node, kids_of, list_of, tag_of}
 use Rattle.owl_tree.specs.TreeLaws.{kids_of_list_of, list_of_kids_of}
 use Rattle.owl_doc.specs.declared.term.Term.{Term}
 use Rattle.owl_doc.specs.declared.term.Term.TheVariants.{Keyword, Opening, Closing}
 use Rattle.owl_doc.specs.declared.term.Term.TheVariants as term
-use Rattle.owl_doc.specs.Spelling.{HasMembers, HaveMembers, MeetsMinimum, closed, is_bare, is_group, leaf_spelling, opened, spelling, spellings}
+use Rattle.owl_doc.specs.Spelling.{HasMembers, HaveMembers, MeetsMinimum, closed, is_bare, is_group, opened, spelling, spellings}
 use Rattle.owl_tree.specs.Shape.{IsShaped}
 use Rattle.fss_items.specs.Bodies.{Closes, Goes}
 use Rattle.fss_items.specs.Places.{May, next_of}

@@ -1,17 +1,10 @@
 -- One construct, and what goes on from it.
-use Rattle.std.proofs.Common.{◌≡◌, ◌⊎◌, inl, inr, refl, sym, ap, ◌∙◌, subst, true, false, Bool, IsTrue, append_assoc, arith}
-use Rattle.std.specs.Prelude.{◌≤◌, ◌+◌, ℕ, suc, List, [], ◌∷◌, ◌++◌, length, map, if◌then◌else◌}
-use Rattle.owl_tree.specs.declared.atom.Atom.{Atom}
+use Rattle.std.proofs.Common.{◌≡◌, ◌⊎◌, inl, inr, refl, sym, ap, subst}
+use Rattle.std.specs.Prelude.{List, [], ◌∷◌, ◌++◌}
 use Rattle.owl_tree.specs.declared.tag.Tag.{Tag}
-use Rattle.owl_tree.specs.declared.tag.Tag.TheVariants as tag
-use Rattle.owl_tree.specs.Rows.{is_tag, row_of}
-use Rattle.owl_tree.specs.Shape.{IsShaped}
-use Rattle.owl_tree.specs.Trees.{Tree, Kids, leaf, node, no_kids, kid, kids_of, list_of, tag_of}
-use Rattle.owl_tree.specs.TreeLaws.{kids_of_list_of}
+use Rattle.owl_tree.specs.Trees.{Tree, node, kids_of}
 use Rattle.owl_doc.specs.declared.term.Term.{Term}
-use Rattle.owl_doc.specs.declared.term.Term.TheVariants.{Keyword, Opening, Closing}
-use Rattle.owl_doc.specs.declared.term.Term.TheVariants as term
-use Rattle.owl_doc.specs.Spelling.{HasMembers, HaveMembers, MeetsMinimum, closed, opened, spelling, spellings}
+use Rattle.owl_doc.specs.Spelling.{HasMembers, closed, spelling, spellings}
 use Rattle.fss_items.specs.Bodies.{Closes, Goes}
 
 -- what is said of a tree and of the terms behind it

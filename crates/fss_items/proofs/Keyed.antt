@@ -1,6 +1,6 @@
 -- What comes of a keyword in a construct.
-use Rattle.std.proofs.Common.{◌≡◌, ◌≢◌, ◌⊎◌, inl, inr, refl, sym, ap, ◌∙◌, subst, true, false, Bool, arith, ◌<◌, ◌≤◌, ◌+◌}
-use Rattle.std.specs.Prelude.{◌-◌, slice_get, ℕ, zero, suc, ◌||◌, ◌&&◌, not, nat_eq, List, [], ◌∷◌, ◌++◌, length, map, Option, None, Some, if◌then◌else◌}
+use Rattle.std.proofs.Common.{◌≡◌, refl, sym, ap, ◌∙◌, subst, true, false, Bool, arith, ◌≤◌}
+use Rattle.std.specs.Prelude.{◌-◌, slice_get, ℕ, zero, suc, ◌||◌, not, nat_eq, List, [], ◌∷◌, ◌++◌, length, Some, if◌then◌else◌}
 use Rattle.std.proofs.lemmas.Bool.{and_from, and_parts, eqb-true, false≢true, true≢false}
 use Rattle.owl_tree.specs.declared.atom.Atom.{Atom}
 use Rattle.owl_tree.specs.declared.row.Sort.{Sort}
@@ -9,19 +9,16 @@ use Rattle.owl_tree.specs.declared.tag.Tag.{Tag}
 use Rattle.owl_tree.specs.declared.tag.Tag.TheVariants as tag
 use Rattle.owl_tree.specs.OrderLaws.{same_number}
 use Rattle.owl_tree.specs.Rows.{Row, Leaf, Node, admits, fits, is_tag, row_of, takes}
-use Rattle.owl_tree.specs.Shape.{IsShaped}
 use Rattle.owl_tree.specs.Tags.{keyword_of, number_of}
 use Rattle.owl_tree.specs.Trees.{Tree, Kids, kids_of, leaf, node, tag_of}
 use Rattle.owl_doc.specs.declared.term.Term.{Term}
-use Rattle.owl_doc.specs.declared.term.Term.TheVariants.{Keyword, Opening, Closing}
-use Rattle.owl_doc.specs.declared.term.Term.TheVariants as term
-use Rattle.owl_doc.specs.Spelling.{is_bare, is_group}
+use Rattle.owl_doc.specs.declared.term.Term.TheVariants.{Keyword}
 use Rattle.owl_tree.specs.Places.{counts}
 use Rattle.owl_tree.specs.PlacesLaws.{fits_by_place}
 use Rattle.fss_items.specs.declared.items.places.Next.{Next}
 use Rattle.fss_items.specs.declared.items.places.Next.TheVariants as next
 use Rattle.fss_items.specs.Bodies.{Barred, Closes, Construct, Goes, IsReady, Takes}
-use Rattle.fss_items.specs.Places.{May, has_keyword, is_leaf_row, keyword_in, keyword_next, may_begin, next_of}
+use Rattle.fss_items.specs.Places.{May, has_keyword, is_leaf_row, keyword_next, may_begin, next_of}
 use Rattle.owl_arena.specs.Held.{trees_at}
 use Rattle.owl_doc.specs.Functional.{IsWithinLimits}
 use Rattle.owl_tree.proofs.Keywords.{same_keyword}

@@ -1,5 +1,6 @@
 pub mod Alike
 pub mod Atoms
+pub mod Behind
 pub mod BodyEnds
 pub mod BodySteps
 pub mod Changes

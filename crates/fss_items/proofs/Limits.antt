@@ -1,24 +1,20 @@
 -- What is too deep or too heavy inside is so as a whole.
-use Rattle.std.proofs.Common.{◌≡◌, ◌⊎◌, inl, inr, refl, sym, ap, ◌∙◌, subst, arith, ◌<◌, ◌≤◌, ◌+◌, ◌*◌, ℕ}
-use Rattle.std.specs.Prelude.{suc, max, List, [], ◌∷◌, ◌++◌, length, map, Contains}
-use Rattle.std.specs.declared.cmp.Ordering.{Ordering}
-use Rattle.std.specs.declared.cmp.Ordering.TheVariants.{Less, Equal, Greater}
-use Rattle.std.specs.List.{AllByRecursion, sum_by}
+use Rattle.std.proofs.Common.{◌≡◌, inl, inr, refl, sym, ap, ◌∙◌, subst, arith, ◌≤◌, ◌+◌, ℕ}
+use Rattle.std.specs.Prelude.{List, [], ◌∷◌, ◌++◌, length, map, Contains}
+use Rattle.std.specs.List.{sum_by}
 use Rattle.std.proofs.lemmas.List.Sums.{sum_by-cons}
 use Rattle.owl_arena.specs.Shared.{deepest, heaviest}
-use Rattle.owl_list.specs.Ascending.{IsAscending, ascending}
 use Rattle.owl_list.specs.AscendingLaws.{all_in, ascending_holds, in_cases, in_head, in_none, in_tail}
 use Rattle.owl_tree.specs.declared.tag.Tag.{Tag}
 use Rattle.owl_tree.specs.Canonical.{arranged, canonical, canonicals}
 use Rattle.owl_tree.specs.CanonicalLaws.{arranged_holds, canonicals_kids_of}
-use Rattle.owl_tree.specs.EquivalenceLaws.{equivalent_is_equal_form}
 use Rattle.owl_tree.specs.CanonicalLaws.{equivalent_depth}
-use Rattle.owl_tree.specs.Ontologies.{IsSameOntology, Ontology, canonical_list, list_weight, ontology_weight}
+use Rattle.owl_tree.specs.Ontologies.{Ontology, canonical_list, list_weight}
 use Rattle.owl_tree.specs.OntologyLaws.{same_ontology_weight}
 use Rattle.owl_tree.specs.Order.{tree_cmp}
 use Rattle.owl_tree.specs.OrderLaws.{only_equal_trees_tie, trees_total}
 use Rattle.owl_tree.specs.Rows.{row_of, set_start}
-use Rattle.owl_tree.specs.Trees.{Tree, Kids, depth, kids_of, most_depth, node, sum_weight, weight}
+use Rattle.owl_tree.specs.Trees.{Tree, depth, kids_of, most_depth, node, sum_weight, weight}
 use Rattle.owl_doc.specs.declared.term.Term.{Term}
 use Rattle.owl_doc.specs.Functional.{IsWithinLimits}
 use Rattle.fss_items.specs.declared.items.parts.Stage.{Stage}

@@ -1,34 +1,28 @@
 -- What a term in a construct comes to.
-use Rattle.std.proofs.Common.{◌≡◌, ◌≢◌, ◌⊎◌, inl, inr, refl, sym, ap, ◌∙◌, subst, true, false, Bool, IsTrue, arith, ◌<◌, ◌≤◌, ◌+◌}
-use Rattle.std.specs.Prelude.{ℕ, zero, suc, ◌||◌, ◌&&◌, not, List, [], ◌∷◌, ◌++◌, length, Option, None, Some}
-use Rattle.std.proofs.lemmas.Bool.{and_parts, eqb-true, false≢true, true≢false}
+use Rattle.std.proofs.Common.{◌≡◌, ◌⊎◌, inl, inr, refl, sym, subst, true, false, Bool, arith}
+use Rattle.std.specs.Prelude.{ℕ, List, [], ◌∷◌, ◌++◌, length}
+use Rattle.std.proofs.lemmas.Bool.{eqb-true, false≢true, true≢false}
 use Rattle.owl_tree.proofs.Keywords.{same_keyword}
 use Rattle.owl_tree.specs.declared.atom.Atom.{Atom}
-use Rattle.owl_tree.specs.declared.row.AtomSort.{AtomSort}
-use Rattle.owl_tree.specs.declared.row.AtomSort.TheVariants as atom
-use Rattle.owl_tree.specs.declared.row.Sort.{Sort}
 use Rattle.owl_tree.specs.declared.row.Sort.TheVariants as sort
 use Rattle.owl_tree.specs.declared.tag.Tag.{Tag}
 use Rattle.owl_tree.specs.declared.tag.Tag.TheVariants as tag
 use Rattle.owl_tree.specs.Ontologies.{Ontology}
 use Rattle.owl_tree.specs.OrderLaws.{same_number}
-use Rattle.owl_tree.specs.Rows.{admits, is_tag, row_of, sort_of}
+use Rattle.owl_tree.specs.Rows.{admits, is_tag, row_of}
 use Rattle.owl_tree.specs.Shape.{IsShaped}
 use Rattle.owl_tree.specs.Tags.{is_axiom, keyword_of, number_of}
-use Rattle.owl_tree.specs.Trees.{Tree, Kids, kids_of, leaf, node, tag_of}
+use Rattle.owl_tree.specs.Trees.{Tree, Kids, kids_of, leaf, node}
 use Rattle.owl_doc.specs.declared.term.Term.{Term}
 use Rattle.owl_doc.specs.declared.term.Term.TheVariants.{Keyword, Opening, Closing}
 use Rattle.owl_doc.specs.declared.term.Term.TheVariants as term
 use Rattle.owl_doc.specs.Spelling.{is_bare, is_group}
 use Rattle.fss_items.specs.declared.items.parts.Stage.{Stage}
-use Rattle.fss_items.specs.declared.items.places.Next.{Next}
-use Rattle.fss_items.specs.declared.items.places.Next.TheVariants as next
-use Rattle.fss_items.specs.Bodies.{Closes, Completion, Construct, Goes, IsReady, Takes}
-use Rattle.fss_items.specs.Places.{May, has_notes, leaf_of, next_of}
-use Rattle.fss_items.proofs.Choices.{group_is, leaf_is, pair_is}
-use Rattle.fss_items.proofs.Firsts.{back, into, last_shaped, last_stands}
-use Rattle.fss_items.proofs.Going.{On, goes_back, stops_or_goes}
-use Rattle.fss_items.proofs.Tables.{no_annotation, no_entity, no_notes}
+use Rattle.fss_items.specs.Bodies.{Completion, Construct, Goes, IsReady, Takes}
+use Rattle.fss_items.specs.Places.{May, has_notes, next_of}
+use Rattle.fss_items.proofs.Firsts.{last_shaped, last_stands}
+use Rattle.fss_items.proofs.Going.{On}
+use Rattle.fss_items.proofs.Tables.{no_annotation, no_notes}
 use Rattle.fss_items.proofs.Turns.{Turns, an_atom_comes, a_construct_comes, a_group_comes, a_pair_comes, an_entity_comes, ends, turns}
 
 -- terms of two kinds differ

@@ -1,19 +1,16 @@
 -- What comes of a bracket that opens.
-use Rattle.std.proofs.Common.{◌≡◌, ◌≢◌, ◌⊎◌, inl, inr, refl, sym, ap, ◌∙◌, subst, true, false, Bool, arith, ◌<◌, ◌≤◌, ◌+◌}
-use Rattle.std.specs.Prelude.{◌-◌, ℕ, zero, suc, List, [], ◌∷◌, ◌++◌, codes, length, Option, None, Some, slice_get, Result, Ok, Err, OnOk}
-use Rattle.std.proofs.lemmas.Bool.{false≢true, true≢false}
+use Rattle.std.proofs.Common.{◌≡◌, refl, sym, ap, ◌∙◌, subst, true, false, arith, ◌≤◌}
+use Rattle.std.specs.Prelude.{◌-◌, ℕ, zero, suc, List, [], ◌∷◌, codes, length, Option, None, Some, slice_get, Result, Ok, Err, OnOk}
 use Rattle.owl_tree.proofs.Keywords.{same_keyword}
 use Rattle.owl_tree.specs.declared.row.Sort.{Sort}
 use Rattle.owl_tree.specs.declared.row.Sort.TheVariants as sort
 use Rattle.owl_tree.specs.declared.tag.Tag.{Tag}
 use Rattle.owl_tree.specs.declared.tag.Tag.TheVariants as tag
 use Rattle.owl_tree.specs.Ontologies.{Ontology}
-use Rattle.owl_tree.specs.Rows.{admits, row_of}
 use Rattle.owl_tree.specs.Tags.{keyword_of, number_of}
 use Rattle.owl_tree.specs.Trees.{Tree, kids_of, node}
 use Rattle.owl_doc.specs.declared.term.Term.{Term}
 use Rattle.owl_doc.specs.declared.term.Term.TheVariants.{Keyword, Opening, Closing}
-use Rattle.owl_doc.specs.declared.term.Term.TheVariants as term
 use Rattle.owl_doc.specs.Functional.{IsWithinLimits}
 use Rattle.owl_doc.specs.Spelling.{is_bare, is_group}
 use Rattle.fss_items.specs.declared.item_fault.ItemFault.{ItemFault}
@@ -21,8 +18,8 @@ use Rattle.fss_items.specs.declared.items.parts.Open as kept
 use Rattle.fss_items.specs.declared.items.parts.Stage.{Stage}
 use Rattle.fss_items.specs.declared.items.places.Next.{Next}
 use Rattle.fss_items.specs.declared.items.places.Next.TheVariants as next
-use Rattle.fss_items.specs.Bodies.{AreReady, Barred, Completion, Construct, EndsWith, Goes, IsReady, Takes, Turned}
-use Rattle.fss_items.specs.InHand.{construct_of, constructs_before, group_in}
+use Rattle.fss_items.specs.Bodies.{AreReady, Barred, Completion, Construct, Goes, Takes, Turned}
+use Rattle.fss_items.specs.InHand.{constructs_before, group_in}
 use Rattle.fss_items.specs.Places.{May, group_next, group_of, next_of}
 use Rattle.fss_items.proofs.Choices.{group_is}
 use Rattle.fss_items.proofs.Firsts.{back, opened_group, opened_keyword, tail_is}

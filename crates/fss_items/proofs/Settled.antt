@@ -1,27 +1,25 @@
 -- What begins without a word, and what ends without a bracket.
-use Rattle.std.proofs.Common.{◌≡◌, ◌≢◌, ◌⊎◌, inl, inr, refl, sym, ap, ◌∙◌, subst, true, false, Bool, IsTrue, arith, ◌<◌, ◌≤◌, ◌+◌}
-use Rattle.std.specs.Prelude.{ℕ, zero, suc, ◌||◌, ◌&&◌, not, List, [], ◌∷◌, ◌++◌, length, map, Option, None, Some}
-use Rattle.std.proofs.lemmas.Bool.{and_parts, eqb-true, false≢true, true≢false}
+use Rattle.std.proofs.Common.{◌≡◌, inl, inr, refl, sym, ap, ◌∙◌, subst, true, false, Bool}
+use Rattle.std.specs.Prelude.{ℕ, suc, ◌||◌, ◌&&◌, not, List, [], ◌∷◌, ◌++◌, length}
+use Rattle.std.proofs.lemmas.Bool.{and_parts, eqb-true, false≢true}
 use Rattle.owl_tree.specs.declared.atom.Atom.{Atom}
-use Rattle.owl_tree.specs.declared.row.Sort.{Sort}
 use Rattle.owl_tree.specs.declared.row.Sort.TheVariants as sort
 use Rattle.owl_tree.specs.declared.tag.Tag.{Tag}
 use Rattle.owl_tree.specs.declared.tag.Tag.TheVariants as tag
 use Rattle.owl_tree.specs.OrderLaws.{same_number}
-use Rattle.owl_tree.specs.Rows.{Row, Leaf, Node, admits, fits, is_tag, row_of}
+use Rattle.owl_tree.specs.Rows.{admits, fits, row_of}
 use Rattle.owl_tree.specs.Shape.{IsShaped}
 use Rattle.owl_tree.specs.Tags.{keyword_of, number_of}
-use Rattle.owl_tree.specs.Trees.{Tree, Kids, kids_of, leaf, node, tag_of}
+use Rattle.owl_tree.specs.Trees.{Tree, kids_of, leaf, node, tag_of}
 use Rattle.owl_doc.specs.declared.term.Term.{Term}
-use Rattle.owl_doc.specs.declared.term.Term.TheVariants.{Keyword, Opening, Closing}
-use Rattle.owl_doc.specs.declared.term.Term.TheVariants as term
-use Rattle.owl_doc.specs.Spelling.{HasMembers, closed, is_bare, is_group, opened, spelling, spellings}
+use Rattle.owl_doc.specs.declared.term.Term.TheVariants.{Keyword}
+use Rattle.owl_doc.specs.Spelling.{HasMembers, closed, is_bare, is_group, spelling, spellings}
 use Rattle.fss_items.specs.declared.items.places.Next.{Next}
 use Rattle.fss_items.specs.declared.items.places.Next.TheVariants as next
 use Rattle.fss_items.specs.Bodies.{Closes, Goes}
 use Rattle.fss_items.specs.Places.{May, has_notes, next_of}
 use Rattle.fss_items.proofs.Firsts.{Begins, an_atom, an_entity, a_bare, a_group, a_construct, back, begins, closed_bare, into, last_shaped, last_stands, opened_bare}
-use Rattle.fss_items.proofs.Going.{On, GoesOn, Stops, stops_back, stops_or_goes}
+use Rattle.fss_items.proofs.Going.{On, stops_back, stops_or_goes}
 
 -- where annotations stand first, nothing else does
 abbrev only_notes : Next → Bool

@@ -1,7 +1,7 @@
 -- Where an atom may stand in a construct, and where not.
-use Rattle.std.proofs.Common.{◌≡◌, ◌≢◌, ◌⊎◌, inl, inr, refl, sym, ap, ◌∙◌, subst, true, false, Bool, arith, ◌<◌, ◌≤◌, ◌+◌}
-use Rattle.std.specs.Prelude.{ℕ, zero, suc, ◌||◌, ◌&&◌, not, List, [], ◌∷◌, ◌++◌, length, Option, None, Some, if◌then◌else◌}
-use Rattle.std.proofs.lemmas.Bool.{and_parts, and_cases, false≢true, true≢false}
+use Rattle.std.proofs.Common.{◌≡◌, inl, inr, refl, sym, ap, ◌∙◌, subst, true, false, Bool}
+use Rattle.std.specs.Prelude.{ℕ, zero, suc, ◌&&◌, not, List, [], ◌∷◌, ◌++◌, length, Option, None, Some, if◌then◌else◌}
+use Rattle.std.proofs.lemmas.Bool.{and_cases, false≢true, true≢false}
 use Rattle.owl_tree.specs.declared.atom.Atom.{Atom}
 use Rattle.owl_tree.specs.declared.row.AtomSort.{AtomSort}
 use Rattle.owl_tree.specs.declared.row.AtomSort.TheVariants as atom
@@ -11,7 +11,7 @@ use Rattle.owl_tree.specs.declared.tag.Tag.{Tag}
 use Rattle.owl_tree.specs.declared.tag.Tag.TheVariants as tag
 use Rattle.owl_tree.specs.Rows.{admits, row_of, sort_of, takes}
 use Rattle.owl_tree.specs.Tags.{keyword_of, number_of}
-use Rattle.owl_tree.specs.Trees.{Tree, kids_of, leaf, node, tag_of}
+use Rattle.owl_tree.specs.Trees.{Tree, leaf, tag_of}
 use Rattle.owl_doc.specs.declared.term.Term.{Term}
 use Rattle.owl_doc.specs.declared.term.Term.TheVariants as term
 use Rattle.fss_items.specs.declared.items.parts.AtomPlace.{AtomPlace}

@@ -1,12 +1,11 @@
 -- Constructs that are kept in a list, the innermost last.
-use Rattle.std.proofs.Common.{length-append, ◌≡◌, ◌⊎◌, inl, inr, refl, sym, ap, ◌∙◌, subst, arith, ◌<◌, ◌≤◌, ◌+◌, ℕ}
-use Rattle.std.specs.Prelude.{zero, suc, ◌-◌, Option, None, List, [], ◌∷◌, ◌++◌, length, map, Result, Ok, Err, OnOk, Some, slice_get}
+use Rattle.std.proofs.Common.{length-append, ◌≡◌, inl, inr, refl, sym, ap, ◌∙◌, subst, arith, ◌<◌, ◌≤◌, ◌+◌, ℕ}
+use Rattle.std.specs.Prelude.{zero, suc, ◌-◌, None, List, [], ◌∷◌, ◌++◌, length, Result, Ok, Err, OnOk, Some, slice_get}
 use Rattle.std.specs.List.{AllByRecursion}
-use Rattle.owl_arena.specs.declared.grow.Grow.{Grow}
 use Rattle.owl_arena.specs.Growth.{Adds}
 use Rattle.owl_arena.specs.Held.{AreHeld, node_over, tree_at, trees_at}
 use Rattle.owl_arena.specs.HeldLaws.{held_more, kids_stay}
-use Rattle.std.proofs.lemmas.Option.{get_or_from_slice_get, slice_get_within}
+use Rattle.std.proofs.lemmas.Option.{get_or_from_slice_get}
 use Rattle.owl_tree.specs.declared.tag.Tag.TheVariants as tag
 use Rattle.owl_tree.specs.Canonical.{canonical}
 use Rattle.owl_tree.specs.Trees.{Tree, no_kids, node}

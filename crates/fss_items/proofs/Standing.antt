@@ -1,6 +1,6 @@
 -- Where the kids of a construct stand.
-use Rattle.std.proofs.Common.{◌≡◌, ◌⊎◌, inl, inr, refl, sym, ap, ◌∙◌, subst, true, false, Bool, IsTrue, arith, zero-add, ◌<◌, ◌≤◌, ◌+◌, ◌-◌}
-use Rattle.std.specs.Prelude.{ℕ, zero, suc, ◌&&◌, nat_le, nat_eq, List, [], ◌∷◌, ◌++◌, length, map, slice_get, Option, None, Some, if◌then◌else◌}
+use Rattle.std.proofs.Common.{◌≡◌, refl, sym, ap, ◌∙◌, subst, true, false, Bool, IsTrue, arith, zero-add, ◌+◌, ◌-◌}
+use Rattle.std.specs.Prelude.{ℕ, zero, suc, ◌&&◌, nat_le, List, [], ◌∷◌, ◌++◌, length, map, slice_get, Option, None, Some, if◌then◌else◌}
 use Rattle.std.proofs.lemmas.Bool.{and_parts, eqb-true, false≢true, leb-true, leb-false}
 use Rattle.owl_tree.specs.OrderLaws.{same_number}
 use Rattle.fss_items.specs.declared.items.places.Next.TheVariants as next
@@ -13,12 +13,10 @@ use Rattle.owl_tree.specs.Places.{admits_at, admits_from, counts, counts_rest, p
 use Rattle.owl_tree.specs.PlacesLaws.{fits_by_place}
 use Rattle.owl_tree.specs.Rows.{Row, Leaf, Node, admits, fits, is_tag, row_of}
 use Rattle.owl_tree.specs.Shape.{AreShaped, IsShaped}
-use Rattle.owl_tree.specs.Trees.{Tree, kids_of, list_of, node, tag_of}
+use Rattle.owl_tree.specs.Trees.{Tree, kids_of, tag_of}
 use Rattle.owl_tree.specs.TreeLaws.{list_of_kids_of}
-use Rattle.owl_doc.specs.declared.term.Term.{Term}
-use Rattle.fss_items.specs.Bodies.{Closes, Goes}
+use Rattle.fss_items.specs.Bodies.{Closes}
 use Rattle.fss_items.specs.Places.{May, next_at, next_behind, next_in_row, next_of}
-use Rattle.fss_items.proofs.Going.{On}
 
 told : (t : Tag) → is_tag tag.InverseObjectProperties t ≡ true → t ≡ tag.InverseObjectProperties
 told t e = same_number t tag.InverseObjectProperties (sym (eqb-true _ _ e))

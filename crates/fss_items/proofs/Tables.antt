@@ -1,6 +1,6 @@
 -- What stands nowhere, or only in front.
-use Rattle.std.proofs.Common.{◌≡◌, ◌⊎◌, inl, inr, refl, sym, ap, ◌∙◌, subst, true, false, Bool}
-use Rattle.std.specs.Prelude.{ℕ, zero, suc, ◌||◌, ◌&&◌, not, nat_le, List, [], ◌∷◌, ◌++◌, length, slice_get, Option, None, Some, if◌then◌else◌}
+use Rattle.std.proofs.Common.{◌≡◌, refl, subst, true, false, Bool}
+use Rattle.std.specs.Prelude.{ℕ, zero, suc, ◌||◌, ◌&&◌, not, nat_le, List, [], ◌∷◌, length, slice_get, if◌then◌else◌}
 use Rattle.std.specs.List.{list_all}
 use Rattle.std.proofs.lemmas.Bool.{and_parts, and_from, false≢true, true≢false}
 use Rattle.owl_tree.specs.declared.tag.Tag.{Tag}
@@ -10,7 +10,7 @@ use Rattle.owl_tree.specs.declared.row.Sort.TheVariants as sort
 use Rattle.owl_tree.specs.declared.row.Rest.{Rest}
 use Rattle.owl_tree.specs.declared.row.Rest.TheVariants as rest
 use Rattle.owl_tree.specs.Rows.{Row, Leaf, Node, admits, is_tag, row_of}
-use Rattle.owl_tree.specs.Tags.{is_axiom, number_of}
+use Rattle.owl_tree.specs.Tags.{number_of}
 use Rattle.fss_items.specs.declared.items.places.Next.{Next}
 use Rattle.fss_items.specs.declared.items.places.Next.TheVariants as next
 use Rattle.fss_items.specs.Places.{May, has_notes, next_at, next_behind, next_in_row, next_of}

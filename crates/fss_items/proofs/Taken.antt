@@ -1,7 +1,7 @@
 -- What comes of a term in the innermost construct, by what may stand there.
-use Rattle.std.proofs.Common.{◌≡◌, ◌≢◌, ◌⊎◌, inl, inr, refl, sym, ap, ◌∙◌, subst, true, false, Bool, IsTrue, arith, ◌<◌, ◌≤◌, ◌+◌}
-use Rattle.std.specs.Prelude.{ℕ, zero, suc, ◌||◌, ◌&&◌, not, List, [], ◌∷◌, ◌++◌, length, Option, None, Some, if◌then◌else◌}
-use Rattle.std.proofs.lemmas.Bool.{and_parts, eqb-true, false≢true, true≢false}
+use Rattle.std.proofs.Common.{◌≡◌, refl, sym, ap, ◌∙◌, subst, true, false, Bool}
+use Rattle.std.specs.Prelude.{ℕ, zero, suc, List, [], ◌∷◌, ◌++◌, length, None, Some, if◌then◌else◌}
+use Rattle.std.proofs.lemmas.Bool.{eqb-true, false≢true, true≢false}
 use Rattle.owl_tree.proofs.Keywords.{same_keyword}
 use Rattle.owl_tree.specs.declared.atom.Atom.{Atom}
 use Rattle.owl_tree.specs.declared.atom.Atom.TheVariants as held_atom
@@ -14,22 +14,22 @@ use Rattle.owl_tree.specs.declared.tag.Tag.TheVariants as tag
 use Rattle.owl_tree.specs.OrderLaws.{same_number}
 use Rattle.owl_tree.specs.Rows.{Row, Leaf, Node, admits, is_tag, row_of, sort_of, takes}
 use Rattle.owl_tree.specs.Shape.{IsShaped}
-use Rattle.owl_tree.specs.Tags.{keyword_of, number_of}
-use Rattle.owl_tree.specs.Trees.{Tree, Kids, kids_of, leaf, node, tag_of}
+use Rattle.owl_tree.specs.Tags.{keyword_of}
+use Rattle.owl_tree.specs.Trees.{Tree, kids_of, leaf, node}
 use Rattle.owl_doc.specs.declared.term.Term.{Term}
 use Rattle.owl_doc.specs.declared.term.Term.TheVariants.{Keyword, Opening, Closing}
 use Rattle.owl_doc.specs.declared.term.Term.TheVariants as term
-use Rattle.owl_doc.specs.Spelling.{closed, is_bare, is_group, leaf_spelling, opened}
+use Rattle.owl_doc.specs.Spelling.{is_bare}
 use Rattle.fss_items.specs.declared.items.places.Next.{Next}
 use Rattle.fss_items.specs.declared.items.places.Next.TheVariants as next
-use Rattle.fss_items.specs.Bodies.{Closes, Goes}
-use Rattle.fss_items.specs.Places.{May, has_keyword, group_of, is_leaf_row, leaf_of, may_close, next_of}
+use Rattle.fss_items.specs.Bodies.{Goes}
+use Rattle.fss_items.specs.Places.{May, group_of, is_leaf_row, leaf_of, may_close, next_of}
 use Rattle.fss_items.proofs.Choices.{group_is, leaf_is, may_close_here, pair_is}
-use Rattle.fss_items.proofs.Firsts.{back, closed_bracket, last_shaped, last_stands, opened_bare, opened_group, opened_keyword, tail_is}
-use Rattle.fss_items.proofs.Going.{On, goes_back, stops_back}
+use Rattle.fss_items.proofs.Firsts.{last_shaped, last_stands, tail_is}
+use Rattle.fss_items.proofs.Going.{On, goes_back}
 use Rattle.fss_items.proofs.Moves.{atom_closing, atom_is, atom_keyword, atom_opening, keyword_closing, keyword_opening, opening_closing, pair_begins, word_is}
-use Rattle.fss_items.proofs.Tables.{is_entity, no_entity}
-use Rattle.fss_items.proofs.Turns.{MayCome, Turns, an_atom_comes, a_construct_comes, a_group_comes, a_pair_comes, an_entity_comes, ends}
+use Rattle.fss_items.proofs.Tables.{no_entity}
+use Rattle.fss_items.proofs.Turns.{Turns, an_atom_comes, a_construct_comes, a_group_comes, a_pair_comes, an_entity_comes, ends}
 
 some_is : {X : Type 0} → (x y : X) → Some x ≡ Some y → x ≡ y
 some_is x y e = cc

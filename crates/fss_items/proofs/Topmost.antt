@@ -1,25 +1,24 @@
 -- Items of an ontology as constructs.
-use Rattle.std.proofs.Common.{◌≡◌, ◌⊎◌, inl, inr, refl, sym, ap, ◌∙◌, subst, true, false, Bool, IsTrue}
-use Rattle.std.specs.Prelude.{ℕ, ◌||◌, ◌&&◌, not, List, [], ◌∷◌, ◌++◌, codes, length}
-use Rattle.std.proofs.lemmas.Bool.{and_parts, eqb-true, false≢true, true≢false}
+use Rattle.std.proofs.Common.{◌≡◌, inl, inr, refl, sym, ap, ◌∙◌, subst, true, false, Bool}
+use Rattle.std.specs.Prelude.{ℕ, ◌||◌, not, List, [], ◌∷◌, codes, length}
+use Rattle.std.proofs.lemmas.Bool.{and_parts, false≢true}
 use Rattle.owl_tree.specs.declared.atom.Atom.{Atom}
 use Rattle.owl_tree.specs.declared.tag.Tag.{Tag}
 use Rattle.owl_tree.specs.declared.tag.Tag.TheVariants as tag
 use Rattle.owl_tree.specs.Ontologies.{IsSameOntology, Ontology}
-use Rattle.owl_tree.specs.OrderLaws.{same_number}
 use Rattle.owl_tree.specs.Rows.{is_tag, row_of}
 use Rattle.owl_tree.specs.Shape.{IsShaped}
-use Rattle.owl_tree.specs.Tags.{is_axiom, keyword_of, number_of}
+use Rattle.owl_tree.specs.Tags.{keyword_of, number_of}
 use Rattle.owl_tree.specs.Trees.{Tree, Kids, kids_of, leaf, list_of, node, tag_of}
 use Rattle.owl_tree.specs.TreeLaws.{kids_of_list_of, list_of_kids_of}
 use Rattle.owl_doc.specs.declared.term.Term.{Term}
 use Rattle.owl_doc.specs.declared.term.Term.TheVariants.{Keyword, Opening, Closing}
 use Rattle.owl_doc.specs.declared.term.Term.TheVariants as term
 use Rattle.owl_doc.specs.Functional.{iri_term}
-use Rattle.owl_doc.specs.Spelling.{HaveMembers, IsWritten, MeetsMinimum, closed, is_bare, is_group, opened, spelling, spellings}
+use Rattle.owl_doc.specs.Spelling.{HaveMembers, IsWritten, MeetsMinimum, closed, is_bare, is_group, spelling, spellings}
 use Rattle.fss_items.specs.declared.items.parts.Stage.{Stage}
 use Rattle.fss_items.specs.declared.items.parts.Stage.TheVariants.{Imports}
-use Rattle.fss_items.specs.Bodies.{Closes, EndsWith, Goes, MayAdd, Remains, Takes, with_import}
+use Rattle.fss_items.specs.Bodies.{EndsWith, Goes, MayAdd, Remains, Takes, with_import}
 use Rattle.fss_items.specs.Places.{has_keyword, has_notes, is_leaf_row}
 use Rattle.fss_items.proofs.Firsts.{head_is, opened_keyword, tail_is}
 use Rattle.fss_items.proofs.Moves.{atom_closing, atom_keyword}

@@ -1,22 +1,21 @@
 -- What the next term of an ontology begins or ends.
-use Rattle.std.proofs.Common.{◌≡◌, ◌≢◌, ◌⊎◌, inl, inr, refl, sym, ap, ◌∙◌, subst, true, false, Bool, IsTrue, append_assoc}
-use Rattle.std.specs.Prelude.{ℕ, Option, List, [], ◌∷◌, ◌++◌, flat_map, codes, IfSome, if◌then◌else◌}
-use Rattle.std.specs.List.{AllByRecursion}
+use Rattle.std.proofs.Common.{◌≡◌, inl, inr, refl, sym, ap, ◌∙◌, subst, true, false, Bool, append_assoc}
+use Rattle.std.specs.Prelude.{ℕ, Option, List, [], ◌∷◌, ◌++◌, flat_map, codes, if◌then◌else◌}
 use Rattle.owl_text.specs.Iri.{IsIri}
 use Rattle.owl_tree.specs.declared.tag.Tag.{Tag}
 use Rattle.owl_tree.specs.declared.tag.Tag.TheVariants as tag
 use Rattle.owl_tree.specs.Ontologies.{IsHead, IsSameOntology, Ontology, OntologyName}
 use Rattle.owl_tree.specs.Rows.{is_tag}
-use Rattle.owl_tree.specs.Tags.{is_axiom, keyword_of}
+use Rattle.owl_tree.specs.Tags.{keyword_of}
 use Rattle.owl_tree.specs.Trees.{Tree, Kids, leaf, node, no_kids, kid, tag_of}
 use Rattle.owl_doc.specs.declared.term.Term.{Term}
 use Rattle.owl_doc.specs.declared.term.Term.TheVariants.{Keyword, Opening, Closing}
 use Rattle.owl_doc.specs.declared.term.Term.TheVariants as term
-use Rattle.owl_doc.specs.Functional.{IsWrittenAnnotation, IsWrittenAxiom, IsWrittenOntology, body_terms, import_terms, iri_term, item_terms}
-use Rattle.owl_doc.specs.Spelling.{IsWritten, closed, is_bare, is_group, leaf_spelling, opened, spelling, spellings}
+use Rattle.owl_doc.specs.Functional.{IsWrittenOntology, body_terms, import_terms, iri_term, item_terms}
+use Rattle.owl_doc.specs.Spelling.{IsWritten, closed, is_bare, is_group, opened, spelling, spellings}
 use Rattle.fss_items.specs.declared.items.parts.Stage.{Stage}
 use Rattle.fss_items.specs.declared.items.parts.Stage.TheVariants.{Imports, Annotations, Axioms, Ended}
-use Rattle.fss_items.specs.Bodies.{EndsWith, IsStill, MayAdd, MayAnnotate, Remains, Takes, TakesAnnotation, TakesAxiom, joined, with_annotation, with_axiom, with_import}
+use Rattle.fss_items.specs.Bodies.{EndsWith, IsStill, MayAdd, MayAnnotate, Remains, Takes, joined, with_import}
 use Rattle.fss_items.proofs.Going.{no_more, one_more}
 use Rattle.fss_items.proofs.Firsts.{head_is, tail_is}
 

@@ -1,7 +1,7 @@
 -- What the next term of a construct begins or ends.
-use Rattle.std.proofs.Common.{◌≡◌, ◌≢◌, ◌⊎◌, inl, inr, refl, sym, ap, ◌∙◌, subst, true, false, Bool, IsTrue, arith, ◌<◌, ◌≤◌, ◌+◌}
-use Rattle.std.specs.Prelude.{ℕ, zero, suc, ◌||◌, List, [], ◌∷◌, ◌++◌, length, codes, if◌then◌else◌}
-use Rattle.std.proofs.lemmas.Bool.{and_parts, eqb-true, false≢true, true≢false}
+use Rattle.std.proofs.Common.{◌≡◌, ◌⊎◌, inl, inr, refl, sym, ◌∙◌, subst, true, false, Bool, arith, ◌<◌}
+use Rattle.std.specs.Prelude.{ℕ, ◌||◌, List, [], ◌∷◌, ◌++◌, length}
+use Rattle.std.proofs.lemmas.Bool.{and_parts, eqb-true, false≢true}
 use Rattle.owl_tree.specs.declared.atom.Atom.{Atom}
 use Rattle.owl_tree.specs.declared.tag.Tag.{Tag}
 use Rattle.owl_tree.specs.declared.tag.Tag.TheVariants as tag
@@ -9,16 +9,16 @@ use Rattle.owl_tree.specs.declared.row.Sort.TheVariants.{Facet as facet}
 use Rattle.owl_tree.specs.OrderLaws.{same_number}
 use Rattle.owl_tree.specs.Rows.{admits, is_tag, row_of}
 use Rattle.owl_tree.specs.Shape.{IsShaped}
-use Rattle.owl_tree.specs.Tags.{keyword_of, number_of}
-use Rattle.owl_tree.specs.Trees.{Tree, Kids, leaf, node, no_kids, kid, kids_of, list_of, tag_of}
+use Rattle.owl_tree.specs.Tags.{keyword_of}
+use Rattle.owl_tree.specs.Trees.{Tree, Kids, leaf, node, kids_of, tag_of}
 use Rattle.owl_doc.specs.declared.term.Term.{Term}
 use Rattle.owl_doc.specs.declared.term.Term.TheVariants.{Keyword, Opening, Closing}
 use Rattle.owl_doc.specs.declared.term.Term.TheVariants as term
-use Rattle.owl_doc.specs.Spelling.{HasMembers, closed, is_bare, is_group, opened, spelling, spellings}
+use Rattle.owl_doc.specs.Spelling.{HasMembers, closed, is_bare, is_group, spellings}
 use Rattle.fss_items.specs.Bodies.{Closes, Goes, IsReady}
 use Rattle.fss_items.specs.Places.{May, has_notes, next_of}
 use Rattle.fss_items.proofs.Firsts.{Begins, an_atom, an_entity, a_bare, a_group, a_construct, begins, closed_bare, closed_bracket, head_is, into, last_shaped, last_stands, tail_is}
-use Rattle.fss_items.proofs.Going.{On, GoesOn, Stops, stops_or_goes}
+use Rattle.fss_items.proofs.Going.{On, Stops, stops_or_goes}
 use Rattle.fss_items.proofs.Tables.{no_notes}
 
 pub bare_tag : (t : Tag) → is_bare t ≡ true → (t ≡ tag.Notes) ⊎ (t ≡ tag.FacetPair)

@@ -1,5 +1,5 @@
 -- Places of atoms in constructs.
-use Rattle.std.specs.Prelude.{◌≡◌, ◌≤◌, ◌<◌, ◌+◌, ◌&&◌, ◌||◌, ℕ, Bool, true, false, nat_le, List, [], ◌∷◌, ◌++◌, length, Some}
+use Rattle.std.specs.Prelude.{◌≡◌, ◌&&◌, ◌||◌, ℕ, Bool, true, false, nat_le, List, [], ◌∷◌, ◌++◌, length, Some}
 use Rattle.owl_tree.specs.declared.atom.Atom.{Atom}
 use Rattle.owl_tree.specs.declared.row.AtomSort.{AtomSort}
 use Rattle.owl_tree.specs.declared.row.Sort.TheVariants as sort
@@ -13,6 +13,8 @@ use Rattle.owl_doc.specs.declared.term.Term.TheVariants as term
 use Rattle.fss_items.specs.declared.items.parts.AtomPlace.{AtomPlace}
 use Rattle.fss_items.specs.declared.items.parts.Site.{Site}
 use Rattle.fss_items.specs.declared.items.parts.Stage.{Stage}
+use Rattle.fss_items.specs.declared.items.parts.Waiting.{Waiting}
+use Rattle.fss_items.specs.declared.items.parts.Waiting.TheVariants as waiting
 use Rattle.fss_items.specs.Bodies.{AreReady, Barred, Completion, Construct, IsReady}
 use Rattle.fss_items.specs.Places.{next_of, place_at}
 
@@ -66,3 +68,11 @@ BarsAll cs = (a : Atom) → Barred cs (term.Atom a)
 -- nothing more stands in it, though no bracket ends it
 abbrev pub ends_itself : Tag → ℕ → Bool
 ends_itself t count = is_tag tag.Notes t || (is_tag tag.FacetPair t && nat_le 2 count)
+
+-- behind what waits an atom may come, which is an IRI or none
+abbrev pub lets_through : Waiting → Bool → Bool
+lets_through waiting.Nothing iri = true
+lets_through waiting.ImportOpen iri = iri
+lets_through (waiting.EntityOpen t) iri = iri
+lets_through (waiting.Name a) iri = iri
+lets_through _ iri = false

@@ -1,11 +1,10 @@
 -- What waits for the next term, and what a term makes of what is in hand.
-use Rattle.std.specs.Prelude.{◌≡◌, ◌≤◌, ◌&&◌, ◌||◌, ℕ, Bool, true, false, not, nat_eq, nat_le, List, [], ◌∷◌, ◌++◌, length}
-use Rattle.owl_tree.specs.declared.atom.Atom.{Atom}
+use Rattle.std.specs.Prelude.{◌≡◌, Bool, true, false, List, [], ◌∷◌, length}
 use Rattle.owl_tree.specs.declared.row.Sort.{Sort}
 use Rattle.owl_tree.specs.declared.tag.Tag.{Tag}
 use Rattle.owl_tree.specs.declared.tag.Tag.TheVariants as tag
 use Rattle.owl_tree.specs.Ontologies.{Ontology}
-use Rattle.owl_tree.specs.Rows.{is_tag, row_of, sort_of}
+use Rattle.owl_tree.specs.Rows.{is_tag, row_of}
 use Rattle.owl_tree.specs.Tags.{is_axiom, keyword_of}
 use Rattle.owl_doc.specs.declared.term.Term.{Term}
 use Rattle.owl_doc.specs.declared.term.Term.TheVariants as term
@@ -19,7 +18,7 @@ use Rattle.fss_items.specs.declared.items.parts.Waiting.TheVariants as waiting
 use Rattle.fss_items.specs.declared.items.places.Next.TheVariants.{Names}
 use Rattle.fss_items.specs.Bodies.{AreReady, Body, Completes, Construct}
 use Rattle.fss_items.specs.InHand.{constructs_before, terms_of}
-use Rattle.fss_items.specs.Places.{has_keyword, has_notes, is_iri_sort, is_leaf_row, next_of}
+use Rattle.fss_items.specs.Places.{has_keyword, has_notes, is_leaf_row, next_of}
 
 -- what is in hand, by its parts
 abbrev pub in_hand : Document → List kept.Open → Waiting → Stage → Bool → Body

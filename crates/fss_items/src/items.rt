@@ -31,6 +31,7 @@ pub mod waiting;
 pub mod words;
 
 use parts::{Open, Stage, Waiting};
+use sites::{expects_behind, expects_in};
 use steps::take;
 
 /// What was read of a document behind its header: imports, annotations and
@@ -89,14 +90,14 @@ impl Items {
     }
 
     /// Whether an atom of this sort may stand here.
-    ///
-    /// Each is let through so far.
     pub fn expects(&self, sort: AtomSort) -> Result<(), ItemFault>
         ensures barred { IfErr result (λ fault. BarsAtoms self.now sort) }
         ensures which { IfErr result (λ fault. (fault ≡ NotHere) ⊎ (fault ≡ TooDeep)) }
     {
-        let _ = sort;
-        Ok(())
+        match &self.waiting {
+            Waiting::Nothing => expects_in(&self.builder, &self.stack, sort),
+            waiting => expects_behind(waiting, sort),
+        }
     }
 
     /// Takes the next term. One that is refused leaves nothing that is of use.

@@ -157,7 +157,7 @@ pub fn place_at(next: Next, is_full: bool, sort: AtomSort) -> Option<AtomPlace>
     }
 }
 
-fn is_iri(sort: AtomSort) -> bool
+pub fn is_iri(sort: AtomSort) -> bool
     ensures { result ≡ is_iri_sort sort }
 {
     match sort {

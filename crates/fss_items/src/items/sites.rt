@@ -1,14 +1,22 @@
 //! Where an atom would stand.
 
-ghost use Rattle.std.specs.Prelude.{◌≡◌, ◌-◌, ◌≤◌, ◌⊎◌, [], IfErr, IfSome, IsNone, List, Some, length, slice_get, true};
+ghost use Rattle.std.specs.Prelude.{◌≡◌, ◌-◌, ◌≤◌, ◌⊎◌, [], Bool, IfErr, IfSome, IsNone, List, Some, length, slice_get, true};
+ghost use Rattle.owl_doc.specs.Documents.{Document};
+ghost use Rattle.owl_doc.specs.declared.term.Term.TheVariants as term;
+ghost use Rattle.owl_tree.specs.Rows.{sort_of};
 ghost use Rattle.owl_tree.specs.Trees.{Tree};
+ghost use Rattle.owl_tree.specs.declared.atom.Atom.{Atom};
+ghost use Rattle.fss_items.specs.declared.items.parts.Open as kept;
+ghost use Rattle.fss_items.specs.declared.items.parts.Stage.{Stage};
+ghost use Rattle.fss_items.specs.Bodies.{Bars};
+ghost use Rattle.fss_items.specs.Waits.{AreWaiting, in_hand};
 ghost use Rattle.fss_items.specs.InHand.{HaveKids, constructs_before};
-ghost use Rattle.fss_items.specs.Sites.{BarsAll, BarsAllOf, IsSite, ends_itself};
+ghost use Rattle.fss_items.specs.Sites.{BarsAll, BarsAllOf, IsSite, ends_itself, lets_through};
 ghost use Rattle.fss_items.specs.declared.item_fault.ItemFault.{ItemFault};
 ghost use Rattle.fss_items.specs.declared.item_fault.ItemFault.TheVariants.{NotHere, TooDeep};
 
-use super::atoms::{DEEPEST, is_full, level_of, place_at};
-use super::parts::{Open, Site};
+use super::atoms::{DEEPEST, is_full, is_iri, level_of, place_at};
+use super::parts::{Open, Site, Waiting};
 use super::places::{has_notes, next_in};
 use crate::item_fault::ItemFault;
 use owl_doc::Builder;
@@ -87,5 +95,29 @@ pub fn expects_in(builder: &Builder, stack: &Vec<Open>, sort: AtomSort) -> Resul
         } else {
             Ok(())
         },
+    }
+}
+
+/// Whether an atom may stand behind what waits, by whether it is an IRI.
+fn lets_through(waiting: &Waiting, is_iri: bool) -> bool
+    ensures { result ≡ lets_through waiting.now is_iri }
+{
+    match waiting {
+        Waiting::Nothing => true,
+        Waiting::ImportOpen | Waiting::EntityOpen(_) | Waiting::Name(_) => is_iri,
+        Waiting::Import | Waiting::ImportIri(_) => false,
+        Waiting::Keyword(_) | Waiting::EntityAtom(_, _) => false,
+    }
+}
+
+/// Whether an atom of the sort may stand behind what waits.
+pub fn expects_behind(waiting: &Waiting, sort: AtomSort) -> Result<(), ItemFault>
+    ensures barred { IfErr result (λ fault. (a : Atom) → sort_of a ≡ sort → (d : Document) (cs : List kept.Open) (s : Stage) (heavy : Bool) → AreWaiting s (constructs_before d.arena.trees cs []) waiting.now → Bars (in_hand d cs waiting.now s heavy) (term.Atom a)) }
+    ensures which { IfErr result (λ fault. fault ≡ NotHere) }
+{
+    if lets_through(waiting, is_iri(sort)) {
+        Ok(())
+    } else {
+        Err(ItemFault::NotHere)
     }
 }

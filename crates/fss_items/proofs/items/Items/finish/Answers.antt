@@ -1,4 +1,4 @@
-use Rattle.std.proofs.Common.{rules, ◌≡◌, sym, subst, [], true, false, length, refl, ◌∙◌}
+use Rattle.std.proofs.Common.{rules, ◌≡◌, sym, false, length, refl, ◌∙◌}
 use Rattle.fss_items.specs.declared.items.parts.Stage.TheVariants.{Imports, Annotations, Axioms, Ended}
 use Rattle.std.specs.Prelude.{not}
 use Rattle.std.proofs.lemmas.Bool.{true≢false}

@@ -1,6 +1,5 @@
-use Rattle.std.proofs.Common.{rules, ◌≡◌, ◌∙◌, sym, ap, subst, length, arith, Some, None}
-use Rattle.std.specs.Prelude.{◌-◌, slice_get, List, ℕ}
-use Rattle.owl_tree.specs.declared.row.AtomSort.{AtomSort}
+use Rattle.std.proofs.Common.{rules, ◌≡◌, sym, subst, length, Some, None}
+use Rattle.std.specs.Prelude.{◌-◌, slice_get, List}
 use Rattle.fss_items.specs.declared.items.parts.Open as kept
 use Rattle.fss_items.specs.Places.{next_of, place_at}
 use Rattle.fss_items.proofs.Atoms.{bars_deep, bars_none, bars_outside, is_place}

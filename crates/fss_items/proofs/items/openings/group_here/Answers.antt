@@ -1,8 +1,8 @@
-use Rattle.std.proofs.Common.{rules, ◌≡◌, ◌∙◌, ap, sym, subst, length, Some}
+use Rattle.std.proofs.Common.{rules, ◌≡◌, sym, subst, length, Some}
 use Rattle.std.specs.Prelude.{◌-◌, slice_get, List}
 use Rattle.fss_items.specs.declared.items.parts.Open as kept
 use Rattle.fss_items.specs.Places.{group_next, next_of}
-use Rattle.fss_items.proofs.Openings.{group_here_is, no_group_outside}
+use Rattle.fss_items.proofs.Openings.{group_here_is}
 use Rattle.fss_items.proofs.items.openings.group_here.Goals as goal
 
 pub returns-in-Some : goal.returns-in-Some

@@ -1,7 +1,5 @@
-use Rattle.std.proofs.Common.{rules, ◌≡◌, ◌≤◌, ◌∙◌, sym, ap, length, [], Some, None}
-use Rattle.std.specs.Prelude.{List}
-use Rattle.owl_tree.specs.Trees.{Tree}
-use Rattle.fss_items.specs.InHand.{constructs_before, group_in}
+use Rattle.std.proofs.Common.{rules, ◌≡◌, ◌∙◌, sym, length, []}
+use Rattle.fss_items.specs.InHand.{constructs_before}
 use Rattle.fss_items.proofs.Openings.{barred_group, deep_group, group_begun, long_begun}
 use Rattle.fss_items.proofs.items.openings.take_group.Goals as goal
 

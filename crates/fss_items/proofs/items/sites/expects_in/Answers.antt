@@ -1,6 +1,5 @@
-use Rattle.std.proofs.Common.{rules, ◌≡◌, ◌≤◌, Some, None, [], arith}
+use Rattle.std.proofs.Common.{rules, ◌≡◌, Some, None, []}
 use Rattle.fss_items.specs.Places.{next_of, place_at}
-use Rattle.fss_items.specs.Sites.{IsSite}
 use Rattle.fss_items.specs.InHand.{constructs_before}
 use Rattle.fss_items.proofs.Expect.{bars_at, bars_below}
 use Rattle.fss_items.proofs.items.sites.expects_in.Goals as goal

@@ -1,6 +1,5 @@
-use Rattle.std.proofs.Common.{rules, ◌≡◌, ◌≢◌, ◌<◌, ◌≤◌, length, Some, arith, subst, sym, true, false, refl}
-use Rattle.std.specs.Prelude.{◌-◌, slice_get, List, ℕ}
-use Rattle.std.proofs.lemmas.Bool.{true≢false}
+use Rattle.std.proofs.Common.{rules, ◌≡◌, length, Some, subst, sym, true, false}
+use Rattle.std.specs.Prelude.{◌-◌, slice_get, List}
 use Rattle.fss_items.specs.declared.items.parts.Open as kept
 use Rattle.fss_items.specs.Places.{has_notes}
 use Rattle.fss_items.specs.Sites.{ends_itself}

@@ -1,5 +1,4 @@
-use Rattle.std.proofs.Common.{rules, ◌≡◌, ◌++◌, ◌∷◌, [], refl, arith}
-use Rattle.std.proofs.lemmas.Grind.{common_steps}
+use Rattle.std.proofs.Common.{rules, ◌≡◌, ◌++◌, ◌∷◌, [], refl}
 use Rattle.fss_items.specs.declared.items.parts.Open as kept
 use Rattle.fss_items.proofs.Stacks.{held_put, kid_put}
 use Rattle.fss_items.proofs.items.stack.put.Goals as goal

@@ -1,6 +1,5 @@
 use Rattle.std.proofs.lemmas.Option.{slice_get_within}
 use Rattle.owl_tree.specs.Trees.{leaf}
-use Rattle.fss_items.specs.InHand.{Keeps}
 use Rattle.fss_items.proofs.Stacks.{keeps_added, put_grown, still_held}
 use Rattle.fss_items.proofs.items.stack.put_leaf.Goals as goal
 

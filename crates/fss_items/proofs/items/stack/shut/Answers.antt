@@ -1,4 +1,4 @@
-use Rattle.std.proofs.Common.{rules, ◌≡◌, ◌≢◌, ◌++◌, ◌∷◌, [], IfErr, false, true, subst}
+use Rattle.std.proofs.Common.{rules, ◌≡◌, ◌≢◌, ◌++◌, ◌∷◌, [], IfErr, false, subst}
 use Rattle.owl_arena.specs.Growth.{IsTooHeavy, IsWithin}
 use Rattle.owl_arena.specs.Held.{node_over}
 use Rattle.owl_tree.specs.Trees.{Tree}

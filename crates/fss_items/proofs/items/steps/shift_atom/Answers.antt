@@ -1,4 +1,3 @@
-use Rattle.std.proofs.Common.{rules}
 use Rattle.fss_items.proofs.items.steps.shift_atom.Goals as goal
 
 pub returns-clause-waits : goal.returns-clause-waits

@@ -1,9 +1,5 @@
 use Rattle.std.proofs.Common.{arith, refl}
 use Rattle.owl_tree.specs.Tags.{all_tags}
-use Rattle.fss_items.proofs.Sites.{no_atom_comes}
-use Rattle.fss_items.proofs.Ended.{nothing_yet}
-use Rattle.fss_items.proofs.Settling.{settles_end}
-use Rattle.fss_items.proofs.Taken.{construct_comes}
 use Rattle.fss_items.proofs.Words.{named_nowhere}
 use Rattle.fss_items.proofs.items.words.tag_named.Goals as goal
 
