@@ -1,86 +1,207 @@
--- What is answered is the outcome.
-use Rattle.std.proofs.Common.{◌⊎◌, inl, inr, Result, Ok, Err, ◌≡◌, ◌<◌, ◌≤◌, ◌^◌, ℕ, Option, Some, List, ◌++◌, length, string_bytes, codes, refl, sym, ap, ◌∙◌, subst}
-use Rattle.std.specs.Result.{IfErr, IsErrAnd}
-use Rattle.std.proofs.lemmas.List.{append_assoc}
-use Rattle.first_read.specs.Document.{Document}
-use Rattle.first_read.specs.Grammar.{Reads}
-use Rattle.first_read.specs.declared.fault.ReadFault as read
-use Rattle.first_read.specs.declared.fault.ReadFault.TheVariants as rf
-use Rattle.owl_top.specs.Canonical.{canonical}
-use Rattle.owl_top.specs.Text.{text_of}
-use Rattle.owl_top.specs.Outcome.{Outcome, no_document, text_too_long, translated, done_line, LineFor, IsSettled, IsNoted}
-use Rattle.owl_top.specs.Answers.{outcome_of, delivered_line, IsFound, success_outcome, trouble_outcome, of_reader, of_writer, IsTheBytes, IsTheDocuments, Becomes}
-use Rattle.owl_top.specs.declared.draft.WriteFault.{WriteFault}
-use Rattle.owl_top.specs.declared.draft.WriteFault.TheVariants as wf
-use Rattle.owl_top.specs.declared.answer.Trouble.{Trouble}
-use Rattle.owl_top.specs.declared.answer.Trouble.TheVariants as t
-use Rattle.owl_top.specs.declared.answer.Answer.{Answer}
-use Rattle.owl_top.specs.declared.status.Status.{Status}
-use Rattle.owl_top.specs.declared.status.Status.TheVariants.{Done, No, Words, Document as NoDocument, Target, Limit, ReadFailed, WriteFailed, Memory}
-use Rattle.owl_top.specs.declared.writer.Translation.{Translation}
+-- What is answered for documents is what is asked.
+use Rattle.std.proofs.Common.{Result, Ok, Err, IfOk, IfErr, ◌≡◌, ◌≢◌, ◌⊎◌, inl, inr, ◌<◌, ◌≤◌, ℕ, IsTrue, Bool, Option, None, Some, List, [], ◌∷◌, ◌++◌, length, codes, refl, sym, ap, ◌∙◌, subst, arith}
+use Rattle.std.specs.List.{AllByRecursion}
+use Rattle.std.specs.Result.{IsErrAnd}
+use Rattle.owl_port.specs.Outside.{Rose, SameElsewhere, before}
+use Rattle.owl_atom.specs.declared.prefixes.Prefix.{Prefix}
+use Rattle.owl_tree.specs.Ontologies.{Ontology}
+use Rattle.owl_doc.specs.Functional.{Reads, longest}
+use Rattle.std.proofs.lemmas.List.{length-append}
+use Rattle.owl_port.specs.declared.whole.ReadFault as port
+use Rattle.owl_port.specs.declared.whole.ReadFault.TheVariants as pf
+use Rattle.fss_read.specs.declared.fault.ReadFault as read
+use Rattle.fss_read.specs.declared.fault.ReadFault.TheVariants as rf
+use Rattle.fss_write.specs.Text.{declared_prefixes}
+use Rattle.owl_top.specs.Commands.{IsAmong, Request, translates, shows, compares, names_of}
+use Rattle.owl_top.specs.Outcome.{Becomes, BecomesOf, IsFaulty, IsFirstFaulty, IsFrontTaken, IsNoDocument, IsReached, IsReadBack, IsSettled, IsSuccess, IsTheOutcome, IsUnread, LineFor, Outcome, Says, agreement, difference, has_defect, of_success, shown, too_deep, too_heavy, too_large, too_long, translation, unreadable}
+use Rattle.owl_top.specs.Answers.{ComparesWith, IsAnswered, IsComparedWith, IsComparison, IsFaultOf, IsOnlyReading, IsProper, IsTaken, IsTroubleOf, Rises, SaysOnly, Shelves, not_read, of_reader, of_shelf, settled, trouble_outcome}
+use Rattle.owl_top.specs.Answers as a
+use Rattle.owl_top.specs.declared.trouble.Trouble.{Trouble}
+use Rattle.owl_top.specs.declared.trouble.Trouble.TheVariants as t
+use Rattle.owl_top.specs.declared.command.Target.TheVariants.{Fss}
+use Rattle.owl_top.proofs.Lines.{line_more, settled_line, settled_proper, trouble_line}
+use Rattle.owl_top.proofs.Outcomes.{compared_the, first_unread_the, settled_the, shown_of_form, translation_of_form, unread_the}
 
-pub success_is : (translation : Translation) (document : Document) → string_bytes translation.text ≡ text_of document → translation.axioms ≡ length (canonical document.axioms) → success_outcome translation ≡ translated document
-success_is translation document e f = λ i. record { status = Done; text = e i; line = done_line (f i) }
+-- two facts of an answer
+pub from_both : {T E : Type 0} (r : Result T E) (P Q R : T → Type 0) → ((x : T) → P x → Q x → R x) → IfOk r P → IfOk r Q → IfOk r R
+from_both (Ok x) P Q R f p q = f x p q
+from_both (Err y) P Q R f p q = tt
+
+-- the document of a shelf
+pub says_only : (there : Option (List ℕ)) (bytes : List ℕ) (prefixes : List Prefix) (o : Ontology) → there ≡ Some bytes → IsOnlyReading bytes prefixes o → SaysOnly there prefixes o
+says_only there bytes prefixes o e r = record {
+  says = record { bytes = bytes; are = e; reads = r.reads };
+  only = λ others p s. r.only others p (subst (λ (x : List ℕ). Reads x others p) (same s.bytes s.are) s.reads);
+}
+  where
+    same : (others : List ℕ) → there ≡ Some others → others ≡ bytes
+    same others f = cc
+
+-- what a shelf refuses
+pub shelf_trouble : {T : Type 0} (r : Result T Trouble) (fault : port.ReadFault) (name : List ℕ) (there : Option (List ℕ)) → IsErrAnd r (λ y. y ≡ of_shelf fault) → (fault ≡ pf.TooLong → (taken : List ℕ) × (rest : List ℕ) × (there ≡ Some (taken ++ rest)) × (longest < length taken)) → IfErr r (IsTroubleOf name there)
+shelf_trouble (Ok x) fault name there e f = tt
+shelf_trouble (Err y) pf.Failed name there e f = subst (IsTroubleOf name there) (sym e) tt
+shelf_trouble (Err y) pf.TooLong name there e f =
+    let h = f refl in
+    let long : longest < length (h.0 ++ h.1) = let parts = length-append h.0 h.1 in let front = h.3 in omega arith in
+    subst (IsTroubleOf name there) (sym e) (too_long (h.0 ++ h.1) h.2 long refl)
+shelf_trouble (Err y) pf.Memory name there e f = subst (IsTroubleOf name there) (sym e) tt
 
 -- what a reader refuses
-pub reader_trouble : {T : Type 0} (r : Result T Trouble) (fault : read.ReadFault) (bytes : List ℕ) → length bytes ≤ 2 ^ 27 → IsErrAnd r (λ y. y ≡ of_reader fault) → (fault ≡ rf.NotBuilt → (document : Document) → Reads bytes document → ⊥) → (fault ≡ rf.TooLong → ⊥) → IfErr r (λ trouble. (name : List ℕ) → IsTheBytes name bytes trouble)
-reader_trouble (Ok x) fault bytes w e f g = tt
-reader_trouble (Err y) rf.NotBuilt bytes w e f g = subst (λ (z : Trouble). (name : List ℕ) → IsTheBytes name bytes z) (sym e) (λ name. no_document w (f refl) refl)
-reader_trouble (Err y) rf.TooLong bytes w e f g = absurd (g refl)
-reader_trouble (Err y) rf.Memory bytes w e f g = subst (λ (z : Trouble). (name : List ℕ) → IsTheBytes name bytes z) (sym e) (λ name. tt)
+pub reader_trouble : {T : Type 0} (r : Result T Trouble) (fault : read.ReadFault) (name bytes : List ℕ) (there : Option (List ℕ)) → there ≡ Some bytes → length bytes ≤ longest → IsErrAnd r (λ y. y ≡ of_reader fault) → (fault ≢ rf.Memory → IsNoDocument bytes) → fault ≢ rf.TooLong → IfErr r (IsTroubleOf name there)
+reader_trouble (Ok x) fault name bytes there e w f n s = tt
+reader_trouble (Err y) (rf.Refused item at reason) name bytes there e w f n s = subst (IsTroubleOf name there) (sym f) (unreadable bytes e w (n (λ g. cc)) (has_defect item at reason refl))
+reader_trouble (Err y) rf.TooLong name bytes there e w f n s = absurd (s refl)
+reader_trouble (Err y) rf.TooDeep name bytes there e w f n s = subst (IsTroubleOf name there) (sym f) (unreadable bytes e w (n (λ g. cc)) (too_deep refl))
+reader_trouble (Err y) rf.TooHeavy name bytes there e w f n s = subst (IsTroubleOf name there) (sym f) (unreadable bytes e w (n (λ g. cc)) (too_heavy refl))
+reader_trouble (Err y) rf.NumberTooLarge name bytes there e w f n s = subst (IsTroubleOf name there) (sym f) (unreadable bytes e w (n (λ g. cc)) (too_large refl))
+reader_trouble (Err y) rf.Memory name bytes there e w f n s = subst (IsTroubleOf name there) (sym f) tt
 
--- what the writer refuses
-pub writer_trouble : {T : Type 0} (r : Result T Trouble) (fault : WriteFault) (bytes : List ℕ) (document : Document) → length bytes ≤ 2 ^ 27 → Reads bytes document → IsErrAnd r (λ y. y ≡ of_writer fault) → (fault ≡ wf.TooLong → 2 ^ 27 < length (text_of document)) → IfErr r (λ trouble. (name : List ℕ) → IsTheBytes name bytes trouble)
-writer_trouble (Ok x) fault bytes document w d e f = tt
-writer_trouble (Err y) wf.TooLong bytes document w d e f = subst (λ (z : Trouble). (name : List ℕ) → IsTheBytes name bytes z) (sym e) (λ name. text_too_long w document d (f refl) refl)
-writer_trouble (Err y) wf.Memory bytes document w d e f = subst (λ (z : Trouble). (name : List ℕ) → IsTheBytes name bytes z) (sym e) (λ name. tt)
+never_succeeds : (name : List ℕ) (trouble : Trouble) → IsSuccess (trouble_outcome name trouble).status → ⊥
+never_succeeds name t.ReadFailed h = h
+never_succeeds name t.TooLong h = h
+never_succeeds name (t.Defect item at reason) h = h
+never_succeeds name t.TooDeep h = h
+never_succeeds name t.TooHeavy h = h
+never_succeeds name t.NumberTooLarge h = h
+never_succeeds name t.Memory h = h
 
-pub the_documents : (name bytes : List ℕ) (left : Option (List ℕ)) (trouble : Trouble) → left ≡ Some bytes → ((name : List ℕ) → IsTheBytes name bytes trouble) → IsTheDocuments name left trouble
-the_documents name bytes left t.ReadFailed e f = tt
-the_documents name bytes left t.DocumentTooLong e f = absurd (f name)
-the_documents name bytes left t.NotBuilt e f = (bytes, e, f name)
-the_documents name bytes left t.OutputTooLong e f = (bytes, e, f name)
-the_documents name bytes left t.Memory e f = tt
+-- What is answered where a document is not read.
+module _ (request : Request) (name : List ℕ) (s : Shelves) (among : IsAmong (names_of request) name) (reached : IsReached s.old (names_of request) name) (unread : (o : Outcome) → IsUnread name (s.old name) o → IsTheOutcome (Becomes s.old request) o) where
+  judged_trouble : (trouble : Trouble) → IsTroubleOf name (s.old name) trouble → IsSettled (trouble_outcome name trouble).status → IsTheOutcome (Becomes s.old request) (trouble_outcome name trouble)
+  judged_trouble t.ReadFailed u h = absurd h
+  judged_trouble t.TooLong u h = unread (trouble_outcome name t.TooLong) u
+  judged_trouble (t.Defect item at reason) u h = unread (trouble_outcome name (t.Defect item at reason)) u
+  judged_trouble t.TooDeep u h = unread (trouble_outcome name t.TooDeep) u
+  judged_trouble t.TooHeavy u h = unread (trouble_outcome name t.TooHeavy) u
+  judged_trouble t.NumberTooLarge u h = unread (trouble_outcome name t.NumberTooLarge) u
+  judged_trouble t.Memory u h = absurd h
 
--- the lines are those of their statuses
-pub success_line : (name : List ℕ) (outcome : Outcome) (translation : Translation) → outcome ≡ success_outcome translation → LineFor name outcome.status outcome.line
-success_line name outcome translation e = subst (λ (o : Outcome). LineFor name o.status o.line) (sym e) (translation.axioms, refl)
+  answered_as : (trouble : Trouble) → (IsTrue s.tells → IsTroubleOf name (s.old name) trouble) → IsProper (trouble_outcome name trouble) → (trouble ≡ t.ReadFailed → Rises s name) → IsAnswered request s (trouble_outcome name trouble)
+  answered_as trouble u p f = record {
+    judged = λ tells h. judged_trouble trouble (u tells) h;
+    back = λ tells h. absurd (never_succeeds name trouble h);
+    proper = p;
+    line = trouble_line request (IsFaulty (Rises s) request) name among trouble (λ e. (among, f e));
+    first = λ tells. trouble_line request (IsFirstFaulty s.old (Rises s) request) name among trouble (λ e. (reached, f e));
+    ended = λ tells h. absurd (never_succeeds name trouble h);
+  }
 
-line_of : (name : List ℕ) (trouble : Trouble) → LineFor name (trouble_outcome name trouble).status (trouble_outcome name trouble).line
-line_of name t.ReadFailed = append_assoc (codes "read: ") name (codes "\n")
-line_of name t.DocumentTooLong = inl (append_assoc (codes "limit: DocumentBytes: ") name (codes "\n"))
-line_of name t.NotBuilt = append_assoc name (codes ": NotBuilt") (codes "\n")
-line_of name t.OutputTooLong = inr refl
-line_of name t.Memory = refl
+  pub answered_trouble : (outcome : Outcome) (trouble : Trouble) → outcome ≡ trouble_outcome name trouble → IsProper outcome → (IsTrue s.tells → IsTroubleOf name (s.old name) trouble) → (trouble ≡ t.ReadFailed → Rises s name) → IsAnswered request s outcome
+  answered_trouble outcome trouble e p u f =
+      subst (IsAnswered request s) (sym e) (answered_as trouble u (subst IsProper e p) f)
 
-pub trouble_line : (name : List ℕ) (outcome : Outcome) (trouble : Trouble) → outcome ≡ trouble_outcome name trouble → LineFor name outcome.status outcome.line
-trouble_line name outcome trouble e = subst (λ (o : Outcome). LineFor name o.status o.line) (sym e) (line_of name trouble)
+-- What is answered where the one document is read.
+module _ (name : List ℕ) (s : Shelves) (prefixes : List Prefix) (o : Ontology) (says : IsTrue s.tells → SaysOnly (s.old name) prefixes o) (ended : IsTrue s.tells → s.new name ≡ Some []) where
+  pub answered_translation : (outcome : Outcome) → outcome ≡ settled name o.head.imports (translation Fss prefixes o) → (IsSuccess outcome.status → Reads outcome.text (declared_prefixes prefixes) o) → IsAnswered (translates Fss name) s outcome
+  answered_translation outcome e back = record {
+    judged = λ tells h. subst (λ (x : Outcome). IsTheOutcome (BecomesOf (translation Fss) name (s.old name)) x) (sym e) (settled_the (translation Fss) name (s.old name) prefixes o translation_of_form (says tells));
+    back = λ tells h. record { prefixes = prefixes; ontology = o; says = (says tells).says; back = back h };
+    proper = subst IsProper (sym e) (settled_proper name (translation Fss prefixes o) o.head.imports (record { found = tt; no_text = tt }));
+    line = told (IsFaulty (Rises s) (translates Fss name));
+    first = λ tells. told (IsFirstFaulty s.old (Rises s) (translates Fss name));
+    ended = λ tells h. (ended tells, tt);
+  }
+    where
+      told : (IsCause : List ℕ → Type 0) → LineFor (translates Fss name) IsCause outcome.status outcome.line
+      told IsCause =
+          subst (λ (x : Outcome). LineFor (translates Fss name) IsCause x.status x.line) (sym e) (settled_line (translates Fss name) IsCause name (inl refl) (translation Fss prefixes o) o.head.imports (_, refl))
 
--- the line that is told with an answer
-delivered_is : (answer : Answer) (status : Status) → IsFound status → delivered_line answer status ≡ string_bytes answer.line
-delivered_is answer Done h = refl
-delivered_is answer No h = absurd h
-delivered_is answer Words h = absurd h
-delivered_is answer NoDocument h = refl
-delivered_is answer Target h = absurd h
-delivered_is answer Limit h = refl
-delivered_is answer ReadFailed h = refl
-delivered_is answer WriteFailed h = absurd h
-delivered_is answer Memory h = absurd h
+  pub answered_showing : (outcome : Outcome) → outcome ≡ settled name o.head.imports (shown prefixes o) → IsAnswered (shows name) s outcome
+  answered_showing outcome e = record {
+    judged = λ tells h. subst (λ (x : Outcome). IsTheOutcome (BecomesOf shown name (s.old name)) x) (sym e) (settled_the shown name (s.old name) prefixes o shown_of_form (says tells));
+    back = λ tells h. tt;
+    proper = subst IsProper (sym e) (settled_proper name (shown prefixes o) o.head.imports (record { found = tt; no_text = tt }));
+    line = told (IsFaulty (Rises s) (shows name));
+    first = λ tells. told (IsFirstFaulty s.old (Rises s) (shows name));
+    ended = λ tells h. (ended tells, tt);
+  }
+    where
+      told : (IsCause : List ℕ → Type 0) → LineFor (shows name) IsCause outcome.status outcome.line
+      told IsCause =
+          subst (λ (x : Outcome). LineFor (shows name) IsCause x.status x.line) (sym e) (settled_line (shows name) IsCause name (inl refl) (shown prefixes o) o.head.imports refl)
 
-delivered_alike : (answer : Answer) (result : Status) → IsFound answer.status → result ≡ answer.status → delivered_line answer result ≡ string_bytes answer.line
-delivered_alike answer result h e = ap (delivered_line answer) e ∙ delivered_is answer answer.status h
-
-pub delivered_note : (name : List ℕ) (left : Option (List ℕ)) (answer : Answer) (result : Status) (before after : List ℕ) → (result ≡ answer.status) ⊎ (result ≡ WriteFailed) → IsFound answer.status → LineFor name answer.status (string_bytes answer.line) → (IsSettled answer.status → Becomes name left (outcome_of answer)) → after ≡ before ++ delivered_line answer result → IsNoted (LineFor name result) (Becomes name left) result before after
-delivered_note name left answer result before after (inl e) found line judged noted = record {
-  line = delivered_line answer result;
-  is = subst (λ (l : List ℕ). LineFor name result l) (sym (delivered_alike answer result found e)) (subst (λ (s : Status). LineFor name s (string_bytes answer.line)) (sym e) line);
-  noted = noted;
-  told = λ settled. (outcome_of answer, judged (subst IsSettled e settled), e, delivered_alike answer result found e);
+-- What is taken for one document.
+pub taken_one : (request : Request) (name : List ℕ) (old new : List ℕ → Option (List ℕ)) → names_of request ≡ name ∷ [] → IsFrontTaken (old name) (new name) → SameElsewhere name old new → IsTaken request old new
+taken_one request name old new e taken others = record {
+  taken = λ other among. by_name other (subst (λ (names : List (List ℕ)). IsAmong names other) e among);
+  others = λ other absent. others other (λ f. absent (subst (λ (names : List (List ℕ)). IsAmong names other) (sym e) (inl f)));
 }
-delivered_note name left answer result before after (inr e) found line judged noted = record {
-  line = delivered_line answer result;
-  is = subst (λ (s : Status). LineFor name s (delivered_line answer s)) (sym e) refl;
-  noted = noted;
-  told = λ settled. absurd (subst IsSettled e settled);
-}
+  where
+    by_name : (other : List ℕ) → (other ≡ name) ⊎ ⊥ → IsFrontTaken (old other) (new other)
+    by_name other (inl f) = subst (λ (n : List ℕ). IsFrontTaken (old n) (new n)) (sym f) taken
+    by_name other (inr f) = absurd f
+
+-- The second document is not read, or it is.
+module _ (o : Ontology) (second : List ℕ) (s : Shelves) where
+  second_judged : (trouble : Trouble) → IsTroubleOf second (s.old second) trouble → IsSettled (trouble_outcome second trouble).status → ComparesWith o second (s.old second) (trouble_outcome second trouble)
+  second_judged t.ReadFailed u h = absurd h
+  second_judged t.TooLong u h = not_read u
+  second_judged (t.Defect item at reason) u h = not_read u
+  second_judged t.TooDeep u h = not_read u
+  second_judged t.TooHeavy u h = not_read u
+  second_judged t.NumberTooLarge u h = not_read u
+  second_judged t.Memory u h = absurd h
+
+  compared_as : (trouble : Trouble) → (IsTrue s.tells → IsTroubleOf second (s.old second) trouble) → IsProper (trouble_outcome second trouble) → (trouble ≡ t.ReadFailed → Rises s second) → IsComparedWith o second s (trouble_outcome second trouble)
+  compared_as trouble u p f = record {
+    judged = λ tells h. second_judged trouble (u tells) h;
+    proper = p;
+    line = λ first. trouble_line (compares first second) (IsFaultOf second (Rises s second)) second (inr (inl refl)) trouble (λ e. (refl, f e));
+    ended = λ tells h. absurd (never_succeeds second trouble h);
+  }
+
+  pub compared_trouble : (outcome : Outcome) (trouble : Trouble) → outcome ≡ trouble_outcome second trouble → IsProper outcome → (IsTrue s.tells → IsTroubleOf second (s.old second) trouble) → (trouble ≡ t.ReadFailed → Rises s second) → IsComparedWith o second s outcome
+  compared_trouble outcome trouble e p u f =
+      subst (IsComparedWith o second s) (sym e) (compared_as trouble u (subst IsProper e p) f)
+
+  module _ (others : List Prefix) (p : Ontology) (says : IsTrue s.tells → SaysOnly (s.old second) others p) (ended : IsTrue s.tells → s.new second ≡ Some []) where
+    pub compared_with : (outcome : Outcome) → IsComparison o p outcome → IsComparedWith o second s outcome
+    compared_with outcome (inl h) = subst (IsComparedWith o second s) (sym h.1) (record {
+      judged = λ tells _. a.agree others p (says tells) h.0 refl;
+      proper = record { found = tt; no_text = tt };
+      line = λ first. of_success refl;
+      ended = λ tells _. ended tells;
+    })
+    compared_with outcome (inr h) = subst (IsComparedWith o second s) (sym h.1) (record {
+      judged = λ tells _. a.differ others p (says tells) h.0 refl;
+      proper = record { found = tt; no_text = tt };
+      line = λ first. of_success refl;
+      ended = λ tells _. ended tells;
+    })
+
+-- What is answered for two documents, of which the first is read; between the two, the shelf tells this.
+module _ (first second : List ℕ) (s : Shelves) (tells : Bool) (left : List ℕ → Option (List ℕ)) (faults : List ℕ → ℕ) where
+  between : Shelves
+  between = record { tells = tells; old = left; new = s.new; faults = faults; later = s.later }
+
+  module _ (prefixes : List Prefix) (o : Ontology) (told : IsTrue s.tells → IsTrue tells) (says : IsTrue s.tells → SaysOnly (s.old first) prefixes o) (there : IsTrue s.tells → left second ≡ s.old second) (counts : faults second ≡ s.faults second) (first_ended : IsTrue s.tells → s.new first ≡ Some []) where
+    rises : (name : List ℕ) → IsFaultOf second (Rose (faults second) (s.later second)) name → Rises s name
+    rises name h =
+        subst (Rises s) (sym h.0) (subst (λ (n : ℕ). Rose n (s.later second)) counts h.1)
+
+    pub answered_comparison : (outcome : Outcome) → IsComparedWith o second (record { tells = tells; old = left; new = s.new; faults = faults; later = s.later }) outcome → IsAnswered (compares first second) s outcome
+    answered_comparison outcome k = record {
+      judged = λ t h. compared_the first second (s.old first) (s.old second) prefixes o (says t) outcome (subst (λ (x : Option (List ℕ)). ComparesWith o second x outcome) (there t) (k.judged (told t) h));
+      back = λ t h. tt;
+      proper = k.proper;
+      line = line_more (compares first second) (IsFaultOf second (Rose (faults second) (s.later second))) (IsFaulty (Rises s) (compares first second)) outcome.status outcome.line (λ name h. (inr (inl h.0), rises name h)) (k.line first);
+      first = λ t. line_more (compares first second) (IsFaultOf second (Rose (faults second) (s.later second))) (IsFirstFaulty s.old (Rises s) (compares first second)) outcome.status outcome.line (λ name h. (inr ((prefixes, o, (says t).says), inl h.0), rises name h)) (k.line first);
+      ended = λ t h. (first_ended t, (k.ended (told t) h, tt));
+    }
+
+pub nothing_taken : (there : Option (List ℕ)) → IsFrontTaken there there
+nothing_taken None = ([], omega arith, refl)
+nothing_taken (Some rest) = ([], omega arith, refl)
+
+-- What is taken for two documents.
+pub taken_two : (first second : List ℕ) (old left new : List ℕ → Option (List ℕ)) → second ≢ first → IsFrontTaken (old first) (left first) → SameElsewhere first old left → IsFrontTaken (left second) (new second) → SameElsewhere second left new → IsTaken (compares first second) old new
+taken_two first second old left new apart one same two kept = record { taken = λ name among. by_name name among; others = λ name absent. by_others name absent }
+  where
+    by_name : (name : List ℕ) → IsAmong (first ∷ second ∷ []) name → IsFrontTaken (old name) (new name)
+    by_name name (inl e) = subst (λ (n : List ℕ). IsFrontTaken (old n) (new n)) (sym e) (subst (λ (x : Option (List ℕ)). IsFrontTaken (old first) x) (sym (kept first (λ f. apart (sym f)))) one)
+    by_name name (inr (inl e)) = subst (λ (n : List ℕ). IsFrontTaken (old n) (new n)) (sym e) (subst (λ (x : Option (List ℕ)). IsFrontTaken x (new second)) (same second apart) two)
+    by_name name (inr (inr e)) = absurd e
+
+    by_others : (name : List ℕ) → (IsAmong (first ∷ second ∷ []) name → ⊥) → new name ≡ old name
+    by_others name absent = kept name (λ e. absent (inr (inl e))) ∙ same name (λ e. absent (inl e))

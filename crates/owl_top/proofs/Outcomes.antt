@@ -1,114 +1,247 @@
--- The answer for a document is the outcome of the words that name it, and there is one outcome.
-use Rattle.std.proofs.Common.{Result, Err, ◌≡◌, ◌⊎◌, inl, inr, ℕ, Option, Some, List, ◌++◌, length, codes, refl, sym, ap, ◌∙◌, subst, arith}
-use Rattle.std.specs.List.{flat_map}
+-- The outcome is one.
+use Rattle.std.proofs.Common.{◌≡◌, ◌≢◌, ◌⊎◌, inl, inr, ◌<◌, ◌≤◌, ℕ, Bool, true, false, Contains, Option, Some, List, [], ◌∷◌, ◌++◌, length, nat_le, if◌then◌else◌, codes, refl, sym, ap, ◌∙◌, subst, arith, ◌+◌}
+use Rattle.std.specs.List.{sum_by}
 use Rattle.std.specs.Str.{encode_utf8_all}
-use Rattle.first_read.specs.Document.{Document}
-use Rattle.first_read.proofs.Unique.{same_document}
-use Rattle.owl_top.specs.Canonical.{canonical, IsSameOntology}
-use Rattle.owl_top.specs.Commands.{Asks}
-use Rattle.owl_top.specs.Text.{text_of, header_line, axiom_line}
-use Rattle.owl_top.specs.Outcome.{Outcome, translated, IsTranslation, document_too_long, no_document, text_too_long, succeeds, IsOutcome, no_command, translation, IsSettled, LineFor, IsLine, of_document, IsWritten, IsNoted, IsFrontNoted}
-use Rattle.owl_top.specs.Answers.{Becomes}
+use Rattle.std.proofs.lemmas.Bool.{le-leb, leb-true}
+use Rattle.std.proofs.lemmas.Bool.Decides.{nat_tests}
+use Rattle.owl_list.specs.Ascending.{ascending}
+use Rattle.owl_atom.specs.declared.prefixes.Prefix.{Prefix}
+use Rattle.owl_tree.specs.Ontologies.{IsSameOntology, Ontology, canonical_ontology}
+use Rattle.owl_tree.specs.OntologyLaws.{same_ontology_is_equal_form, same_ontology_sym, same_ontology_trans}
+use Rattle.owl_tree.specs.Order.{tree_cmp}
+use Rattle.owl_tree.specs.Trees.{kids_of, weight}
+use Rattle.owl_doc.specs.Counts.{subtrees_of}
+use Rattle.owl_doc.specs.Functional.{Reads, longest}
+use Rattle.fss_write.specs.Text.{text_of}
+use Rattle.owl_top.specs.Commands.{Asks, HasNoCommand, Request, translates, shows, compares, words_of}
+use Rattle.owl_top.specs.Summary.{count_line, name_lines}
+use Rattle.owl_top.specs.Outcome.{AreOneOutcome, Becomes, BecomesOf, BecomesOfBoth, IsOutcome, IsTheOutcome, IsUnread, Outcome, Says, agree, agreement, differ, difference, done_line, first_not_read, has_imports, no_command, not_built, not_read, of_request, passes_limit, refused, second_not_read, shown, succeeds, too_long, too_long_output, translation, unreadable}
+use Rattle.owl_top.specs.Answers.{ComparesWith, SaysOnly, limited, settled}
+use Rattle.owl_top.specs.Answers as a
 use Rattle.owl_top.specs.declared.command.Target.TheVariants.{Fss}
-use Rattle.owl_top.specs.declared.status.Status.{Status}
-use Rattle.owl_top.specs.declared.status.Status.TheVariants.{Done, No, Words, Document as NoDocument, Target as TargetRefused, Limit, ReadFailed, WriteFailed, Memory}
-use Rattle.owl_top.proofs.Ordered.{canonical_holds, canonical_same}
-use Rattle.owl_top.proofs.ReadsBack.{reads_back}
+use Rattle.owl_top.specs.declared.status.Status.TheVariants.{Done, Words}
 
-module _ (words : List (List ℕ)) (contents : List ℕ → Option (List ℕ)) (name : List ℕ) (asks : Asks words Fss name) where
-  pub outcome_for : (outcome : Outcome) → Becomes name (contents name) outcome → IsOutcome words contents outcome
-  outcome_for outcome b = translation name b.0 asks b.1 b.2
+same_bytes : (there : Option (List ℕ)) (bytes others : List ℕ) → there ≡ Some bytes → there ≡ Some others → bytes ≡ others
+same_bytes there bytes others e f = cc
 
-  pub written_for : (before after : List ℕ) → (outcome : Outcome) × Becomes name (contents name) outcome × (outcome.status ≡ Done) × (after ≡ before ++ outcome.text) → IsWritten words contents before after
-  written_for before after h = by_translation h.0 h.1.0 h.1.1 h.1.2 h.2 h.3
-    where
-      text_same : (a b : Document) → IsSameOntology a b → text_of a ≡ text_of b
-      text_same a b s =
-          ap (λ (x : Option (List ℕ)). header_line x ++ (flat_map axiom_line (canonical a.axioms) ++ codes ")\n")) s.iri
-          ∙ ap (λ (x : _). header_line b.iri ++ (flat_map axiom_line x ++ codes ")\n")) (canonical_same a.axioms b.axioms s.axioms)
+same_length : (there : Option (List ℕ)) (bytes others : List ℕ) → there ≡ Some bytes → there ≡ Some others → length bytes ≡ length others
+same_length there bytes others e f = ap (λ (x : List ℕ). length x) (same_bytes there bytes others e f)
 
-      by_translation : (outcome : Outcome) (bytes : List ℕ) → contents name ≡ Some bytes → IsTranslation name bytes outcome → outcome.status ≡ Done → after ≡ before ++ outcome.text → IsWritten words contents before after
-      by_translation outcome bytes there (document_too_long l e) d w = let f : Limit ≡ Done = sym (ap (λ (o : Outcome). o.status) e) ∙ d in cc
-      by_translation outcome bytes there (no_document l n e) d w = let f : NoDocument ≡ Done = sym (ap (λ (o : Outcome). o.status) e) ∙ d in cc
-      by_translation outcome bytes there (text_too_long l document r t e) d w = let f : Limit ≡ Done = sym (ap (λ (o : Outcome). o.status) e) ∙ d in cc
-      by_translation outcome bytes there (succeeds l document r t e) d w = record {
-        name = name;
-        bytes = bytes;
-        document = document;
-        asks = asks;
-        there = there;
-        reads = r;
-        written = w ∙ ap (λ (o : Outcome). before ++ o.text) e;
-        reads_back = reads_back bytes document r;
-        same = record { iri = refl; axioms = canonical_holds document.axioms };
-        of_the_set = λ other s. text_same other document s;
-      }
+-- what says something is read
+pub is_read : (name : List ℕ) (there : Option (List ℕ)) (outcome : Outcome) (prefixes : List Prefix) (o : Ontology) → IsUnread name there outcome → Says there prefixes o → ⊥
+is_read name there outcome prefixes o (too_long bytes are long e) s =
+    let same = same_length there bytes s.bytes are s.are in
+    let few = s.reads.few in
+    absurd (omega arith)
+is_read name there outcome prefixes o (unreadable bytes are short none r) s =
+    none prefixes o (subst (λ (x : List ℕ). Reads x prefixes o) (same_bytes there s.bytes bytes s.are are) s.reads)
 
-  pub noted_for : (status : Status) (before after : List ℕ) → IsNoted (LineFor name status) (Becomes name (contents name)) status before after → IsNoted (IsLine words status) (IsOutcome words contents) status before after
-  noted_for status before after n = record {
-    line = n.line;
-    is = of_document name asks n.is;
-    noted = n.noted;
-    told = λ settled. let t = n.told settled in (t.0, outcome_for t.0 t.1, t.2, t.3);
+unread_alike : (name : List ℕ) (there : Option (List ℕ)) (one other : Outcome) → IsUnread name there one → IsUnread name there other → AreOneOutcome one other
+unread_alike name there one other (too_long bytes are long e) (too_long others be far f) = inl (e ∙ sym f)
+unread_alike name there one other (too_long bytes are long e) (unreadable others be short none r) =
+    let same = same_length there bytes others are be in
+    absurd (omega arith)
+unread_alike name there one other (unreadable bytes are short none r) (too_long others be far f) =
+    let same = same_length there bytes others are be in
+    absurd (omega arith)
+unread_alike name there one other (unreadable bytes are short none r) (unreadable others be few nothing q) = inr (name, r, q)
+
+-- an answer that depends on the prefixes and on the canonical form alone
+abbrev pub IsOfForm : (List Prefix → Ontology → Outcome) → Type 0
+IsOfForm wanted = (prefixes others : List Prefix) (o p : Ontology) → others ≡ prefixes → IsSameOntology p o → wanted others p ≡ wanted prefixes o
+
+same_form : (o p : Ontology) → IsSameOntology p o → canonical_ontology p ≡ canonical_ontology o
+same_form o p s = (same_ontology_is_equal_form p o).0 s
+
+pub translation_of_form : IsOfForm (translation Fss)
+translation_of_form prefixes others o p e s = λ i. of_form (e i) (same_form o p s i)
+  where
+    of_form : List Prefix → Ontology → Outcome
+    of_form table c = record { status = Done; text = encode_utf8_all (text_of table c); line = done_line (length c.axioms) }
+
+pub shown_of_form : IsOfForm shown
+shown_of_form prefixes others o p e s = λ i. of_form (same_form o p s i)
+  where
+    of_form : Ontology → Outcome
+    of_form c = record {
+      status = Done;
+      text = name_lines c.head.name ++ ((count_line (codes "imports") (length c.head.imports) ++ count_line (codes "annotations") (length c.annotations)) ++ (count_line (codes "axioms") (length c.axioms) ++ (count_line (codes "distinct") (length (ascending tree_cmp (subtrees_of (kids_of (c.annotations ++ c.axioms))))) ++ count_line (codes "weight") (sum_by weight c.annotations + sum_by weight c.axioms))));
+      line = codes "shown\n";
+    }
+
+-- equivalent ontologies have imports, or have none
+no_imports : (o p : Ontology) → IsSameOntology p o → o.head.imports ≡ [] → p.head.imports ≡ []
+no_imports o p s e = emptied p.head.imports o.head.imports e (λ x h. (s.head.imports x).0 h)
+  where
+    nothing_in : (ys : List (List ℕ)) (x : List ℕ) → ys ≡ [] → Contains ys x → ⊥
+    nothing_in ys x e h = let k = h.1 in let l = ap (λ (zs : List (List ℕ)). length zs) e in absurd (omega (arith, k, l))
+
+    emptied : (xs ys : List (List ℕ)) → ys ≡ [] → ((x : List ℕ) → Contains xs x → Contains ys x) → xs ≡ []
+    emptied [] ys e f = refl
+    emptied (x ∷ xs) ys e f = absurd (nothing_in ys x e (f x (0, omega arith, refl)))
+
+
+fits_in : (a b : ℕ) → nat_le a b ≡ true → a ≤ b
+fits_in a b e = leb-true a b e
+
+passes : (a b : ℕ) → nat_le a b ≡ false → b < a
+passes a b e = grind (arith, nat_tests)
+
+pub with_some : (name : List ℕ) (wanted : Outcome) (imports : List (List ℕ)) → imports ≢ [] → settled name imports wanted ≡ not_built name
+with_some name wanted [] n = absurd (n refl)
+with_some name wanted (iri ∷ iris) n = refl
+
+pub without_any : (name : List ℕ) (wanted : Outcome) (imports : List (List ℕ)) → imports ≡ [] → settled name imports wanted ≡ limited wanted
+without_any name wanted [] e = refl
+without_any name wanted (iri ∷ iris) e = absurd (cc)
+
+pub beyond : (wanted : Outcome) → longest < length wanted.text → limited wanted ≡ too_long_output
+beyond wanted l = ap (λ (b : Bool). if b then wanted else too_long_output) (no_fit (length wanted.text) longest l)
+  where
+    no_fit : (a b : ℕ) → b < a → nat_le a b ≡ false
+    no_fit a b l = grind (arith, nat_tests)
+
+pub within : (wanted : Outcome) → length wanted.text ≤ longest → limited wanted ≡ wanted
+within wanted l = ap (λ (b : Bool). if b then wanted else too_long_output) (le-leb (length wanted.text) longest l)
+
+-- a document's ontology is its own canonical form
+pub translation_fits : (prefixes : List Prefix) (o : Ontology) (text : List ℕ) → canonical_ontology o ≡ o → text ≡ text_of prefixes o → length (encode_utf8_all text) ≤ longest → limited (translation Fss prefixes o) ≡ translation Fss prefixes o
+translation_fits prefixes o text e f l =
+    let same : text ≡ text_of prefixes (canonical_ontology o) = f ∙ ap (text_of prefixes) (sym e) in
+    within (translation Fss prefixes o) (subst (λ (x : List ℕ). length (encode_utf8_all x) ≤ longest) same l)
+
+pub translation_passes : (prefixes : List Prefix) (o : Ontology) → canonical_ontology o ≡ o → longest < length (encode_utf8_all (text_of prefixes o)) → limited (translation Fss prefixes o) ≡ too_long_output
+translation_passes prefixes o e l =
+    beyond (translation Fss prefixes o) (subst (λ (x : Ontology). longest < length (encode_utf8_all (text_of prefixes x))) (sym e) l)
+
+some_are : (iri : List ℕ) (iris : List (List ℕ)) → iri ∷ iris ≡ [] → ⊥
+some_are iri iris e = cc
+
+module _ (wanted : List Prefix → Ontology → Outcome) (name : List ℕ) (there : Option (List ℕ)) where
+  unread_only : (own other : Outcome) → IsUnread name there own → BecomesOf wanted name there other → AreOneOutcome own other
+  unread_only own other u (not_read v) = unread_alike name there own other u v
+  unread_only own other u (has_imports prefixes o s n e) = absurd (is_read name there own prefixes o u s)
+  unread_only own other u (passes_limit prefixes o s n l e) = absurd (is_read name there own prefixes o u s)
+  unread_only own other u (succeeds prefixes o s n l e) = absurd (is_read name there own prefixes o u s)
+
+  -- a document that is not read
+  pub unread_the : (outcome : Outcome) → IsUnread name there outcome → IsTheOutcome (BecomesOf wanted name there) outcome
+  unread_the outcome u = record { is = not_read u; only = λ other b. unread_only outcome other u b }
+
+  module _ (prefixes : List Prefix) (o : Ontology) where
+    by_limit : (says : Says there prefixes o) (none : o.head.imports ≡ []) (fits : Bool) → nat_le (length (wanted prefixes o).text) longest ≡ fits → BecomesOf wanted name there (if fits then wanted prefixes o else too_long_output)
+    by_limit says none true e = succeeds prefixes o says none (fits_in (length (wanted prefixes o).text) longest e) refl
+    by_limit says none false e = passes_limit prefixes o says none (passes (length (wanted prefixes o).text) longest e) refl
+
+    by_imports : (says : Says there prefixes o) (imports : List (List ℕ)) → o.head.imports ≡ imports → BecomesOf wanted name there (settled name imports (wanted prefixes o))
+    by_imports says [] e = by_limit says e (nat_le (length (wanted prefixes o).text) longest) refl
+    by_imports says (iri ∷ iris) e = has_imports prefixes o says (λ f. let g = sym e ∙ f in absurd (some_are iri iris g)) refl
+
+    settled_only : IsOfForm wanted → SaysOnly there prefixes o → (other : Outcome) → BecomesOf wanted name there other → settled name o.head.imports (wanted prefixes o) ≡ other
+    settled_only form says other (not_read u) = absurd (is_read name there other prefixes o u says.says)
+    settled_only form says other (has_imports others p s n e) =
+        let same = (says.only others p s).1 in
+        with_some name (wanted prefixes o) o.head.imports (λ f. n (no_imports o p same f)) ∙ sym e
+    settled_only form says other (passes_limit others p s n l e) =
+        let only = says.only others p s in
+        let moved = form prefixes others o p only.0 only.1 in
+        without_any name (wanted prefixes o) o.head.imports (no_imports p o (same_ontology_sym p o only.1) n) ∙ beyond (wanted prefixes o) (subst (λ (w : Outcome). longest < length w.text) moved l) ∙ sym e
+    settled_only form says other (succeeds others p s n l e) =
+        let only = says.only others p s in
+        let moved = form prefixes others o p only.0 only.1 in
+        without_any name (wanted prefixes o) o.head.imports (no_imports p o (same_ontology_sym p o only.1) n) ∙ within (wanted prefixes o) (subst (λ (w : Outcome). length w.text ≤ longest) moved l) ∙ sym moved ∙ sym e
+
+    -- a document that is read
+    pub settled_the : IsOfForm wanted → SaysOnly there prefixes o → IsTheOutcome (BecomesOf wanted name there) (settled name o.head.imports (wanted prefixes o))
+    settled_the form says = record {
+      is = by_imports says.says o.head.imports refl;
+      only = λ other b. inl (settled_only form says other b);
+    }
+
+module _ (first second : List ℕ) (there beside : Option (List ℕ)) where
+  first_only : (own other : Outcome) → IsUnread first there own → BecomesOfBoth first second there beside other → AreOneOutcome own other
+  first_only own other u (first_not_read v) = unread_alike first there own other u v
+  first_only own other u (second_not_read prefixes o s v) = absurd (is_read first there own prefixes o u s)
+  first_only own other u (agree prefixes o s others p t k e) = absurd (is_read first there own prefixes o u s)
+  first_only own other u (differ prefixes o s others p t k e) = absurd (is_read first there own prefixes o u s)
+
+  -- the first of two documents is not read
+  pub first_unread_the : (outcome : Outcome) → IsUnread first there outcome → IsTheOutcome (BecomesOfBoth first second there beside) outcome
+  first_unread_the outcome u = record { is = first_not_read u; only = λ other b. first_only outcome other u b }
+
+  module _ (prefixes : List Prefix) (o : Ontology) (says : SaysOnly there prefixes o) where
+    compared : (outcome : Outcome) → ComparesWith o second beside outcome → BecomesOfBoth first second there beside outcome
+    compared outcome (a.not_read u) = second_not_read prefixes o says.says u
+    compared outcome (a.agree others p s k e) = agree prefixes o says.says others p s.says k e
+    compared outcome (a.differ others p s k e) = differ prefixes o says.says others p s.says k e
+
+    second_only : (own other : Outcome) → IsUnread second beside own → BecomesOfBoth first second there beside other → AreOneOutcome own other
+    second_only own other u (first_not_read v) = absurd (is_read first there other prefixes o v says.says)
+    second_only own other u (second_not_read q r s v) = unread_alike second beside own other u v
+    second_only own other u (agree q r s others p t k e) = absurd (is_read second beside own others p u t)
+    second_only own other u (differ q r s others p t k e) = absurd (is_read second beside own others p u t)
+
+    module _ (others : List Prefix) (p : Ontology) (said : SaysOnly beside others p) where
+      same_both : (q : List Prefix) (r : Ontology) (t : List Prefix) (v : Ontology) → Says there q r → Says beside t v → IsSameOntology o p → IsSameOntology r v
+      same_both q r t v s w k =
+          same_ontology_trans r o v (says.only q r s).1 (same_ontology_trans o p v k (same_ontology_sym v p (said.only t v w).1))
+
+      same_back : (q : List Prefix) (r : Ontology) (t : List Prefix) (v : Ontology) → Says there q r → Says beside t v → IsSameOntology r v → IsSameOntology o p
+      same_back q r t v s w k =
+          same_ontology_trans o r p (same_ontology_sym r o (says.only q r s).1) (same_ontology_trans r v p k (said.only t v w).1)
+
+      agree_only : (own other : Outcome) → IsSameOntology o p → own ≡ agreement → BecomesOfBoth first second there beside other → AreOneOutcome own other
+      agree_only own other k e (first_not_read v) = absurd (is_read first there other prefixes o v says.says)
+      agree_only own other k e (second_not_read q r s v) = absurd (is_read second beside other others p v said.says)
+      agree_only own other k e (agree q r s t v w l f) = inl (e ∙ sym f)
+      agree_only own other k e (differ q r s t v w l f) = absurd (l (same_both q r t v s w k))
+
+      differ_only : (own other : Outcome) → (IsSameOntology o p → ⊥) → own ≡ difference → BecomesOfBoth first second there beside other → AreOneOutcome own other
+      differ_only own other k e (first_not_read v) = absurd (is_read first there other prefixes o v says.says)
+      differ_only own other k e (second_not_read q r s v) = absurd (is_read second beside other others p v said.says)
+      differ_only own other k e (agree q r s t v w l f) = absurd (k (same_back q r t v s w l))
+      differ_only own other k e (differ q r s t v w l f) = inl (e ∙ sym f)
+
+    compared_only : (own other : Outcome) → ComparesWith o second beside own → BecomesOfBoth first second there beside other → AreOneOutcome own other
+    compared_only own other (a.not_read u) b = second_only own other u b
+    compared_only own other (a.agree others p s k e) b = agree_only others p s own other k e b
+    compared_only own other (a.differ others p s k e) b = differ_only others p s own other k e b
+
+    -- the first of two documents is read
+    pub compared_the : (outcome : Outcome) → ComparesWith o second beside outcome → IsTheOutcome (BecomesOfBoth first second there beside) outcome
+    compared_the outcome k = record { is = compared outcome k; only = λ other b. compared_only outcome other k b }
+
+-- words ask for one thing
+pub same_request : (words : List (List ℕ)) (one other : Request) → Asks words one → Asks words other → one ≡ other
+same_request words one other h k = by_words one other (sym h.are ∙ k.are)
+  where
+    by_words : (one other : Request) → words_of one ≡ words_of other → one ≡ other
+    by_words (translates Fss name) (translates Fss other) e = cc
+    by_words (translates Fss name) (shows other) e = absurd (cc)
+    by_words (translates Fss name) (compares first second) e = absurd (cc)
+    by_words (shows name) (translates Fss other) e = absurd (cc)
+    by_words (shows name) (shows other) e = cc
+    by_words (shows name) (compares first second) e = absurd (cc)
+    by_words (compares first second) (translates Fss other) e = absurd (cc)
+    by_words (compares first second) (shows other) e = absurd (cc)
+    by_words (compares first second) (compares third fourth) e = cc
+
+module _ (words : List (List ℕ)) (contents : List ℕ → Option (List ℕ)) where
+  asked_only : (request : Request) → Asks words request → (own other : Outcome) → ((o : Outcome) → Becomes contents request o → AreOneOutcome own o) → IsOutcome words contents other → AreOneOutcome own other
+  asked_only request asks own other f (no_command n e) = absurd (n request asks)
+  asked_only request asks own other f (of_request found k b) =
+      f other (subst (λ (r : Request). Becomes contents r other) (same_request words found request k asks) b)
+
+  -- what is answered to a request is what is answered to the words
+  pub outcome_the : (request : Request) → Asks words request → (outcome : Outcome) → IsTheOutcome (Becomes contents request) outcome → IsTheOutcome (IsOutcome words contents) outcome
+  outcome_the request asks outcome t = record {
+    is = of_request request asks t.is;
+    only = λ other b. asked_only request asks outcome other t.only b;
   }
 
-  pub front_noted_for : (status : Status) (before after : List ℕ) → IsFrontNoted (LineFor name status) before after → IsFrontNoted (IsLine words status) before after
-  front_noted_for status before after n = record { line = n.line; is = of_document name asks n.is; count = n.count; noted = n.noted }
+  no_command_only : HasNoCommand words → (other : Outcome) → IsOutcome words contents other → AreOneOutcome (refused Words (codes "words\n")) other
+  no_command_only none other (no_command n e) = inl (sym e)
+  no_command_only none other (of_request found k b) = absurd (none found k)
 
--- the words name one document at most
-same_name_of : (words : List (List ℕ)) (a b : List ℕ) → Asks words Fss a → Asks words Fss b → a ≡ b
-same_name_of words a b h k = let e = sym h.are ∙ k.are in cc
-
--- one document has one outcome
-same_translation : (name bytes : List ℕ) (o p : Outcome) → IsTranslation name bytes o → IsTranslation name bytes p → o ≡ p
-same_translation name bytes o p (document_too_long l e) (document_too_long m f) = e ∙ sym f
-same_translation name bytes o p (document_too_long l e) (no_document m n f) = absurd (omega arith)
-same_translation name bytes o p (document_too_long l e) (text_too_long m d r t f) = absurd (omega arith)
-same_translation name bytes o p (document_too_long l e) (succeeds m d r t f) = absurd (omega arith)
-same_translation name bytes o p (no_document l n e) (document_too_long m f) = absurd (omega arith)
-same_translation name bytes o p (no_document l n e) (no_document m k f) = e ∙ sym f
-same_translation name bytes o p (no_document l n e) (text_too_long m d r t f) = absurd (n d r)
-same_translation name bytes o p (no_document l n e) (succeeds m d r t f) = absurd (n d r)
-same_translation name bytes o p (text_too_long l d r t e) (document_too_long m f) = absurd (omega arith)
-same_translation name bytes o p (text_too_long l d r t e) (no_document m n f) = absurd (n d r)
-same_translation name bytes o p (text_too_long l d r t e) (text_too_long m b s u f) = e ∙ sym f
-same_translation name bytes o p (text_too_long l d r t e) (succeeds m b s u f) =
-    let same = ap (λ (x : Document). length (text_of x)) (same_document bytes d b r s) in
-    absurd (omega (arith, same, t, u))
-same_translation name bytes o p (succeeds l d r t e) (document_too_long m f) = absurd (omega arith)
-same_translation name bytes o p (succeeds l d r t e) (no_document m n f) = absurd (n d r)
-same_translation name bytes o p (succeeds l d r t e) (text_too_long m b s u f) =
-    let same = ap (λ (x : Document). length (text_of x)) (same_document bytes d b r s) in
-    absurd (omega (arith, same, t, u))
-same_translation name bytes o p (succeeds l d r t e) (succeeds m b s u f) = e ∙ ap translated (same_document bytes d b r s) ∙ sym f
-
--- a run has one outcome
-pub same_outcome : (words : List (List ℕ)) (contents : List ℕ → Option (List ℕ)) (o p : Outcome) → IsOutcome words contents o → IsOutcome words contents p → o ≡ p
-same_outcome words contents o p (no_command n e) (no_command m f) = e ∙ sym f
-same_outcome words contents o p (no_command n e) (translation name bytes a c t) = absurd (n Fss name a)
-same_outcome words contents o p (translation name bytes a c t) (no_command m f) = absurd (m Fss name a)
-same_outcome words contents o p (translation name bytes a c t) (translation other others b d u) =
-    let names = same_name_of words name other a b in
-    let contained : Some bytes ≡ Some others = sym c ∙ ap contents names ∙ d in
-    let same : bytes ≡ others = cc in
-    let moved = subst (λ (x : List ℕ). IsTranslation x others p) (sym names) u in
-    same_translation name bytes o p t (subst (λ (x : List ℕ). IsTranslation name x p) (sym same) moved)
-
--- where no device failed, the status is the outcome's, or memory ran out
-pub completes_by : (words : List (List ℕ)) (contents : List ℕ → Option (List ℕ)) (result : Status) → (IsSettled result → (o : Outcome) × IsOutcome words contents o × (result ≡ o.status)) → (result ≡ ReadFailed → ⊥) → (result ≡ WriteFailed → ⊥) → (o : Outcome) → IsOutcome words contents o → (result ≡ o.status) ⊎ (result ≡ Memory)
-completes_by words contents Done f r w o is = let h = f tt in inl (h.2 ∙ ap (λ (x : Outcome). x.status) (same_outcome words contents h.0 o h.1 is))
-completes_by words contents No f r w o is = let h = f tt in inl (h.2 ∙ ap (λ (x : Outcome). x.status) (same_outcome words contents h.0 o h.1 is))
-completes_by words contents Words f r w o is = let h = f tt in inl (h.2 ∙ ap (λ (x : Outcome). x.status) (same_outcome words contents h.0 o h.1 is))
-completes_by words contents NoDocument f r w o is = let h = f tt in inl (h.2 ∙ ap (λ (x : Outcome). x.status) (same_outcome words contents h.0 o h.1 is))
-completes_by words contents TargetRefused f r w o is = let h = f tt in inl (h.2 ∙ ap (λ (x : Outcome). x.status) (same_outcome words contents h.0 o h.1 is))
-completes_by words contents Limit f r w o is = let h = f tt in inl (h.2 ∙ ap (λ (x : Outcome). x.status) (same_outcome words contents h.0 o h.1 is))
-completes_by words contents ReadFailed f r w o is = absurd (r refl)
-completes_by words contents WriteFailed f r w o is = absurd (w refl)
-completes_by words contents Memory f r w o is = inr refl
-
-pub err_same : {E : Type 0} (T : Type 0) (x y : E) → ◌≡◌ {A = Result T E} (Err x) (Err y) → x ≡ y
-err_same T x y e = cc
-
--- words that ask for a text's bytes
-pub asks_bytes : (words : List (List ℕ)) (text bytes : List ℕ) → Asks words Fss (encode_utf8_all text) → bytes ≡ encode_utf8_all text → Asks words Fss bytes
-asks_bytes words text bytes asks e = subst (λ (b : List ℕ). Asks words Fss b) (sym e) asks
+  pub no_command_the : HasNoCommand words → IsTheOutcome (IsOutcome words contents) (refused Words (codes "words\n"))
+  no_command_the none = record { is = no_command none refl; only = λ other b. no_command_only none other b }

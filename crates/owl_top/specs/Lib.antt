@@ -1,6 +1,5 @@
-pub mod Canonical
 pub mod Commands
-pub mod Answers
 pub mod Outcome
+pub mod Summary
+pub mod Answers
 pub mod Status
-pub mod Text

@@ -1,12 +1,19 @@
 -- What a run answers, for its words and the contents of its documents.
-use Rattle.std.specs.Prelude.{◌≡◌, ◌<◌, ◌≤◌, ◌^◌, ◌+◌, ◌⊎◌, ℕ, Option, Some, List, [], ◌++◌, length, take, codes}
+use Rattle.std.specs.Prelude.{◌≡◌, ◌≢◌, ◌<◌, ◌≤◌, ◌^◌, ◌+◌, ◌⊎◌, ℕ, Option, Some, List, [], ◌∷◌, ◌++◌, length, take, codes}
 use Rattle.std.specs.Fmt.{decimal}
+use Rattle.std.specs.List.{AllByRecursion}
+use Rattle.std.specs.Str.{encode_utf8_all}
 use Rattle.owl_port.specs.Outside.{before}
-use Rattle.first_read.specs.Document.{Document}
-use Rattle.first_read.specs.Grammar.{Reads}
-use Rattle.owl_top.specs.Canonical.{canonical, IsSameOntology}
-use Rattle.owl_top.specs.Commands.{Asks, HasNoCommand}
-use Rattle.owl_top.specs.Text.{text_of, arranged_document}
+use Rattle.owl_atom.specs.declared.prefixes.Prefix.{Prefix}
+use Rattle.owl_tree.specs.Ontologies.{IsSameOntology, Ontology, canonical_ontology}
+use Rattle.owl_doc.specs.Counts.{axiom_count}
+use Rattle.owl_doc.specs.Functional.{Reads, longest}
+use Rattle.fss_read.specs.declared.fault.Reason.{Reason}
+use Rattle.fss_read.specs.declared.fault.Reason.TheVariants.{BadUtf8, BadToken, NotHere, UnknownPrefix, PrefixTwice, PrefixFixed, BadLiteral, EmptyKey}
+use Rattle.fss_write.specs.Text.{declared_prefixes, text_of}
+use Rattle.owl_top.specs.Commands.{Asks, HasNoCommand, IsAmong, Request, translates, shows, compares, names_of}
+use Rattle.owl_top.specs.Summary.{summary_text}
+use Rattle.owl_top.specs.declared.command.Target.{Target as Syntax}
 use Rattle.owl_top.specs.declared.command.Target.TheVariants.{Fss}
 use Rattle.owl_top.specs.declared.status.Status.{Status}
 use Rattle.owl_top.specs.declared.status.Status.TheVariants.{Done, No, Words, Document as NoDocument, Target, Limit, ReadFailed, WriteFailed, Memory}
@@ -19,26 +26,107 @@ pub record Outcome : Type 0 where
 
 -- a refusal writes its line and nothing else
 abbrev pub refused : Status → List ℕ → Outcome
-refused status line = record { status = status; text = []; line = line ++ codes "\n" }
+refused status line = record { status = status; text = []; line = line }
 
 abbrev pub done_line : ℕ → List ℕ
 done_line axioms = codes "translated; axioms " ++ (decimal axioms ++ codes "; absorbed 0\n")
 
--- a translation writes its text, and says how many axioms it has
-abbrev pub translated : Document → Outcome
-translated document = record { status = Done; text = text_of document; line = done_line (length (canonical document.axioms)) }
+-- A translation writes its text, and says how many axioms it has.
+abbrev pub translation : Syntax → List Prefix → Ontology → Outcome
+translation Fss prefixes o =
+    record { status = Done; text = encode_utf8_all (text_of prefixes (canonical_ontology o)); line = done_line (axiom_count o) }
 
--- What becomes of a document of these bytes: the first of its conditions that fails, or success.
-pub data IsTranslation (name bytes : List ℕ) (outcome : Outcome) : Type 0 where
-  document_too_long : 2 ^ 27 < length bytes → outcome ≡ refused Limit (codes "limit: DocumentBytes: " ++ name) → IsTranslation name bytes outcome
-  no_document : length bytes ≤ 2 ^ 27 → ((document : Document) → Reads bytes document → ⊥) → outcome ≡ refused NoDocument (name ++ codes ": NotBuilt") → IsTranslation name bytes outcome
-  text_too_long : length bytes ≤ 2 ^ 27 → (document : Document) → Reads bytes document → 2 ^ 27 < length (text_of document) → outcome ≡ refused Limit (codes "limit: OutputBytes: output") → IsTranslation name bytes outcome
-  succeeds : length bytes ≤ 2 ^ 27 → (document : Document) → Reads bytes document → length (text_of document) ≤ 2 ^ 27 → outcome ≡ translated document → IsTranslation name bytes outcome
+-- what is shown of an ontology
+abbrev pub shown : List Prefix → Ontology → Outcome
+shown prefixes o = record { status = Done; text = summary_text o; line = codes "shown\n" }
 
--- What a run answers: the words have no command, or they name a document that the contents have.
+abbrev pub agreement : Outcome
+agreement = record { status = Done; text = codes "same\n"; line = codes "same\n" }
+
+abbrev pub difference : Outcome
+difference = record { status = No; text = codes "different\n"; line = codes "different\n" }
+
+abbrev pub too_long_document : List ℕ → Outcome
+too_long_document name = refused Limit (codes "limit: DocumentBytes: " ++ (name ++ codes "\n"))
+
+abbrev pub too_long_output : Outcome
+too_long_output = refused Limit (codes "limit: OutputBytes: output\n")
+
+-- imports are not read yet
+abbrev pub not_built : List ℕ → Outcome
+not_built name = refused NoDocument (name ++ codes ": NotBuilt\n")
+
+abbrev pub reason_word : Reason → List ℕ
+reason_word BadUtf8 = codes "BadUtf8"
+reason_word BadToken = codes "BadToken"
+reason_word NotHere = codes "NotHere"
+reason_word UnknownPrefix = codes "UnknownPrefix"
+reason_word PrefixTwice = codes "PrefixTwice"
+reason_word PrefixFixed = codes "PrefixFixed"
+reason_word BadLiteral = codes "BadLiteral"
+reason_word EmptyKey = codes "EmptyKey"
+
+-- the item that is wrong, and what is wrong at which place
+abbrev pub defect : List ℕ → ℕ → ℕ → Reason → Outcome
+defect name item at reason =
+    refused NoDocument (name ++ (codes ": item at " ++ (decimal item ++ (codes ": " ++ (reason_word reason ++ (codes " at " ++ (decimal at ++ codes "\n")))))))
+
+-- How a document is refused that can't be read: by a defect at a place, or by one of three limits.
+pub data IsRefusal (name : List ℕ) (outcome : Outcome) : Type 0 where
+  has_defect : (item at : ℕ) (reason : Reason) → outcome ≡ defect name item at reason → IsRefusal name outcome
+  too_deep : outcome ≡ refused Limit (codes "limit: Depth: " ++ (name ++ codes "\n")) → IsRefusal name outcome
+  too_heavy : outcome ≡ refused Limit (codes "limit: Weight: " ++ (name ++ codes "\n")) → IsRefusal name outcome
+  too_large : outcome ≡ refused Limit (codes "limit: Cardinality: " ++ (name ++ codes "\n")) → IsRefusal name outcome
+
+-- The document that is there says this ontology, and has these prefixes.
+pub record Says (there : Option (List ℕ)) (prefixes : List Prefix) (o : Ontology) : Type 0 where
+  pub bytes : List ℕ
+  pub are : there ≡ Some bytes
+  pub reads : Reads bytes prefixes o
+
+-- The bytes are no document within the limits.
+abbrev pub IsNoDocument : List ℕ → Type 0
+IsNoDocument bytes = (prefixes : List Prefix) (o : Ontology) → Reads bytes prefixes o → ⊥
+
+-- What is there is not read: it has too many bytes, or is no document.
+pub data IsUnread (name : List ℕ) (there : Option (List ℕ)) (outcome : Outcome) : Type 0 where
+  too_long : (bytes : List ℕ) → there ≡ Some bytes → longest < length bytes → outcome ≡ too_long_document name → IsUnread name there outcome
+  unreadable : (bytes : List ℕ) → there ≡ Some bytes → length bytes ≤ longest → IsNoDocument bytes → IsRefusal name outcome → IsUnread name there outcome
+
+-- What becomes of one document, where this is wanted of what it says: the first of its conditions that fails, or success.
+pub data BecomesOf (wanted : List Prefix → Ontology → Outcome) (name : List ℕ) (there : Option (List ℕ)) (outcome : Outcome) : Type 0 where
+  not_read : IsUnread name there outcome → BecomesOf wanted name there outcome
+  has_imports : (prefixes : List Prefix) (o : Ontology) → Says there prefixes o → o.head.imports ≢ [] → outcome ≡ not_built name → BecomesOf wanted name there outcome
+  passes_limit : (prefixes : List Prefix) (o : Ontology) → Says there prefixes o → o.head.imports ≡ [] → longest < length (wanted prefixes o).text → outcome ≡ too_long_output → BecomesOf wanted name there outcome
+  succeeds : (prefixes : List Prefix) (o : Ontology) → Says there prefixes o → o.head.imports ≡ [] → length (wanted prefixes o).text ≤ longest → outcome ≡ wanted prefixes o → BecomesOf wanted name there outcome
+
+-- What becomes of two documents that are compared, the first of them looked at before the second. Imports are not asked
+-- for.
+pub data BecomesOfBoth (first second : List ℕ) (there beside : Option (List ℕ)) (outcome : Outcome) : Type 0 where
+  first_not_read : IsUnread first there outcome → BecomesOfBoth first second there beside outcome
+  second_not_read : (prefixes : List Prefix) (o : Ontology) → Says there prefixes o → IsUnread second beside outcome → BecomesOfBoth first second there beside outcome
+  agree : (prefixes : List Prefix) (o : Ontology) → Says there prefixes o → (others : List Prefix) (p : Ontology) → Says beside others p → IsSameOntology o p → outcome ≡ agreement → BecomesOfBoth first second there beside outcome
+  differ : (prefixes : List Prefix) (o : Ontology) → Says there prefixes o → (others : List Prefix) (p : Ontology) → Says beside others p → (IsSameOntology o p → ⊥) → outcome ≡ difference → BecomesOfBoth first second there beside outcome
+
+-- What becomes of what is asked for, with these contents.
+abbrev pub Becomes : (List ℕ → Option (List ℕ)) → Request → Outcome → Type 0
+Becomes contents (translates target name) outcome = BecomesOf (translation target) name (contents name) outcome
+Becomes contents (shows name) outcome = BecomesOf shown name (contents name) outcome
+Becomes contents (compares first second) outcome = BecomesOfBoth first second (contents first) (contents second) outcome
+
+-- What a run answers: the words have no command, or they ask for something and the contents have what is looked at.
 pub data IsOutcome (words : List (List ℕ)) (contents : List ℕ → Option (List ℕ)) (outcome : Outcome) : Type 0 where
-  no_command : HasNoCommand words → outcome ≡ refused Words (codes "words") → IsOutcome words contents outcome
-  translation : (name bytes : List ℕ) → Asks words Fss name → contents name ≡ Some bytes → IsTranslation name bytes outcome → IsOutcome words contents outcome
+  no_command : HasNoCommand words → outcome ≡ refused Words (codes "words\n") → IsOutcome words contents outcome
+  of_request : (request : Request) → Asks words request → Becomes contents request outcome → IsOutcome words contents outcome
+
+-- Two answers are the same, but for how the same document is refused that can't be read.
+abbrev pub AreOneOutcome : Outcome → Outcome → Type 0
+AreOneOutcome one other = (one ≡ other) ⊎ ((name : List ℕ) × IsRefusal name one × IsRefusal name other)
+
+-- It is an answer, and there is no other one.
+pub record IsTheOutcome (IsOne : Outcome → Type 0) (outcome : Outcome) : Type 0 where
+  pub is : IsOne outcome
+  pub only : (other : Outcome) → IsOne other → AreOneOutcome outcome other
 
 -- at most so many bytes of a document are taken, from its front
 abbrev pub IsFrontTaken : Option (List ℕ) → Option (List ℕ) → Type 0
@@ -56,6 +144,18 @@ IsSettled ReadFailed = ⊥
 IsSettled WriteFailed = ⊥
 IsSettled Memory = ⊥
 
+-- what was asked for was done, and the text was written
+abbrev pub IsSuccess : Status → Type 0
+IsSuccess Done = Unit {0}
+IsSuccess No = Unit {0}
+IsSuccess Words = ⊥
+IsSuccess NoDocument = ⊥
+IsSuccess Target = ⊥
+IsSuccess Limit = ⊥
+IsSuccess ReadFailed = ⊥
+IsSuccess WriteFailed = ⊥
+IsSuccess Memory = ⊥
+
 -- nothing is written to the output
 abbrev pub IsQuiet : Status → Type 0
 IsQuiet Done = ⊥
@@ -68,54 +168,106 @@ IsQuiet ReadFailed = Unit {0}
 IsQuiet WriteFailed = ⊥
 IsQuiet Memory = Unit {0}
 
--- the lines of a status, for a document of this name
-abbrev pub LineFor : List ℕ → Status → List ℕ → Type 0
-LineFor name Done line = (axioms : ℕ) × (line ≡ done_line axioms)
-LineFor name No line = ⊥
-LineFor name Words line = ⊥
-LineFor name NoDocument line = line ≡ name ++ codes ": NotBuilt\n"
-LineFor name Target line = ⊥
-LineFor name Limit line = (line ≡ codes "limit: DocumentBytes: " ++ (name ++ codes "\n")) ⊎ (line ≡ codes "limit: OutputBytes: output\n")
-LineFor name ReadFailed line = line ≡ codes "read: " ++ (name ++ codes "\n")
-LineFor name WriteFailed line = line ≡ codes "write\n"
-LineFor name Memory line = line ≡ codes "memory\n"
+-- the line of a success
+abbrev pub SuccessLine : Request → Status → List ℕ → Type 0
+SuccessLine (translates target name) Done line = (axioms : ℕ) × (line ≡ done_line axioms)
+SuccessLine (shows name) Done line = line ≡ codes "shown\n"
+SuccessLine (compares first second) Done line = line ≡ codes "same\n"
+SuccessLine (compares first second) No line = line ≡ codes "different\n"
+SuccessLine request status line = ⊥
+
+-- The lines that one of the documents is refused with.
+pub data IsRefusalLine (name : List ℕ) (status : Status) (line : List ℕ) : Type 0 where
+  of_reader : (outcome : Outcome) → IsRefusal name outcome → status ≡ outcome.status → line ≡ outcome.line → IsRefusalLine name status line
+  of_length : status ≡ Limit → line ≡ (too_long_document name).line → IsRefusalLine name status line
+  of_imports : status ≡ NoDocument → line ≡ (not_built name).line → IsRefusalLine name status line
+  of_output : status ≡ Limit → line ≡ too_long_output.line → IsRefusalLine name status line
+
+-- The lines of a status for what is asked for. A read fault names a document that has this cause.
+pub data LineFor (request : Request) (IsCause : List ℕ → Type 0) (status : Status) (line : List ℕ) : Type 0 where
+  of_success : SuccessLine request status line → LineFor request IsCause status line
+  of_refusal : (name : List ℕ) → IsAmong (names_of request) name → IsRefusalLine name status line → LineFor request IsCause status line
+  of_read_fault : (name : List ℕ) → IsCause name → status ≡ ReadFailed → line ≡ codes "read: " ++ (name ++ codes "\n") → LineFor request IsCause status line
+  of_write_fault : status ≡ WriteFailed → line ≡ codes "write\n" → LineFor request IsCause status line
+  of_no_memory : status ≡ Memory → line ≡ codes "memory\n" → LineFor request IsCause status line
 
 -- the lines of a status, for these words
-pub data IsLine (words : List (List ℕ)) (status : Status) (line : List ℕ) : Type 0 where
-  of_words : HasNoCommand words → status ≡ Words → line ≡ codes "words\n" → IsLine words status line
-  of_memory : status ≡ Memory → line ≡ codes "memory\n" → IsLine words status line
-  of_document : (name : List ℕ) → Asks words Fss name → LineFor name status line → IsLine words status line
+pub data IsLine (words : List (List ℕ)) (IsCause : Request → List ℕ → Type 0) (status : Status) (line : List ℕ) : Type 0 where
+  of_words : HasNoCommand words → status ≡ Words → line ≡ codes "words\n" → IsLine words IsCause status line
+  of_memory : status ≡ Memory → line ≡ codes "memory\n" → IsLine words IsCause status line
+  of_asked : (request : Request) → Asks words request → LineFor request (IsCause request) status line → IsLine words IsCause status line
 
--- The text of the document that was named follows what was there. It reads back to the same IRI and the same axioms,
--- and is the text of every document that has these.
-pub record IsWritten (words : List (List ℕ)) (contents : List ℕ → Option (List ℕ)) (before after : List ℕ) : Type 0 where
-  pub name : List ℕ
-  pub bytes : List ℕ
-  pub document : Document
-  pub asks : Asks words Fss name
-  pub there : contents name ≡ Some bytes
-  pub reads : Reads bytes document
-  pub written : after ≡ before ++ text_of document
-  pub reads_back : Reads (text_of document) (arranged_document document)
-  pub same : IsSameOntology (arranged_document document) document
-  pub of_the_set : (other : Document) → IsSameOntology other document → text_of other ≡ text_of document
+-- a document that is asked for, with a fault of its own
+abbrev pub IsFaulty : (List ℕ → Type 0) → Request → List ℕ → Type 0
+IsFaulty Rises request name = IsAmong (names_of request) name × Rises name
+
+-- what is there says something
+abbrev pub IsRead : Option (List ℕ) → Type 0
+IsRead there = (prefixes : List Prefix) × (o : Ontology) × Says there prefixes o
+
+-- the name is one of these, and each document before it is read
+abbrev pub IsReached : (List ℕ → Option (List ℕ)) → List (List ℕ) → List ℕ → Type 0
+IsReached contents [] name = ⊥
+IsReached contents (first ∷ others) name = (name ≡ first) ⊎ (IsRead (contents first) × IsReached contents others name)
+
+-- the same, where each document before it is read
+abbrev pub IsFirstFaulty : (List ℕ → Option (List ℕ)) → (List ℕ → Type 0) → Request → List ℕ → Type 0
+IsFirstFaulty contents Rises request name = IsReached contents (names_of request) name × Rises name
+
+-- The document that was to be translated says something that its text says too.
+pub record ReadsBack (there : Option (List ℕ)) (text : List ℕ) : Type 0 where
+  pub prefixes : List Prefix
+  pub ontology : Ontology
+  pub says : Says there prefixes ontology
+  pub back : Reads text (declared_prefixes prefixes) ontology
+
+-- where a translation is asked for
+abbrev pub IsReadBack : (List ℕ → Option (List ℕ)) → Request → List ℕ → Type 0
+IsReadBack contents (translates target name) text = ReadsBack (contents name) text
+IsReadBack contents (shows name) text = Unit {0}
+IsReadBack contents (compares first second) text = Unit {0}
+
+-- The text of the answer follows what was there. A translation reads back to the same ontology.
+pub record IsWritten (words : List (List ℕ)) (contents : List ℕ → Option (List ℕ)) (status : Status) (before after : List ℕ) : Type 0 where
+  pub outcome : Outcome
+  pub is : IsTheOutcome (IsOutcome words contents) outcome
+  pub told : status ≡ outcome.status
+  pub written : after ≡ before ++ outcome.text
+  pub request : Request
+  pub asks : Asks words request
+  pub back : IsReadBack contents request outcome.text
+
+-- A front of the text of a success follows what was there.
+pub record IsFrontWritten (IsOne : Outcome → Type 0) (before after : List ℕ) : Type 0 where
+  pub outcome : Outcome
+  pub is : IsTheOutcome IsOne outcome
+  pub success : IsSuccess outcome.status
+  pub count : ℕ
+  pub written : after ≡ before ++ take count outcome.text
 
 -- The line of a status follows what was there. Where the outcome is known and neither a device failed nor memory ran
 -- out, it is the outcome's.
-pub record IsNoted (lines : List ℕ → Type 0) (outcomes : Outcome → Type 0) (status : Status) (before after : List ℕ) : Type 0 where
+pub record IsNoted (Line : List ℕ → Type 0) (IsOne : Outcome → Type 0) (status : Status) (before after : List ℕ) : Type 0 where
   pub line : List ℕ
-  pub is : lines line
+  pub is : Line line
   pub noted : after ≡ before ++ line
-  pub told : IsSettled status → (outcome : Outcome) × outcomes outcome × (status ≡ outcome.status) × (line ≡ outcome.line)
+  pub told : IsSettled status → (outcome : Outcome) × IsTheOutcome IsOne outcome × (status ≡ outcome.status) × (line ≡ outcome.line)
 
 -- A front of this line follows what was there.
-abbrev pub IsFrontOfNote : (List ℕ → Type 0) → (Outcome → Type 0) → Status → List ℕ → List ℕ → Type 0
-IsFrontOfNote lines outcomes status before after =
-    (line : List ℕ) × (count : ℕ) × IsNoted lines outcomes status before (before ++ line) × (after ≡ before ++ take count line)
-
--- A front of some such line follows what was there.
-pub record IsFrontNoted (lines : List ℕ → Type 0) (before after : List ℕ) : Type 0 where
+pub record IsFrontOfNote (Line : List ℕ → Type 0) (IsOne : Outcome → Type 0) (status : Status) (before after : List ℕ) : Type 0 where
   pub line : List ℕ
-  pub is : lines line
+  pub whole : IsNoted Line IsOne status before (before ++ line)
+  pub count : ℕ
+  pub noted : after ≡ before ++ take count line
+
+-- The same, where only the lines of the status are known.
+pub record IsNotedAlone (Line : List ℕ → Type 0) (before after : List ℕ) : Type 0 where
+  pub line : List ℕ
+  pub is : Line line
+  pub noted : after ≡ before ++ line
+
+pub record IsFrontNoted (Line : List ℕ → Type 0) (before after : List ℕ) : Type 0 where
+  pub line : List ℕ
+  pub is : Line line
   pub count : ℕ
   pub noted : after ≡ before ++ take count line

@@ -1,12 +1,12 @@
 //! The words of the command line.
 
-ghost use Rattle.std.specs.Prelude.{◌≡◌, ◌↔◌, ◌∷◌, [], List, ℕ, map, string_bytes, IsTrue, IfOk, IsErrOf, codes};
+ghost use Rattle.std.specs.Prelude.{◌≡◌, ◌≢◌, ◌↔◌, ◌∷◌, [], List, ℕ, map, string_bytes, IsTrue, IfOk, IsErrOf, codes};
 ghost use Rattle.std.specs.Str.{encode_utf8_all};
-ghost use Rattle.owl_top.specs.Commands.{IsName, IsCommand, Asks, HasNoCommand, HasOneName};
+ghost use Rattle.owl_top.specs.Commands.{HasNoCommand, IsCommand, IsName};
 ghost use Rattle.owl_top.specs.declared.command.Target.TheVariants.{Fss};
 
 use owl_text::{NoMemory, Text};
-use std::alloc::Global;
+use std::alloc::{AllocError, Global};
 use thiserror::Error;
 
 /// The syntax of a translation.
@@ -21,6 +21,10 @@ pub enum Target {
 pub enum Command {
     /// `translate --to TARGET NAME`
     Translate { target: Target, names: Vec<Text> },
+    /// `show NAME`
+    Show { names: Vec<Text> },
+    /// `same FIRST SECOND`
+    Same { first: Text, second: Text },
 }
 
 /// Why words were refused.
@@ -32,6 +36,16 @@ pub enum WordsFault {
     /// Memory ran out.
     #[error("out of memory")]
     Memory,
+}
+
+impl From<NoMemory> for WordsFault {
+    ghost use Rattle.owl_top.specs.declared.command.WordsFault.TheVariants.{Memory};
+
+    ghost from_gives = { λ _ e. e ≡ Memory };
+
+    fn from(_e: NoMemory) -> WordsFault {
+        WordsFault::Memory
+    }
 }
 
 /// Whether a word is a document's name.
@@ -49,6 +63,20 @@ fn is_translation(verb: &str, flag: &str, target: &str) -> bool
     verb == "translate" && flag == "--to" && target == "fss"
 }
 
+/// Whether the word is this one.
+fn is_word(word: &str, wanted: &str) -> bool
+    ensures { IsTrue result ↔ (word.now ≡ wanted.now) }
+{
+    word == wanted
+}
+
+/// Whether these are the names of two documents.
+fn are_two_names(first: &str, second: &str) -> bool
+    ensures { IsTrue result ↔ (IsName first.now × IsName second.now × (second.now ≢ first.now)) }
+{
+    is_name(first) && is_name(second) && second != first
+}
+
 /// A list of one name.
 fn one_name(alloc: Global, name: &str) -> Result<Vec<Text>, NoMemory>
     ensures { IfOk result (λ names. map encode_utf8_all names.items ≡ name.now ∷ []) }
@@ -62,7 +90,7 @@ fn one_name(alloc: Global, name: &str) -> Result<Vec<Text>, NoMemory>
 }
 
 /// What these four words ask for.
-fn asked(
+fn translate(
     alloc: Global,
     verb: &str,
     flag: &str,
@@ -74,13 +102,41 @@ fn asked(
     ensures refused { HasNoCommand (verb.now ∷ flag.now ∷ target.now ∷ name.now ∷ []) → IsErrOf result WordsFault.Words }
 {
     if is_translation(verb, flag, target) && is_name(name) {
-        match one_name(alloc, name) {
-            Ok(names) => Ok(Command::Translate {
-                target: Target::Fss,
-                names,
-            }),
-            Err(NoMemory) => Err(WordsFault::Memory),
-        }
+        Ok(Command::Translate {
+            target: Target::Fss,
+            names: one_name(alloc, name)?,
+        })
+    } else {
+        Err(WordsFault::Words)
+    }
+}
+
+/// What these two words ask for.
+fn show(alloc: Global, verb: &str, name: &str) -> Result<Command, WordsFault>
+    ensures command { IfOk result (IsCommand (verb.now ∷ name.now ∷ [])) }
+    ensures none { IsErrOf result WordsFault.Words → HasNoCommand (verb.now ∷ name.now ∷ []) }
+    ensures refused { HasNoCommand (verb.now ∷ name.now ∷ []) → IsErrOf result WordsFault.Words }
+{
+    if is_word(verb, "show") && is_name(name) {
+        Ok(Command::Show {
+            names: one_name(alloc, name)?,
+        })
+    } else {
+        Err(WordsFault::Words)
+    }
+}
+
+/// What these three words ask for.
+fn same(alloc: Global, verb: &str, first: &str, second: &str) -> Result<Command, WordsFault>
+    ensures command { IfOk result (IsCommand (verb.now ∷ first.now ∷ second.now ∷ [])) }
+    ensures none { IsErrOf result WordsFault.Words → HasNoCommand (verb.now ∷ first.now ∷ second.now ∷ []) }
+    ensures refused { HasNoCommand (verb.now ∷ first.now ∷ second.now ∷ []) → IsErrOf result WordsFault.Words }
+{
+    if is_word(verb, "same") && are_two_names(first, second) {
+        Ok(Command::Same {
+            first: Text::of(alloc, first)?,
+            second: Text::of(alloc, second)?,
+        })
     } else {
         Err(WordsFault::Words)
     }
@@ -94,25 +150,15 @@ pub fn words(alloc: Global, words: &[String]) -> Result<Command, WordsFault>
     ensures refused { HasNoCommand (map string_bytes words.now) → IsErrOf result WordsFault.Words }
 {
     match words {
-        [verb, flag, target, name] => asked(
+        [verb, flag, target, name] => translate(
             alloc,
             verb.as_str(),
             flag.as_str(),
             target.as_str(),
             name.as_str(),
         ),
+        [verb, name] => show(alloc, verb.as_str(), name.as_str()),
+        [verb, first, second] => same(alloc, verb.as_str(), first.as_str(), second.as_str()),
         _ => Err(WordsFault::Words),
     }
-}
-
-/// The one document that a command names.
-pub fn named(command: Command) -> Text
-    requires { HasOneName command }
-    ensures { (words : List (List ℕ)) → IsCommand words command → Asks words Fss (encode_utf8_all result) }
-{
-    let Command::Translate {
-        target: Target::Fss,
-        mut names,
-    } = command;
-    names.remove(0)
 }

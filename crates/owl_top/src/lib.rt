@@ -2,13 +2,14 @@
 #![tactic(auto)]
 
 mod answer;
-mod canonical;
 mod command;
-mod draft;
+mod document;
 mod program;
 mod reading;
+mod request;
 mod status;
-mod writer;
+mod summary;
+mod trouble;
 
 pub use command::{Command, Target, WordsFault, words};
 pub use program::run;

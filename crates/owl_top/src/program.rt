@@ -1,18 +1,18 @@
 //! All that the program does.
 
-ghost use Rattle.std.specs.Prelude.{◌≡◌, ◌≢◌, ◌++◌, ◌↔◌, ◌⊎◌, ℕ, List, Some, [], map, take, string_bytes, IsTrue, IfOk, IsErrOf};
-ghost use Rattle.std.specs.Str.{encode_utf8_all};
-ghost use Rattle.owl_port.specs.Outside.{Rose, SameElsewhere};
-ghost use Rattle.owl_top.specs.Commands.{Asks, HasNoCommand};
-ghost use Rattle.owl_top.specs.Outcome.{Outcome, IsTranslation, IsFrontTaken, IsOutcome, IsSettled, IsQuiet, LineFor, IsLine, IsWritten, IsNoted, IsFrontOfNote, IsFrontNoted};
-ghost use Rattle.owl_top.specs.Answers.{outcome_of, HasNoText, Becomes, IsFound, delivered_line};
-ghost use Rattle.owl_top.specs.declared.command.Target.TheVariants.{Fss};
+ghost use Rattle.std.specs.Prelude.{◌≡◌, ◌≢◌, ◌++◌, ◌↔◌, ◌⊎◌, ℕ, List, Some, [], map, take, string_bytes, IsTrue, IfOk};
+ghost use Rattle.std.specs.List.{AllByRecursion};
+ghost use Rattle.owl_port.specs.Outside.{Rose};
+ghost use Rattle.owl_top.specs.Commands.{AreDistinct, Asks, HasItsNames, HasNoCommand, Name, Request, names_of, request_of};
+ghost use Rattle.owl_top.specs.Outcome.{AreOneOutcome, Becomes, IsFaulty, IsFirstFaulty, IsFrontNoted, IsFrontOfNote, IsFrontTaken, IsFrontWritten, IsLine, IsNoted, IsNotedAlone, IsOutcome, IsQuiet, IsReadBack, IsSettled, IsSuccess, IsTheOutcome, IsWritten, LineFor, Outcome};
+ghost use Rattle.owl_top.specs.Answers.{IsProper, IsTaken, IsWrittenFor, delivered_line, outcome_of};
 
-use crate::answer::{Answer, answer_of};
-use crate::command::{WordsFault, named};
+use crate::answer::Answer;
+use crate::command::{Command, WordsFault};
+use crate::request::answer_to;
 use crate::status::Status;
 use owl_port::{Failed, Shelf, Sink, put_all};
-use owl_text::{NoMemory, Text};
+use owl_text::NoMemory;
 use std::alloc::Global;
 
 /// Writes a line to the note. A fault of the note changes nothing.
@@ -26,20 +26,20 @@ fn tell<N: Sink>(note: &mut N, line: &str)
 
 /// Writes the text of an answer, and then its line.
 fn deliver<O: Sink, N: Sink>(answer: &Answer, out: &mut O, note: &mut N) -> Status
-    requires { IsFound answer.now.status }
+    requires { IsProper (outcome_of answer.now) }
     ensures status { (result ≡ answer.now.status) ⊎ (result ≡ Status.WriteFailed) }
     ensures written { IsTrue (O.tells out.old) → result ≢ Status.WriteFailed →
-        O.written out.new ≡ O.written out.old ++ string_bytes answer.now.text }
+        O.written out.new ≡ O.written out.old ++ (outcome_of answer.now).text }
     ensures front { IsTrue (O.tells out.old) → result ≡ Status.WriteFailed →
-        (n : ℕ) × (O.written out.new ≡ O.written out.old ++ take n (string_bytes answer.now.text)) }
+        (n : ℕ) × (O.written out.new ≡ O.written out.old ++ take n (outcome_of answer.now).text) }
     ensures write_fault { result ≡ Status.WriteFailed → Rose (O.faults out.old) (O.faults out.new) }
-    ensures text { result ≡ Status.WriteFailed → string_bytes answer.now.text ≢ [] }
+    ensures text { result ≡ Status.WriteFailed → (outcome_of answer.now).text ≢ [] }
     ensures line { IsTrue (N.tells note.old) → (Rose (N.faults note.old) (N.faults note.new) → ⊥) →
-        N.written note.new ≡ N.written note.old ++ delivered_line answer.now result }
+        N.written note.new ≡ N.written note.old ++ delivered_line (outcome_of answer.now) result }
     ensures line_front { IsTrue (N.tells note.old) →
-        (n : ℕ) × (N.written note.new ≡ N.written note.old ++ take n (delivered_line answer.now result)) }
+        (n : ℕ) × (N.written note.new ≡ N.written note.old ++ take n (delivered_line (outcome_of answer.now) result)) }
 {
-    match put_all(out, answer.text.as_bytes()) {
+    match put_all(out, answer.text.as_str().as_bytes()) {
         Ok(()) => {
             tell(note, answer.line.as_str());
             answer.status
@@ -51,38 +51,46 @@ fn deliver<O: Sink, N: Sink>(answer: &Answer, out: &mut O, note: &mut N) -> Stat
     }
 }
 
-/// Translates the document of this name.
-fn translate<S: Shelf, O: Sink, N: Sink>(
+/// Does what a command asks for.
+fn obey<S: Shelf, O: Sink, N: Sink>(
     alloc: Global,
-    name: &str,
+    command: &Command,
     shelf: &mut S,
     out: &mut O,
     note: &mut N,
 ) -> Status
+    requires names { HasItsNames command.now }
+    requires distinct { AreDistinct (names_of (request_of command.now)) }
+    ensures some { result ≢ Status.Words }
     ensures outcome { IsTrue (S.tells shelf.old) → IsSettled result →
-        (outcome : Outcome) × Becomes name.now (S.left shelf.old name.now) outcome × (result ≡ outcome.status) }
-    ensures written { IsTrue (S.tells shelf.old) → IsTrue (O.tells out.old) → result ≡ Status.Done →
-        (outcome : Outcome) × Becomes name.now (S.left shelf.old name.now) outcome × (outcome.status ≡ Status.Done)
-        × (O.written out.new ≡ O.written out.old ++ outcome.text) }
-    ensures ended { IsTrue (S.tells shelf.old) → result ≡ Status.Done → S.left shelf.new name.now ≡ Some [] }
-    ensures taken { IsTrue (S.tells shelf.old) → IsFrontTaken (S.left shelf.old name.now) (S.left shelf.new name.now) }
-    ensures others { IsTrue (S.tells shelf.old) → SameElsewhere name.now (S.left shelf.old) (S.left shelf.new) }
+        (outcome : Outcome) × IsTheOutcome (Becomes (S.left shelf.old) (request_of command.now)) outcome × (result ≡ outcome.status) }
+    ensures written { IsTrue (S.tells shelf.old) → IsTrue (O.tells out.old) → IsSuccess result →
+        IsWrittenFor (request_of command.now) (S.left shelf.old) result (O.written out.old) (O.written out.new) }
+    ensures ended { IsTrue (S.tells shelf.old) → IsSuccess result →
+        AllByRecursion (λ name. S.left shelf.new name ≡ Some []) (names_of (request_of command.now)) }
+    ensures taken { IsTrue (S.tells shelf.old) → IsTaken (request_of command.now) (S.left shelf.old) (S.left shelf.new) }
     ensures untouched { IsTrue (O.tells out.old) → IsQuiet result → O.written out.new ≡ O.written out.old }
     ensures front { IsTrue (S.tells shelf.old) → IsTrue (O.tells out.old) → result ≡ Status.WriteFailed →
-        (outcome : Outcome) × Becomes name.now (S.left shelf.old name.now) outcome × (outcome.status ≡ Status.Done)
-        × (n : ℕ) × (O.written out.new ≡ O.written out.old ++ take n outcome.text) }
-    ensures read_fault { result ≡ Status.ReadFailed → Rose (S.faults shelf.old name.now) (S.faults shelf.new name.now) }
+        IsFrontWritten (Becomes (S.left shelf.old) (request_of command.now)) (O.written out.old) (O.written out.new) }
+    ensures read_fault { result ≡ Status.ReadFailed → (name : List ℕ)
+        × IsFaulty (λ other. Rose (S.faults shelf.old other) (S.faults shelf.new other)) (request_of command.now) name }
+    ensures in_order { IsTrue (S.tells shelf.old) → result ≡ Status.ReadFailed → (name : List ℕ)
+        × IsFirstFaulty (S.left shelf.old) (λ other. Rose (S.faults shelf.old other) (S.faults shelf.new other)) (request_of command.now) name }
     ensures write_fault { result ≡ Status.WriteFailed → Rose (O.faults out.old) (O.faults out.new) }
     ensures note { IsTrue (S.tells shelf.old) → IsTrue (N.tells note.old) → (Rose (N.faults note.old) (N.faults note.new) → ⊥) →
-        IsNoted (LineFor name.now result) (Becomes name.now (S.left shelf.old name.now)) result (N.written note.old) (N.written note.new) }
+        IsNoted (LineFor (request_of command.now) (IsFirstFaulty (S.left shelf.old) (λ other. Rose (S.faults shelf.old other) (S.faults shelf.new other)) (request_of command.now)) result)
+        (Becomes (S.left shelf.old) (request_of command.now)) result (N.written note.old) (N.written note.new) }
     ensures note_alone { IsTrue (N.tells note.old) → (Rose (N.faults note.old) (N.faults note.new) → ⊥) →
-        (line : List ℕ) × LineFor name.now result line × (N.written note.new ≡ N.written note.old ++ line) }
+        IsNotedAlone (LineFor (request_of command.now) (IsFaulty (λ other. Rose (S.faults shelf.old other) (S.faults shelf.new other)) (request_of command.now)) result)
+        (N.written note.old) (N.written note.new) }
     ensures note_front { IsTrue (S.tells shelf.old) → IsTrue (N.tells note.old) →
-        IsFrontOfNote (LineFor name.now result) (Becomes name.now (S.left shelf.old name.now)) result (N.written note.old) (N.written note.new) }
-    ensures note_front_alone { IsTrue (N.tells note.old) → IsFrontNoted (LineFor name.now result) (N.written note.old) (N.written note.new) }
-    ensures some { result ≢ Status.Words }
+        IsFrontOfNote (LineFor (request_of command.now) (IsFirstFaulty (S.left shelf.old) (λ other. Rose (S.faults shelf.old other) (S.faults shelf.new other)) (request_of command.now)) result)
+        (Becomes (S.left shelf.old) (request_of command.now)) result (N.written note.old) (N.written note.new) }
+    ensures note_front_alone { IsTrue (N.tells note.old) →
+        IsFrontNoted (LineFor (request_of command.now) (IsFaulty (λ other. Rose (S.faults shelf.old other) (S.faults shelf.new other)) (request_of command.now)) result)
+        (N.written note.old) (N.written note.new) }
 {
-    match answer_of(alloc, name, shelf) {
+    match answer_to(alloc, command, shelf) {
         Ok(answer) => deliver(&answer, out, note),
         Err(NoMemory) => {
             tell(note, "memory\n");
@@ -91,24 +99,13 @@ fn translate<S: Shelf, O: Sink, N: Sink>(
     }
 }
 
-/// The name of the document that the words ask to translate.
-fn asked(alloc: Global, words: &[String]) -> Result<Text, WordsFault>
-    ensures ok { IfOk result (λ name. Asks (map string_bytes words.now) Fss (encode_utf8_all name)) }
-    ensures none { IsErrOf result WordsFault.Words → HasNoCommand (map string_bytes words.now) }
-    ensures refused { HasNoCommand (map string_bytes words.now) → IsErrOf result WordsFault.Words }
-{
-    match crate::command::words(alloc, words) {
-        Ok(command) => Ok(named(command)),
-        Err(fault) => Err(fault),
-    }
-}
-
 /// All that the program does for the words behind its name: it reads documents from the shelf, and writes its text to
 /// `out` and one line to `note`.
 ///
-/// The line of a status is `translated; axioms A; absorbed 0` for `Done`, `words` for `Words`, `NAME: NotBuilt` for
-/// `Document`, `limit: DocumentBytes: NAME` or `limit: OutputBytes: output` for `Limit`, `read: NAME` for `ReadFailed`,
-/// `write` for `WriteFailed` and `memory` for `Memory`. A fault of `note` changes no status.
+/// The line of a status is `translated; axioms A; absorbed 0`, `shown` or `same` for `Done`, `different` for `No`, `words`
+/// for `Words`, `NAME: item at ITEM: REASON at AT` or `NAME: NotBuilt` for `Document`, `limit: COUNT: NAME` or
+/// `limit: OutputBytes: output` for `Limit`, `read: NAME` for `ReadFailed`, `write` for `WriteFailed` and `memory` for
+/// `Memory`. A fault of `note` changes no status.
 pub fn run<S: Shelf, O: Sink, N: Sink>(
     alloc: Global,
     words: &[String],
@@ -119,50 +116,54 @@ pub fn run<S: Shelf, O: Sink, N: Sink>(
     // The status is the outcome's.
     ensures words { (result ≡ Status.Words) ↔ HasNoCommand (map string_bytes words.now) }
     ensures outcome { IsTrue (S.tells shelf.old) → IsSettled result →
-        (outcome : Outcome) × IsOutcome (map string_bytes words.now) (S.left shelf.old) outcome × (result ≡ outcome.status) }
+        (outcome : Outcome) × IsTheOutcome (IsOutcome (map string_bytes words.now) (S.left shelf.old)) outcome × (result ≡ outcome.status) }
 
-    // Success writes the text, and reads the document to its end.
-    ensures written { IsTrue (S.tells shelf.old) → IsTrue (O.tells out.old) → result ≡ Status.Done →
-        IsWritten (map string_bytes words.now) (S.left shelf.old) (O.written out.old) (O.written out.new) }
-    ensures ended { IsTrue (S.tells shelf.old) → result ≡ Status.Done →
-        (name : List ℕ) × Asks (map string_bytes words.now) Fss name × (S.left shelf.new name ≡ Some []) }
-    ensures others { IsTrue (S.tells shelf.old) → (name : List ℕ) → (Asks (map string_bytes words.now) Fss name → ⊥) →
+    // Success writes the text, and reads the documents to their ends.
+    ensures written { IsTrue (S.tells shelf.old) → IsTrue (O.tells out.old) → IsSuccess result →
+        IsWritten (map string_bytes words.now) (S.left shelf.old) result (O.written out.old) (O.written out.new) }
+    ensures ended { IsTrue (S.tells shelf.old) → IsSuccess result → (name : List ℕ) → Name (map string_bytes words.now) name →
+        S.left shelf.new name ≡ Some [] }
+    ensures others { IsTrue (S.tells shelf.old) → (name : List ℕ) → (Name (map string_bytes words.now) name → ⊥) →
         S.left shelf.new name ≡ S.left shelf.old name }
-    ensures taken { IsTrue (S.tells shelf.old) → (name : List ℕ) → Asks (map string_bytes words.now) Fss name →
+    ensures taken { IsTrue (S.tells shelf.old) → (name : List ℕ) → Name (map string_bytes words.now) name →
         IsFrontTaken (S.left shelf.old name) (S.left shelf.new name) }
 
     // A refusal writes nothing, and a failed write a front of the text.
     ensures untouched { IsTrue (O.tells out.old) → IsQuiet result → O.written out.new ≡ O.written out.old }
     ensures front { IsTrue (S.tells shelf.old) → IsTrue (O.tells out.old) → result ≡ Status.WriteFailed →
-        (outcome : Outcome) × IsOutcome (map string_bytes words.now) (S.left shelf.old) outcome × (outcome.status ≡ Status.Done)
-        × (n : ℕ) × (O.written out.new ≡ O.written out.old ++ take n outcome.text) }
+        IsFrontWritten (IsOutcome (map string_bytes words.now) (S.left shelf.old)) (O.written out.old) (O.written out.new) }
 
-    // A fault has its cause.
+    // A fault has its cause. Each document before the one that could not be read is read.
     ensures read_fault { result ≡ Status.ReadFailed →
-        (name : List ℕ) × Asks (map string_bytes words.now) Fss name × Rose (S.faults shelf.old name) (S.faults shelf.new name) }
+        (name : List ℕ) × Name (map string_bytes words.now) name × Rose (S.faults shelf.old name) (S.faults shelf.new name) }
+    ensures in_order { IsTrue (S.tells shelf.old) → result ≡ Status.ReadFailed →
+        (request : Request) × (name : List ℕ) × Asks (map string_bytes words.now) request
+        × IsFirstFaulty (S.left shelf.old) (λ other. Rose (S.faults shelf.old other) (S.faults shelf.new other)) request name }
     ensures write_fault { result ≡ Status.WriteFailed → Rose (O.faults out.old) (O.faults out.new) }
 
     // The note is one line.
     ensures note { IsTrue (S.tells shelf.old) → IsTrue (N.tells note.old) → (Rose (N.faults note.old) (N.faults note.new) → ⊥) →
-        IsNoted (IsLine (map string_bytes words.now) result) (IsOutcome (map string_bytes words.now) (S.left shelf.old)) result
-        (N.written note.old) (N.written note.new) }
+        IsNoted (IsLine (map string_bytes words.now) (IsFirstFaulty (S.left shelf.old) (λ other. Rose (S.faults shelf.old other) (S.faults shelf.new other))) result)
+        (IsOutcome (map string_bytes words.now) (S.left shelf.old)) result (N.written note.old) (N.written note.new) }
     ensures note_alone { IsTrue (N.tells note.old) → (Rose (N.faults note.old) (N.faults note.new) → ⊥) →
-        (line : List ℕ) × IsLine (map string_bytes words.now) result line × (N.written note.new ≡ N.written note.old ++ line) }
-    ensures note_front { IsTrue (S.tells shelf.old) → IsTrue (N.tells note.old) →
-        IsFrontOfNote (IsLine (map string_bytes words.now) result) (IsOutcome (map string_bytes words.now) (S.left shelf.old)) result
+        IsNotedAlone (IsLine (map string_bytes words.now) (IsFaulty (λ other. Rose (S.faults shelf.old other) (S.faults shelf.new other))) result)
         (N.written note.old) (N.written note.new) }
+    ensures note_front { IsTrue (S.tells shelf.old) → IsTrue (N.tells note.old) →
+        IsFrontOfNote (IsLine (map string_bytes words.now) (IsFirstFaulty (S.left shelf.old) (λ other. Rose (S.faults shelf.old other) (S.faults shelf.new other))) result)
+        (IsOutcome (map string_bytes words.now) (S.left shelf.old)) result (N.written note.old) (N.written note.new) }
     ensures note_front_alone { IsTrue (N.tells note.old) →
-        IsFrontNoted (IsLine (map string_bytes words.now) result) (N.written note.old) (N.written note.new) }
+        IsFrontNoted (IsLine (map string_bytes words.now) (IsFaulty (λ other. Rose (S.faults shelf.old other) (S.faults shelf.new other))) result)
+        (N.written note.old) (N.written note.new) }
 
     // Where no device fails, all that is left beside the outcome is want of memory.
     ensures completes { IsTrue (S.tells shelf.old) →
-        ((name : List ℕ) → Asks (map string_bytes words.now) Fss name → Rose (S.faults shelf.old name) (S.faults shelf.new name) → ⊥) →
+        ((name : List ℕ) → Name (map string_bytes words.now) name → Rose (S.faults shelf.old name) (S.faults shelf.new name) → ⊥) →
         (Rose (O.faults out.old) (O.faults out.new) → ⊥) →
         (outcome : Outcome) → IsOutcome (map string_bytes words.now) (S.left shelf.old) outcome →
-        (result ≡ outcome.status) ⊎ (result ≡ Status.Memory) }
+        ((told : Outcome) × AreOneOutcome told outcome × (result ≡ told.status)) ⊎ (result ≡ Status.Memory) }
 {
-    match asked(alloc, words) {
-        Ok(name) => translate(alloc, name.as_str(), shelf, out, note),
+    match crate::command::words(alloc, words) {
+        Ok(command) => obey(alloc, &command, shelf, out, note),
         Err(WordsFault::Words) => {
             tell(note, "words\n");
             Status::Words

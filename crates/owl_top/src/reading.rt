@@ -1,12 +1,14 @@
 //! Reads the bytes of one document.
 
-ghost use Rattle.std.specs.Prelude.{◌≡◌, ◌^◌, ◌≤◌, length, None, IfOk, IfErr, IsErrOf};
-ghost use Rattle.first_read.specs.Reading.{Starts};
-ghost use Rattle.first_read.specs.Document.{Document};
-ghost use Rattle.first_read.specs.Grammar.{Reads};
-ghost use Rattle.first_read.specs.declared.fault.ReadFault.TheVariants.{Memory};
+ghost use Rattle.std.specs.Prelude.{◌≡◌, ◌≢◌, ◌+◌, ◌^◌, ◌≤◌, length, None, IfOk, IfErr, OnOk};
+ghost use Rattle.owl_doc.specs.Documents.{ontology_of};
+ghost use Rattle.fss_read.specs.Reading.{Leads, Refuses, Starts};
+ghost use Rattle.fss_read.specs.declared.fault.ReadFault.TheVariants.{Memory};
+ghost use Rattle.owl_top.specs.Outcome.{IsNoDocument};
+ghost use Rattle.owl_top.specs.Answers.{IsOnlyReading};
 
-use first_read::{FirstDoc, ReadFault, Reader};
+use fss_read::{ReadFault, Reader};
+use owl_doc::Doc;
 use owl_text::NoMemory;
 use std::alloc::Global;
 
@@ -25,19 +27,32 @@ fn start(alloc: Global) -> Result<Reader, ReadFault>
     }
 }
 
-/// The document that the bytes are. `NotBuilt` comes exactly where they are none, and `Memory` where memory runs out.
-pub fn read_document(alloc: Global, bytes: &[u8]) -> Result<FirstDoc, ReadFault>
-    requires { length bytes.now ≤ 2 ^ 27 }
-    ensures ok { IfOk result (Reads bytes.now) }
-    ensures not_built { IsErrOf result ReadFault.NotBuilt → (document : Document) → Reads bytes.now document → ⊥ }
-    ensures within { IsErrOf result ReadFault.TooLong → ⊥ }
+/// Feeds a reader with all the bytes, piece by piece.
+fn feed_all(reader: &mut Reader, bytes: &[u8]) -> Result<(), ReadFault>
+    requires open_yet { reader.old.refused ≡ None }
+    requires within { reader.old.fed + length bytes.now ≤ 2 ^ 27 }
+    ensures leads { OnOk result (Leads reader.old bytes.now reader.new) }
+    ensures open_yet { OnOk result (reader.new.refused ≡ None) }
+    ensures refusal { IfErr result (λ fault. fault ≢ ReadFault.Memory → Refuses reader.old bytes.now) }
+    ensures short { IfErr result (λ fault. fault ≢ ReadFault.TooLong) }
 {
-    let mut reader = start(alloc)?;
     let mut rest = bytes;
     while !rest.is_empty() {
         let (piece, behind) = rest.split_at(rest.len().min(PIECE));
         reader.feed(piece)?;
         rest = behind;
     }
+    Ok(())
+}
+
+/// The document that the bytes are. A refusal other than `Memory` comes exactly where they are none.
+pub fn read_document(alloc: Global, bytes: &[u8]) -> Result<Doc, ReadFault>
+    requires { length bytes.now ≤ 2 ^ 27 }
+    ensures ok { IfOk result (λ doc. IsOnlyReading bytes.now doc.prefixes (ontology_of doc)) }
+    ensures none { IfErr result (λ fault. fault ≢ ReadFault.Memory → IsNoDocument bytes.now) }
+    ensures short { IfErr result (λ fault. fault ≢ ReadFault.TooLong) }
+{
+    let mut reader = start(alloc)?;
+    feed_all(&mut reader, bytes)?;
     reader.finish()
 }

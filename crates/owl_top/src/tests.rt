@@ -1,4 +1,6 @@
 use super::*;
+use fss_read::Reader;
+use fss_write::write;
 use owl_port::{MemShelf, MemSink};
 use owl_text::Text;
 use std::alloc::{AllocError, Global};
@@ -13,17 +15,20 @@ struct Room {
 }
 
 /// A shelf with this document under `m.ofn`, and sinks with room for some lines.
-fn room_with(alloc: Global, document: &str) -> Result<Room, Fail> {
+fn room_with(alloc: Global, document: &[u8]) -> Result<Room, Fail> {
     let mut shelf = MemShelf::new(alloc);
-    shelf.add(
-        Text::of(alloc, "m.ofn")?,
-        Vec::from_slice(alloc, document.as_bytes())?,
-    )?;
+    put(alloc, &mut shelf, "m.ofn", document)?;
     Ok(Room {
         shelf,
-        out: MemSink::new(alloc, 1000)?,
+        out: MemSink::new(alloc, 2000)?,
         note: MemSink::new(alloc, 1000)?,
     })
+}
+
+/// Puts a document on a shelf.
+fn put(alloc: Global, shelf: &mut MemShelf, name: &str, document: &[u8]) -> Result<(), Fail> {
+    shelf.add(Text::of(alloc, name)?, Vec::from_slice(alloc, document)?)?;
+    Ok(())
 }
 
 /// The words of a command line.
@@ -35,9 +40,9 @@ fn split(alloc: Global, line: &str) -> Result<Vec<String>, AllocError> {
     Ok(words)
 }
 
-/// Runs `translate --to fss m.ofn`.
-fn translate(alloc: Global, room: &mut Room) -> Result<Status, AllocError> {
-    let words = split(alloc, "translate --to fss m.ofn")?;
+/// Runs the program for the words of this line.
+fn run_line(alloc: Global, line: &str, room: &mut Room) -> Result<Status, AllocError> {
+    let words = split(alloc, line)?;
     Ok(run(
         alloc,
         &words,
@@ -47,57 +52,389 @@ fn translate(alloc: Global, room: &mut Room) -> Result<Status, AllocError> {
     ))
 }
 
-const NESTED: &str =
-    "Ontology(<http://e/o> SubClassOf(<http://e/A><http://e/B>) Declaration(Class(<http://e/A>)))";
+/// What a run has to answer, write and note.
+struct Wanted<'a> {
+    status: Status,
+    text: &'a str,
+    line: &'a str,
+}
 
-const NESTED_TEXT: &str =
-    "Ontology(<http://e/o>\nDeclaration(Class(<http://e/A>))\nSubClassOf(<http://e/A> <http://e/B>)\n)\n";
+/// Looks at what a run answered, wrote and noted.
+fn look(rt: HostRuntime, room: &Room, status: Status, wanted: &Wanted<'_>, row: &str) {
+    assert_eq!(rt; status, wanted.status, "{row}");
+    assert_eq!(rt; room.out.bytes(), wanted.text.as_bytes(), "{row}");
+    assert_eq!(rt; room.note.bytes(), wanted.line.as_bytes(), "{row}");
+}
+
+/// Runs a line over the document `m.ofn`.
+fn check(rt: HostRuntime, line: &str, document: &[u8], wanted: &Wanted<'_>) -> Result<(), Fail> {
+    let mut room = room_with(rt.alloc(), document)?;
+    let status = run_line(rt.alloc(), line, &mut room)?;
+    look(rt, &room, status, wanted, line);
+    Ok(())
+}
+
+/// Runs `same m.ofn k.ofn` over two documents.
+fn compare(
+    rt: HostRuntime,
+    first: &str,
+    second: &str,
+    wanted: &Wanted<'_>,
+) -> Result<(), Fail> {
+    let mut room = room_with(rt.alloc(), first.as_bytes())?;
+    put(rt.alloc(), &mut room.shelf, "k.ofn", second.as_bytes())?;
+    let status = run_line(rt.alloc(), "same m.ofn k.ofn", &mut room)?;
+    look(rt, &room, status, wanted, second);
+    Ok(())
+}
+
+/// The lines of the four prefixes that are always written.
+const FOUR: &str = "Prefix(owl:=<http://www.w3.org/2002/07/owl#>)\nPrefix(rdf:=<http://www.w3.org/1999/02/22-rdf-syntax-ns#>)\nPrefix(rdfs:=<http://www.w3.org/2000/01/rdf-schema#>)\nPrefix(xsd:=<http://www.w3.org/2001/XMLSchema#>)\n";
+
+/// A document with a prefix, an IRI and these axioms.
+fn about(alloc: Global, axioms: &str) -> Result<String, AllocError> {
+    format!(in alloc; "Prefix(:=<http://e/>) Ontology(<http://e/o> {axioms})")
+}
+
+/// The text of a document with a prefix, an IRI and these lines.
+fn text_about(alloc: Global, lines: &str) -> Result<String, AllocError> {
+    format!(in alloc; "Prefix(:=<http://e/>)\n{FOUR}Ontology(<http://e/o>\n{lines})\n")
+}
+
+/// Translates a document without prefixes of its own.
+fn translates(rt: HostRuntime, document: &str, lines: &str, axioms: u64) -> Result<(), Fail> {
+    let text = format!(in rt.alloc(); "{FOUR}{lines}")?;
+    let line = format!(in rt.alloc(); "translated; axioms {axioms}; absorbed 0\n")?;
+    let wanted = Wanted {
+        status: Status::Done,
+        text: text.as_str(),
+        line: line.as_str(),
+    };
+    check(
+        rt,
+        "translate --to fss m.ofn",
+        document.as_bytes(),
+        &wanted,
+    )
+}
 
 #[test]
-fn translates_documents_in_pieces(rt: HostRuntime) -> Result<(), Fail> {
-    let rows = [
+fn translates_documents(rt: HostRuntime) -> Result<(), Fail> {
+    for (document, lines, axioms) in [
+        ("Ontology()", "Ontology(\n)\n", 0),
         (
-            NESTED,
-            Status::Done,
-            NESTED_TEXT,
-            "translated; axioms 2; absorbed 0\n",
-        ),
-        (
-            "Ontology()",
-            Status::Done,
-            "Ontology(\n)\n",
-            "translated; axioms 0; absorbed 0\n",
+            "Ontology(<http://e/o> SubClassOf(<http://e/A><http://e/B>) Declaration(Class(<http://e/A>)))",
+            "Ontology(<http://e/o>\nDeclaration(Class(<http://e/A>))\nSubClassOf(<http://e/A> <http://e/B>)\n)\n",
+            2,
         ),
         (
             "Ontology(Declaration(Class(<http://e/A>))Declaration(Class(<http://e/A>)))",
-            Status::Done,
             "Ontology(\nDeclaration(Class(<http://e/A>))\n)\n",
-            "translated; axioms 1; absorbed 0\n",
+            1,
         ),
         (
-            "Ontology(SubClassOf(A B))",
-            Status::Document,
-            "",
-            "m.ofn: NotBuilt\n",
+            "Ontology(<http://e/o> <http://e/v> Annotation(rdfs:label \"é\"^^xsd:string)) # end",
+            "Ontology(<http://e/o> <http://e/v>\nAnnotation(rdfs:label \"é\")\n)\n",
+            0,
         ),
-        ("Ontology() )", Status::Document, "", "m.ofn: NotBuilt\n"),
-        ("", Status::Document, "", "m.ofn: NotBuilt\n"),
-    ];
-    for (document, status, text, line) in rows {
-        for most in [1usize, 2, 3, 7, 1000] {
-            assert!(rt; most > 0);
-            let mut room = room_with(rt.alloc(), document)?;
-            room.shelf.piece(most);
-            assert_eq!(rt;
-                translate(rt.alloc(), &mut room)?,
-                status,
-                "{document} in pieces of {most}"
-            );
-            assert_eq!(rt; room.out.bytes(), text.as_bytes(), "{document}");
-            assert_eq!(rt; room.note.bytes(), line.as_bytes(), "{document}");
-        }
+        (
+            "Ontology(SubClassOf(ObjectUnionOf(<http://e/A> <http://e/A> <http://e/A>) <http://e/B>))",
+            "Ontology(\nSubClassOf(ObjectUnionOf(<http://e/A> <http://e/A>) <http://e/B>)\n)\n",
+            1,
+        ),
+    ] {
+        translates(rt, document, lines, axioms)?;
     }
     Ok(())
+}
+
+/// Translates a document of one axiom, which is written as it is given, and compares the text with the document.
+fn keeps(rt: HostRuntime, axiom: &str) -> Result<(), Fail> {
+    let document = about(rt.alloc(), axiom)?;
+    let lines = format!(in rt.alloc(); "{axiom}\n")?;
+    let text = text_about(rt.alloc(), lines.as_str())?;
+    let translated = Wanted {
+        status: Status::Done,
+        text: text.as_str(),
+        line: "translated; axioms 1; absorbed 0\n",
+    };
+    let same = Wanted {
+        status: Status::Done,
+        text: "same\n",
+        line: "same\n",
+    };
+    check(
+        rt,
+        "translate --to fss m.ofn",
+        document.as_bytes(),
+        &translated,
+    )?;
+    compare(rt, document.as_str(), text.as_str(), &same)
+}
+
+#[test]
+fn keeps_each_kind_of_axiom(rt: HostRuntime) -> Result<(), Fail> {
+    for axiom in [
+        "Declaration(Class(:A))",
+        "Declaration(Annotation(rdfs:comment \"a\") NamedIndividual(:i))",
+        "SubClassOf(:A :B)",
+        "SubClassOf(Annotation(Annotation(rdfs:comment \"in\") rdfs:label \"out\") :A :B)",
+        "EquivalentClasses(:A :B)",
+        "DisjointClasses(:A :B)",
+        "DisjointUnion(:A :B :C)",
+        "SubObjectPropertyOf(:p :q)",
+        "SubObjectPropertyOf(ObjectPropertyChain(:p :q) :r)",
+        "EquivalentObjectProperties(:p :q)",
+        "DisjointObjectProperties(:p :q)",
+        "InverseObjectProperties(:p :q)",
+        "ObjectPropertyDomain(:p :A)",
+        "ObjectPropertyRange(:p :A)",
+        "FunctionalObjectProperty(:p)",
+        "InverseFunctionalObjectProperty(:p)",
+        "ReflexiveObjectProperty(:p)",
+        "IrreflexiveObjectProperty(:p)",
+        "SymmetricObjectProperty(:p)",
+        "AsymmetricObjectProperty(:p)",
+        "TransitiveObjectProperty(:p)",
+        "SubDataPropertyOf(:d :e)",
+        "EquivalentDataProperties(:d :e)",
+        "DisjointDataProperties(:d :e)",
+        "DataPropertyDomain(:d :A)",
+        "DataPropertyRange(:d xsd:integer)",
+        "FunctionalDataProperty(:d)",
+        "DatatypeDefinition(:t xsd:integer)",
+        "HasKey(:A (:p) (:d))",
+        "HasKey(:A () (:d))",
+        "SameIndividual(:i :j)",
+        "DifferentIndividuals(:i :j)",
+        "ClassAssertion(:A :i)",
+        "ObjectPropertyAssertion(:p :i :j)",
+        "NegativeObjectPropertyAssertion(:p :i _:j)",
+        "DataPropertyAssertion(:d :i \"1\"^^xsd:integer)",
+        "NegativeDataPropertyAssertion(:d :i \"x\")",
+        "AnnotationAssertion(rdfs:comment :A \"x\"@en)",
+        "SubAnnotationPropertyOf(:f :g)",
+        "AnnotationPropertyDomain(:f :A)",
+        "AnnotationPropertyRange(:f :A)",
+    ] {
+        keeps(rt, axiom)?;
+    }
+    Ok(())
+}
+
+#[test]
+fn keeps_each_kind_of_expression(rt: HostRuntime) -> Result<(), Fail> {
+    for class in [
+        "ObjectIntersectionOf(:A :B)",
+        "ObjectUnionOf(:A :B)",
+        "ObjectComplementOf(:A)",
+        "ObjectOneOf(:i _:j)",
+        "ObjectSomeValuesFrom(:p :A)",
+        "ObjectAllValuesFrom(ObjectInverseOf(:p) :A)",
+        "ObjectHasValue(:p _:i)",
+        "ObjectHasSelf(:p)",
+        "ObjectMinCardinality(18446744073709551615 :p)",
+        "ObjectMaxCardinality(2 :p :A)",
+        "ObjectExactCardinality(3 :p)",
+        "DataSomeValuesFrom(:d xsd:string)",
+        "DataAllValuesFrom(:d :e xsd:string)",
+        "DataHasValue(:d \"x\")",
+        "DataMinCardinality(1 :d)",
+        "DataMaxCardinality(2 :d xsd:string)",
+        "DataExactCardinality(3 :d)",
+        "DataSomeValuesFrom(:d DataIntersectionOf(:t xsd:string))",
+        "DataSomeValuesFrom(:d DataUnionOf(:t xsd:string))",
+        "DataSomeValuesFrom(:d DataComplementOf(:t))",
+        "DataSomeValuesFrom(:d DataOneOf(\"a\" \"b\"))",
+        "DataSomeValuesFrom(:d DatatypeRestriction(xsd:integer xsd:minInclusive \"1\"^^xsd:integer))",
+    ] {
+        let axiom = format!(in rt.alloc(); "SubClassOf({class} :B)")?;
+        keeps(rt, axiom.as_str())?;
+    }
+    Ok(())
+}
+
+/// Refuses to translate a document.
+fn refuses(rt: HostRuntime, document: &[u8], status: Status, line: &str) -> Result<(), Fail> {
+    check(
+        rt,
+        "translate --to fss m.ofn",
+        document,
+        &Wanted {
+            status,
+            text: "",
+            line,
+        },
+    )
+}
+
+#[test]
+fn tells_what_is_wrong(rt: HostRuntime) -> Result<(), Fail> {
+    for (document, line) in [
+        (b"".as_slice(), "m.ofn: item at 0: NotHere at 0\n"),
+        (
+            b"Ontology(SubClassOf(A B))".as_slice(),
+            "m.ofn: item at 9: NotHere at 20\n",
+        ),
+        (
+            b"Prefix(:=<http://e/>) Ontology(<http://e/o> Declaration(Class(:A)) SubClassOf(:A))"
+                .as_slice(),
+            "m.ofn: item at 67: NotHere at 80\n",
+        ),
+        (
+            b"Ontology(Declaration(Class(x:A)))".as_slice(),
+            "m.ofn: item at 9: UnknownPrefix at 27\n",
+        ),
+        (
+            b"Ontology(<http://e/o>) x".as_slice(),
+            "m.ofn: item at 23: NotHere at 23\n",
+        ),
+        (b"Ontology(".as_slice(), "m.ofn: item at 9: NotHere at 9\n"),
+        (
+            b"Ontology(Annotation(rdfs:label \"x".as_slice(),
+            "m.ofn: item at 9: BadToken at 31\n",
+        ),
+        (
+            b"Ontology(\xFF)".as_slice(),
+            "m.ofn: item at 9: BadUtf8 at 9\n",
+        ),
+        (
+            b"Prefix(a:=<http://e/>)Prefix(a:=<http://e/>)Ontology()".as_slice(),
+            "m.ofn: item at 22: PrefixTwice at 29\n",
+        ),
+        (
+            b"Prefix(owl:=<http://e/>)Ontology()".as_slice(),
+            "m.ofn: item at 0: PrefixFixed at 12\n",
+        ),
+        (
+            b"Ontology(Annotation(rdfs:label \"x\"^^rdf:langString))".as_slice(),
+            "m.ofn: item at 9: BadLiteral at 36\n",
+        ),
+        (
+            b"Ontology(HasKey(<http://e/A> () ()))".as_slice(),
+            "m.ofn: item at 9: EmptyKey at 34\n",
+        ),
+        (
+            b"Ontology(<http://e/o> Import(<http://x/i>))".as_slice(),
+            "m.ofn: NotBuilt\n",
+        ),
+    ] {
+        refuses(rt, document, Status::Document, line)?;
+    }
+    Ok(())
+}
+
+/// A class axiom with so many complements of complements.
+fn nested(alloc: Global, count: usize) -> Result<String, AllocError> {
+    let front = "ObjectComplementOf(".repeat(alloc, count)?;
+    let back = ")".repeat(alloc, count)?;
+    format!(in alloc; "SubClassOf({front}:A{back} :B)")
+}
+
+#[test]
+fn tells_which_limit_was_passed(rt: HostRuntime) -> Result<(), Fail> {
+    keeps(rt, nested(rt.alloc(), 126)?.as_str())?;
+    let deep = about(rt.alloc(), nested(rt.alloc(), 127)?.as_str())?;
+    let large = about(
+        rt.alloc(),
+        "SubClassOf(:A ObjectMinCardinality(18446744073709551616 :p))",
+    )?;
+    refuses(rt, deep.as_bytes(), Status::Limit, "limit: Depth: m.ofn\n")?;
+    refuses(
+        rt,
+        large.as_bytes(),
+        Status::Limit,
+        "limit: Cardinality: m.ofn\n",
+    )
+}
+
+#[test]
+fn shows_documents(rt: HostRuntime) -> Result<(), Fail> {
+    for (document, text) in [
+        (
+            "Ontology()",
+            "ontology none\nversion none\nimports 0\nannotations 0\naxioms 0\ndistinct 0\nweight 0\n",
+        ),
+        (
+            "Ontology(<http://e/o> <http://e/v>)",
+            "ontology <http://e/o>\nversion <http://e/v>\nimports 0\nannotations 0\naxioms 0\ndistinct 0\nweight 0\n",
+        ),
+        (
+            "Prefix(:=<http://e/>) Ontology(<http://e/o> Declaration(Class(:A)) Declaration(Class(:B)) SubClassOf(:A :B) SubClassOf(Annotation(rdfs:comment \"x\") :A :B))",
+            "ontology <http://e/o>\nversion none\nimports 0\nannotations 0\naxioms 4\ndistinct 11\nweight 18\n",
+        ),
+    ] {
+        let wanted = Wanted {
+            status: Status::Done,
+            text,
+            line: "shown\n",
+        };
+        check(rt, "show m.ofn", document.as_bytes(), &wanted)?;
+    }
+    check(
+        rt,
+        "show m.ofn",
+        b"Ontology(Import(<http://x/i>))".as_slice(),
+        &Wanted {
+            status: Status::Document,
+            text: "",
+            line: "m.ofn: NotBuilt\n",
+        },
+    )
+}
+
+#[test]
+fn compares_documents(rt: HostRuntime) -> Result<(), Fail> {
+    let first = "Prefix(a:=<http://e/>) Ontology(<http://e/o> Import(<http://x/i>) SubClassOf(a:A a:B) EquivalentClasses(a:B a:A))";
+    for second in [
+        "Ontology(<http://e/o> Import(<http://x/i>) EquivalentClasses(<http://e/A> <http://e/B> <http://e/A>) SubClassOf(<http://e/A> <http://e/B>))",
+        "Prefix(b:=<http://e/>) Ontology(<http://e/o> Import(<http://x/i>) SubClassOf(b:A b:B) SubClassOf(b:A b:B) EquivalentClasses(b:A b:B))",
+    ] {
+        let same = Wanted {
+            status: Status::Done,
+            text: "same\n",
+            line: "same\n",
+        };
+        compare(rt, first, second, &same)?;
+    }
+    for second in [
+        "Ontology()",
+        "Prefix(a:=<http://e/>) Ontology(<http://e/p> Import(<http://x/i>) SubClassOf(a:A a:B) EquivalentClasses(a:B a:A))",
+        "Prefix(a:=<http://e/>) Ontology(<http://e/o> SubClassOf(a:A a:B) EquivalentClasses(a:B a:A))",
+        "Prefix(a:=<http://e/>) Ontology(<http://e/o> Import(<http://x/i>) SubClassOf(a:B a:A) EquivalentClasses(a:B a:A))",
+    ] {
+        let different = Wanted {
+            status: Status::No,
+            text: "different\n",
+            line: "different\n",
+        };
+        compare(rt, first, second, &different)?;
+    }
+    Ok(())
+}
+
+#[test]
+fn looks_at_the_first_document_first(rt: HostRuntime) -> Result<(), Fail> {
+    check(
+        rt,
+        "same m.ofn k.ofn",
+        b"Ontology(".as_slice(),
+        &Wanted {
+            status: Status::Document,
+            text: "",
+            line: "m.ofn: item at 9: NotHere at 9\n",
+        },
+    )?;
+    check(
+        rt,
+        "same m.ofn k.ofn",
+        b"Ontology()".as_slice(),
+        &Wanted {
+            status: Status::ReadFailed,
+            text: "",
+            line: "read: k.ofn\n",
+        },
+    )
 }
 
 #[test]
@@ -112,34 +449,48 @@ fn refuses_other_words(rt: HostRuntime) -> Result<(), Fail> {
         "translate --to fss -m.ofn",
         "translate --to fss m.ofn m.ofn",
         "--to fss translate m.ofn",
+        "show",
+        "show m.owl",
+        "show m.ofn k.ofn",
+        "same m.ofn",
+        "same m.ofn m.ofn",
+        "same m.ofn k.ofn l.ofn",
+        "same m.ofn -k.ofn",
     ] {
-        let mut room = room_with(rt.alloc(), NESTED)?;
-        let words = split(rt.alloc(), line)?;
-        let status = run(
-            rt.alloc(),
-            &words,
-            &mut room.shelf,
-            &mut room.out,
-            &mut room.note,
-        );
-        assert_eq!(rt; status, Status::Words, "{line}");
-        assert_eq!(rt; room.out.bytes(), b"".as_slice(), "{line}");
-        assert_eq!(rt; room.note.bytes(), b"words\n".as_slice(), "{line}");
+        let wanted = Wanted {
+            status: Status::Words,
+            text: "",
+            line: "words\n",
+        };
+        check(rt, line, b"Ontology()".as_slice(), &wanted)?;
     }
     Ok(())
 }
 
+/// The name that the words of a line have, or the second of two.
+fn last_name(alloc: Global, line: &str) -> Result<Text, WordsFault> {
+    let Ok(line) = split(alloc, line) else {
+        return Err(WordsFault::Memory);
+    };
+    match words(alloc, &line)? {
+        Command::Translate {
+            target: Target::Fss,
+            mut names,
+        } => names.pop().ok_or(WordsFault::Words),
+        Command::Show { mut names } => names.pop().ok_or(WordsFault::Words),
+        Command::Same { first: _, second } => Ok(second),
+    }
+}
+
 #[test]
 fn reads_words(rt: HostRuntime) -> Result<(), Fail> {
-    let line = split(rt.alloc(), "translate --to fss classes.v2.ofn")?;
-    let Command::Translate { target, names } = words(rt.alloc(), &line)?;
-    assert_eq!(rt; target, Target::Fss);
-    assert_eq!(rt;
-        names.as_slice(),
-        [Text::of(rt.alloc(), "classes.v2.ofn")?].as_slice()
-    );
-    let other = words(rt.alloc(), &split(rt.alloc(), "translate classes.v2.ofn")?).err();
-    assert_eq!(rt; other, Some(WordsFault::Words));
+    for line in [
+        "translate --to fss a.v2.ofn",
+        "show a.v2.ofn",
+        "same b.ofn a.v2.ofn",
+    ] {
+        assert_eq!(rt; last_name(rt.alloc(), line), Ok(Text::of(rt.alloc(), "a.v2.ofn")?), "{line}");
+    }
     for (fault, want) in [
         (WordsFault::Words, "words"),
         (WordsFault::Memory, "out of memory"),
@@ -152,46 +503,71 @@ fn reads_words(rt: HostRuntime) -> Result<(), Fail> {
 
 #[test]
 fn tells_that_a_read_failed(rt: HostRuntime) -> Result<(), Fail> {
-    let mut room = room_with(rt.alloc(), "Ontology()")?;
+    let wanted = Wanted {
+        status: Status::ReadFailed,
+        text: "",
+        line: "read: m.ofn\n",
+    };
+    let mut room = room_with(rt.alloc(), b"Ontology()".as_slice())?;
     room.shelf.piece(8);
     room.shelf.fail_at(2);
-    assert_eq!(rt; translate(rt.alloc(), &mut room)?, Status::ReadFailed);
-    assert_eq!(rt; room.out.bytes(), b"".as_slice());
-    assert_eq!(rt; room.note.bytes(), b"read: m.ofn\n".as_slice());
+    let status = run_line(rt.alloc(), "translate --to fss m.ofn", &mut room)?;
+    look(rt, &room, status, &wanted, "the second read");
 
-    let mut lacking = room_with(rt.alloc(), "Ontology()")?;
+    let mut lacking = room_with(rt.alloc(), b"Ontology()".as_slice())?;
     lacking.shelf = MemShelf::new(rt.alloc());
-    assert_eq!(rt; translate(rt.alloc(), &mut lacking)?, Status::ReadFailed);
-    assert_eq!(rt; lacking.note.bytes(), b"read: m.ofn\n".as_slice());
+    let status = run_line(rt.alloc(), "show m.ofn", &mut lacking)?;
+    look(rt, &lacking, status, &wanted, "no such name");
     Ok(())
 }
 
 #[test]
 fn tells_that_a_write_failed(rt: HostRuntime) -> Result<(), Fail> {
-    let text = NESTED_TEXT.as_bytes();
-    for put in 1usize..11 {
-        let mut room = room_with(rt.alloc(), NESTED)?;
-        room.out.piece(10);
-        room.out.fail_at(put as u64);
-        let front = text.get(..10 * (put - 1));
-        assert_eq!(rt;
-            translate(rt.alloc(), &mut room)?,
-            Status::WriteFailed,
-            "put {put}"
-        );
-        assert_eq!(rt; Some(room.out.bytes()), front, "put {put}");
-        assert_eq!(rt; room.note.bytes(), b"write\n".as_slice(), "put {put}");
-    }
+    let wanted = Wanted {
+        status: Status::WriteFailed,
+        text: "Prefix(owl:=<http://",
+        line: "write\n",
+    };
+    let mut room = room_with(rt.alloc(), b"Ontology()".as_slice())?;
+    room.out.piece(10);
+    room.out.fail_at(3);
+    let status = run_line(rt.alloc(), "translate --to fss m.ofn", &mut room)?;
+    look(rt, &room, status, &wanted, "the third write");
     Ok(())
 }
 
 #[test]
 fn answers_the_same_where_the_note_fails(rt: HostRuntime) -> Result<(), Fail> {
-    let mut room = room_with(rt.alloc(), NESTED)?;
+    let wanted = Wanted {
+        status: Status::Words,
+        text: "",
+        line: "",
+    };
+    let mut room = room_with(rt.alloc(), b"Ontology()".as_slice())?;
     room.note.fail_at(1);
-    assert_eq!(rt; translate(rt.alloc(), &mut room)?, Status::Done);
-    assert_eq!(rt; room.out.bytes(), NESTED_TEXT.as_bytes());
-    assert_eq!(rt; room.note.bytes(), b"".as_slice());
+    let status = run_line(rt.alloc(), "show", &mut room)?;
+    look(rt, &room, status, &wanted, "the note fails");
+    Ok(())
+}
+
+/// Reads a document in two pieces, and writes it.
+fn write_again(alloc: Global, front: &[u8], back: &[u8]) -> Result<Text, Fail> {
+    let mut reader = Reader::new(alloc)?;
+    reader.feed(front)?;
+    reader.feed(back)?;
+    let doc = reader.finish()?;
+    Ok(write(alloc, &doc)?)
+}
+
+#[test]
+fn reads_a_document_in_any_two_pieces(rt: HostRuntime) -> Result<(), Fail> {
+    let document = "Ontology(Annotation(rdfs:label \"é\"^^xsd:string))".as_bytes();
+    let text = format!(in rt.alloc(); "{FOUR}Ontology(\nAnnotation(rdfs:label \"é\")\n)\n")?;
+    for cut in 0..document.len() + 1 {
+        let (front, back) = document.split_at(cut);
+        let written = write_again(rt.alloc(), front, back)?;
+        assert_eq!(rt; written.as_str(), text.as_str(), "cut at {cut}");
+    }
     Ok(())
 }
 

@@ -1,5 +1,5 @@
 use Rattle.std.proofs.Common.{List, ℕ, ◌≡◌, ◌++◌, take, subst}
-use Rattle.owl_top.proofs.Joins.{front_of}
+use Rattle.owl_top.proofs.Delivering.{front_of}
 use Rattle.owl_top.proofs.program.tell.Goals as goal
 
 pub returns-clause-front : goal.returns-clause-front

@@ -1,9 +1,0 @@
-pub mod Keywords
-pub mod Parsing
-pub mod Documents
-pub mod Readings
-pub mod Unique
-pub mod First
-pub mod Longest
-pub mod Steps
-pub mod Advancing

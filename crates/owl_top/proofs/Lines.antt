@@ -1,0 +1,71 @@
+-- The lines of the note.
+use Rattle.std.proofs.Common.{◌≡◌, ◌⊎◌, inl, inr, ℕ, Bool, true, false, List, [], ◌∷◌, ◌++◌, length, nat_le, if◌then◌else◌, codes, refl, sym, ap, ◌∙◌, subst}
+use Rattle.owl_doc.specs.Functional.{longest}
+use Rattle.owl_top.specs.Commands.{IsAmong, Request, translates, shows, compares, names_of}
+use Rattle.owl_top.specs.Outcome.{IsRefusal, IsRefusalLine, IsSuccess, LineFor, Outcome, SuccessLine, has_defect, not_built, of_imports, of_length, of_no_memory, of_output, of_read_fault, of_reader, of_refusal, of_success, of_write_fault, refused, too_deep, too_heavy, too_large, too_long_output}
+use Rattle.owl_top.specs.Answers.{HasNoText, IsFound, IsProper, limited, settled, trouble_outcome}
+use Rattle.owl_top.specs.declared.trouble.Trouble.{Trouble}
+use Rattle.owl_top.specs.declared.trouble.Trouble.TheVariants as t
+use Rattle.owl_top.specs.declared.command.Target.TheVariants.{Fss}
+use Rattle.owl_top.specs.declared.status.Status.{Status}
+use Rattle.owl_top.specs.declared.status.Status.TheVariants.{Done, No, Words, Document as NoDocument, Target, Limit, ReadFailed, WriteFailed, Memory}
+
+-- a cause that tells more
+pub line_more : (request : Request) (IsCause IsMore : List ℕ → Type 0) (status : Status) (line : List ℕ) → ((name : List ℕ) → IsCause name → IsMore name) → LineFor request IsCause status line → LineFor request IsMore status line
+line_more request IsCause IsMore status line f (of_success s) = of_success s
+line_more request IsCause IsMore status line f (of_refusal name among r) = of_refusal name among r
+line_more request IsCause IsMore status line f (of_read_fault name h e l) = of_read_fault name (f name h) e l
+line_more request IsCause IsMore status line f (of_write_fault e l) = of_write_fault e l
+line_more request IsCause IsMore status line f (of_no_memory e l) = of_no_memory e l
+
+module _ (request : Request) (IsCause : List ℕ → Type 0) (name : List ℕ) (among : IsAmong (names_of request) name) where
+  limited_line : (wanted : Outcome) (fits : Bool) → SuccessLine request wanted.status wanted.line → let told : Outcome = if fits then wanted else too_long_output in LineFor request IsCause told.status told.line
+  limited_line wanted true s = of_success s
+  limited_line wanted false s = of_refusal name among (of_output refl refl)
+
+  pub settled_line : (wanted : Outcome) (imports : List (List ℕ)) → SuccessLine request wanted.status wanted.line → LineFor request IsCause (settled name imports wanted).status (settled name imports wanted).line
+  settled_line wanted [] s = limited_line wanted (nat_le (length wanted.text) longest) s
+  settled_line wanted (iri ∷ iris) s = of_refusal name among (of_imports refl refl)
+
+  pub trouble_line : (trouble : Trouble) → (trouble ≡ t.ReadFailed → IsCause name) → LineFor request IsCause (trouble_outcome name trouble).status (trouble_outcome name trouble).line
+  trouble_line t.ReadFailed f = of_read_fault name (f refl) refl refl
+  trouble_line t.TooLong f = of_refusal name among (of_length refl refl)
+  trouble_line (t.Defect item at reason) f = of_refusal name among (of_reader (trouble_outcome name (t.Defect item at reason)) (has_defect item at reason refl) refl refl)
+  trouble_line t.TooDeep f = of_refusal name among (of_reader (trouble_outcome name t.TooDeep) (too_deep refl) refl refl)
+  trouble_line t.TooHeavy f = of_refusal name among (of_reader (trouble_outcome name t.TooHeavy) (too_heavy refl) refl refl)
+  trouble_line t.NumberTooLarge f = of_refusal name among (of_reader (trouble_outcome name t.NumberTooLarge) (too_large refl) refl refl)
+  trouble_line t.Memory f = of_no_memory refl refl
+
+-- the line of a read fault names a document with its cause
+no_success : (request : Request) (line : List ℕ) → SuccessLine request ReadFailed line → ⊥
+no_success (translates Fss name) line s = s
+no_success (shows name) line s = s
+no_success (compares first second) line s = s
+
+no_refusal : (name : List ℕ) (outcome : Outcome) → IsRefusal name outcome → ReadFailed ≡ outcome.status → ⊥
+no_refusal name outcome (has_defect item at reason e) f = let g : ReadFailed ≡ NoDocument = f ∙ ap (λ (o : Outcome). o.status) e in cc
+no_refusal name outcome (too_deep e) f = let g : ReadFailed ≡ Limit = f ∙ ap (λ (o : Outcome). o.status) e in cc
+no_refusal name outcome (too_heavy e) f = let g : ReadFailed ≡ Limit = f ∙ ap (λ (o : Outcome). o.status) e in cc
+no_refusal name outcome (too_large e) f = let g : ReadFailed ≡ Limit = f ∙ ap (λ (o : Outcome). o.status) e in cc
+
+no_refusal_line : (name : List ℕ) (line : List ℕ) → IsRefusalLine name ReadFailed line → ⊥
+no_refusal_line name line (of_reader outcome r e l) = no_refusal name outcome r e
+no_refusal_line name line (of_length e l) = cc
+no_refusal_line name line (of_imports e l) = cc
+no_refusal_line name line (of_output e l) = cc
+
+pub fault_in : (request : Request) (IsCause : List ℕ → Type 0) (line : List ℕ) → LineFor request IsCause ReadFailed line → (name : List ℕ) × IsCause name
+fault_in request IsCause line (of_success s) = absurd (no_success request line s)
+fault_in request IsCause line (of_refusal name among r) = absurd (no_refusal_line name line r)
+fault_in request IsCause line (of_read_fault name h e l) = (name, h)
+fault_in request IsCause line (of_write_fault e l) = absurd (cc)
+fault_in request IsCause line (of_no_memory e l) = absurd (cc)
+
+-- what is answered is proper
+limited_proper : (wanted : Outcome) (fits : Bool) → IsProper wanted → IsProper (if fits then wanted else too_long_output)
+limited_proper wanted true h = h
+limited_proper wanted false h = record { found = tt; no_text = refl }
+
+pub settled_proper : (name : List ℕ) (wanted : Outcome) (imports : List (List ℕ)) → IsProper wanted → IsProper (settled name imports wanted)
+settled_proper name wanted [] h = limited_proper wanted (nat_le (length wanted.text) longest) h
+settled_proper name wanted (iri ∷ iris) h = record { found = tt; no_text = refl }

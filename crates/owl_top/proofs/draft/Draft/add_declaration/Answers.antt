@@ -1,8 +1,0 @@
-use Rattle.std.proofs.Common.{codes}
-use Rattle.owl_top.specs.Text.{bracketed}
-use Rattle.owl_top.proofs.Joins.{joined3}
-use Rattle.owl_top.proofs.draft.Draft.add_declaration.Goals as goal
-
-pub returns-clause-ok : goal.returns-clause-ok
-returns-clause-ok c =
-    joined3 c.args.self.now (codes "Declaration(Class(") (bracketed c.args.class.now) (codes "))\n") c.add.new.self c.add_iri.new.self c.add-2.new.self c.in_ok-add.ensures.ok c.in_ok-add_iri.ensures.ok c.in_ok-add-2.ensures.ok
