@@ -124,7 +124,7 @@ module _ (request : Request) (s : Shelves) (outcome : Outcome) (answered : IsAns
     told_line : (IsCause : List ℕ → Type 0) → LineFor request IsCause outcome.status outcome.line → LineFor request IsCause result (delivered_line outcome result)
     told_line IsCause line =
         elim how [
-          inl f ↦ subst (λ (l : List ℕ). LineFor request IsCause result l) (sym (line_is f)) (subst (λ (x : Status). LineFor request IsCause x outcome.line) (sym f) line)
+          | inl f ↦ subst (λ (l : List ℕ). LineFor request IsCause result l) (sym (line_is f)) (subst (λ (x : Status). LineFor request IsCause x outcome.line) (sym f) line)
           | inr f ↦ of_write_fault f (ap (delivered_line outcome) f)
         ]
 

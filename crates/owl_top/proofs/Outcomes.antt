@@ -80,7 +80,6 @@ no_imports o p s e = emptied p.head.imports o.head.imports e (λ x h. (s.head.im
     emptied [] ys e f = refl
     emptied (x ∷ xs) ys e f = absurd (nothing_in ys x e (f x (0, omega arith, refl)))
 
-
 fits_in : (a b : ℕ) → nat_le a b ≡ true → a ≤ b
 fits_in a b e = leb-true a b e
 

@@ -53,43 +53,45 @@ fn run_line(alloc: Global, line: &str, room: &mut Room) -> Result<Status, AllocE
 }
 
 /// What a run has to answer, write and note.
+#[derive(Clone, Copy, Debug)]
 struct Wanted<'a> {
     status: Status,
     text: &'a str,
     line: &'a str,
 }
 
-/// Looks at what a run answered, wrote and noted.
-fn look(rt: HostRuntime, room: &Room, status: Status, wanted: &Wanted<'_>, row: &str) {
-    assert_eq!(rt; status, wanted.status, "{row}");
-    assert_eq!(rt; room.out.bytes(), wanted.text.as_bytes(), "{row}");
-    assert_eq!(rt; room.note.bytes(), wanted.line.as_bytes(), "{row}");
+/// Whether a run answered, wrote and noted this.
+fn is_as_wanted(room: &Room, status: Status, wanted: &Wanted<'_>) -> bool {
+    status == wanted.status
+        && room.out.bytes() == wanted.text.as_bytes()
+        && room.note.bytes() == wanted.line.as_bytes()
 }
 
 /// Runs a line over the document `m.ofn`.
-fn check(rt: HostRuntime, line: &str, document: &[u8], wanted: &Wanted<'_>) -> Result<(), Fail> {
-    let mut room = room_with(rt.alloc(), document)?;
-    let status = run_line(rt.alloc(), line, &mut room)?;
-    look(rt, &room, status, wanted, line);
-    Ok(())
+fn tells(alloc: Global, line: &str, document: &[u8], wanted: &Wanted<'_>) -> Result<bool, Fail> {
+    let mut room = room_with(alloc, document)?;
+    let status = run_line(alloc, line, &mut room)?;
+    Ok(is_as_wanted(&room, status, wanted))
 }
 
 /// Runs `same m.ofn k.ofn` over two documents.
-fn compare(
-    rt: HostRuntime,
-    first: &str,
-    second: &str,
-    wanted: &Wanted<'_>,
-) -> Result<(), Fail> {
-    let mut room = room_with(rt.alloc(), first.as_bytes())?;
-    put(rt.alloc(), &mut room.shelf, "k.ofn", second.as_bytes())?;
-    let status = run_line(rt.alloc(), "same m.ofn k.ofn", &mut room)?;
-    look(rt, &room, status, wanted, second);
-    Ok(())
+fn compares(alloc: Global, first: &str, second: &str, wanted: &Wanted<'_>) -> Result<bool, Fail> {
+    let mut room = room_with(alloc, first.as_bytes())?;
+    put(alloc, &mut room.shelf, "k.ofn", second.as_bytes())?;
+    let status = run_line(alloc, "same m.ofn k.ofn", &mut room)?;
+    Ok(is_as_wanted(&room, status, wanted))
 }
 
+/// What `same` has to tell of documents that say the same.
+const SAME: Wanted<'static> = Wanted {
+    status: Status::Done,
+    text: "same\n",
+    line: "same\n",
+};
+
 /// The lines of the four prefixes that are always written.
-const FOUR: &str = "Prefix(owl:=<http://www.w3.org/2002/07/owl#>)\nPrefix(rdf:=<http://www.w3.org/1999/02/22-rdf-syntax-ns#>)\nPrefix(rdfs:=<http://www.w3.org/2000/01/rdf-schema#>)\nPrefix(xsd:=<http://www.w3.org/2001/XMLSchema#>)\n";
+const FOUR: &str =
+    "Prefix(owl:=<http://www.w3.org/2002/07/owl#>)\nPrefix(rdf:=<http://www.w3.org/1999/02/22-rdf-syntax-ns#>)\nPrefix(rdfs:=<http://www.w3.org/2000/01/rdf-schema#>)\nPrefix(xsd:=<http://www.w3.org/2001/XMLSchema#>)\n";
 
 /// A document with a prefix, an IRI and these axioms.
 fn about(alloc: Global, axioms: &str) -> Result<String, AllocError> {
@@ -102,16 +104,16 @@ fn text_about(alloc: Global, lines: &str) -> Result<String, AllocError> {
 }
 
 /// Translates a document without prefixes of its own.
-fn translates(rt: HostRuntime, document: &str, lines: &str, axioms: u64) -> Result<(), Fail> {
-    let text = format!(in rt.alloc(); "{FOUR}{lines}")?;
-    let line = format!(in rt.alloc(); "translated; axioms {axioms}; absorbed 0\n")?;
+fn translates(alloc: Global, document: &str, lines: &str, axioms: u64) -> Result<bool, Fail> {
+    let text = format!(in alloc; "{FOUR}{lines}")?;
+    let line = format!(in alloc; "translated; axioms {axioms}; absorbed 0\n")?;
     let wanted = Wanted {
         status: Status::Done,
         text: text.as_str(),
         line: line.as_str(),
     };
-    check(
-        rt,
+    tells(
+        alloc,
         "translate --to fss m.ofn",
         document.as_bytes(),
         &wanted,
@@ -143,33 +145,36 @@ fn translates_documents(rt: HostRuntime) -> Result<(), Fail> {
             1,
         ),
     ] {
-        translates(rt, document, lines, axioms)?;
+        assert!(rt;
+            translates(rt.alloc(), document, lines, axioms)?,
+            "{document}"
+        );
     }
     Ok(())
 }
 
-/// Translates a document of one axiom, which is written as it is given, and compares the text with the document.
-fn keeps(rt: HostRuntime, axiom: &str) -> Result<(), Fail> {
-    let document = about(rt.alloc(), axiom)?;
-    let lines = format!(in rt.alloc(); "{axiom}\n")?;
-    let text = text_about(rt.alloc(), lines.as_str())?;
-    let translated = Wanted {
+/// Whether the document of one axiom is translated to this text.
+fn writes(alloc: Global, document: &str, text: &str) -> Result<bool, Fail> {
+    let wanted = Wanted {
         status: Status::Done,
-        text: text.as_str(),
+        text,
         line: "translated; axioms 1; absorbed 0\n",
     };
-    let same = Wanted {
-        status: Status::Done,
-        text: "same\n",
-        line: "same\n",
-    };
-    check(
-        rt,
+    tells(
+        alloc,
         "translate --to fss m.ofn",
         document.as_bytes(),
-        &translated,
-    )?;
-    compare(rt, document.as_str(), text.as_str(), &same)
+        &wanted,
+    )
+}
+
+/// Whether an axiom is written as it is given, and the text says the same as the document.
+fn keeps(alloc: Global, axiom: &str) -> Result<bool, Fail> {
+    let document = about(alloc, axiom)?;
+    let lines = format!(in alloc; "{axiom}\n")?;
+    let text = text_about(alloc, lines.as_str())?;
+    let written = writes(alloc, document.as_str(), text.as_str())?;
+    Ok(written && compares(alloc, document.as_str(), text.as_str(), &SAME)?)
 }
 
 #[test]
@@ -217,7 +222,7 @@ fn keeps_each_kind_of_axiom(rt: HostRuntime) -> Result<(), Fail> {
         "AnnotationPropertyDomain(:f :A)",
         "AnnotationPropertyRange(:f :A)",
     ] {
-        keeps(rt, axiom)?;
+        assert!(rt; keeps(rt.alloc(), axiom)?, "{axiom}");
     }
     Ok(())
 }
@@ -249,23 +254,19 @@ fn keeps_each_kind_of_expression(rt: HostRuntime) -> Result<(), Fail> {
         "DataSomeValuesFrom(:d DatatypeRestriction(xsd:integer xsd:minInclusive \"1\"^^xsd:integer))",
     ] {
         let axiom = format!(in rt.alloc(); "SubClassOf({class} :B)")?;
-        keeps(rt, axiom.as_str())?;
+        assert!(rt; keeps(rt.alloc(), axiom.as_str())?, "{axiom}");
     }
     Ok(())
 }
 
-/// Refuses to translate a document.
-fn refuses(rt: HostRuntime, document: &[u8], status: Status, line: &str) -> Result<(), Fail> {
-    check(
-        rt,
-        "translate --to fss m.ofn",
-        document,
-        &Wanted {
-            status,
-            text: "",
-            line,
-        },
-    )
+/// Whether a document is refused so.
+fn refuses(alloc: Global, document: &[u8], status: Status, line: &str) -> Result<bool, Fail> {
+    let wanted = Wanted {
+        status,
+        text: "",
+        line,
+    };
+    tells(alloc, "translate --to fss m.ofn", document, &wanted)
 }
 
 #[test]
@@ -277,8 +278,7 @@ fn tells_what_is_wrong(rt: HostRuntime) -> Result<(), Fail> {
             "m.ofn: item at 9: NotHere at 20\n",
         ),
         (
-            b"Prefix(:=<http://e/>) Ontology(<http://e/o> Declaration(Class(:A)) SubClassOf(:A))"
-                .as_slice(),
+            b"Prefix(:=<http://e/>) Ontology(<http://e/o> Declaration(Class(:A)) SubClassOf(:A))".as_slice(),
             "m.ofn: item at 67: NotHere at 80\n",
         ),
         (
@@ -319,7 +319,10 @@ fn tells_what_is_wrong(rt: HostRuntime) -> Result<(), Fail> {
             "m.ofn: NotBuilt\n",
         ),
     ] {
-        refuses(rt, document, Status::Document, line)?;
+        assert!(rt;
+            refuses(rt.alloc(), document, Status::Document, line)?,
+            "{line}"
+        );
     }
     Ok(())
 }
@@ -333,19 +336,23 @@ fn nested(alloc: Global, count: usize) -> Result<String, AllocError> {
 
 #[test]
 fn tells_which_limit_was_passed(rt: HostRuntime) -> Result<(), Fail> {
-    keeps(rt, nested(rt.alloc(), 126)?.as_str())?;
-    let deep = about(rt.alloc(), nested(rt.alloc(), 127)?.as_str())?;
-    let large = about(
-        rt.alloc(),
-        "SubClassOf(:A ObjectMinCardinality(18446744073709551616 :p))",
-    )?;
-    refuses(rt, deep.as_bytes(), Status::Limit, "limit: Depth: m.ofn\n")?;
-    refuses(
-        rt,
-        large.as_bytes(),
-        Status::Limit,
-        "limit: Cardinality: m.ofn\n",
-    )
+    let within = nested(rt.alloc(), 126)?;
+    assert!(rt; keeps(rt.alloc(), within.as_str())?);
+    let deep = nested(rt.alloc(), 127)?;
+    for (axiom, line) in [
+        (deep.as_str(), "limit: Depth: m.ofn\n"),
+        (
+            "SubClassOf(:A ObjectMinCardinality(18446744073709551616 :p))",
+            "limit: Cardinality: m.ofn\n",
+        ),
+    ] {
+        let document = about(rt.alloc(), axiom)?;
+        assert!(rt;
+            refuses(rt.alloc(), document.as_bytes(), Status::Limit, line)?,
+            "{line}"
+        );
+    }
+    Ok(())
 }
 
 #[test]
@@ -369,33 +376,36 @@ fn shows_documents(rt: HostRuntime) -> Result<(), Fail> {
             text,
             line: "shown\n",
         };
-        check(rt, "show m.ofn", document.as_bytes(), &wanted)?;
+        assert!(rt;
+            tells(rt.alloc(), "show m.ofn", document.as_bytes(), &wanted)?,
+            "{document}"
+        );
     }
-    check(
-        rt,
-        "show m.ofn",
-        b"Ontology(Import(<http://x/i>))".as_slice(),
-        &Wanted {
-            status: Status::Document,
-            text: "",
-            line: "m.ofn: NotBuilt\n",
-        },
-    )
+    let not_built = Wanted {
+        status: Status::Document,
+        text: "",
+        line: "m.ofn: NotBuilt\n",
+    };
+    assert!(rt;
+        tells(
+            rt.alloc(),
+            "show m.ofn",
+            b"Ontology(Import(<http://x/i>))".as_slice(),
+            &not_built
+        )?
+    );
+    Ok(())
 }
 
 #[test]
 fn compares_documents(rt: HostRuntime) -> Result<(), Fail> {
-    let first = "Prefix(a:=<http://e/>) Ontology(<http://e/o> Import(<http://x/i>) SubClassOf(a:A a:B) EquivalentClasses(a:B a:A))";
+    let first =
+        "Prefix(a:=<http://e/>) Ontology(<http://e/o> Import(<http://x/i>) SubClassOf(a:A a:B) EquivalentClasses(a:B a:A))";
     for second in [
         "Ontology(<http://e/o> Import(<http://x/i>) EquivalentClasses(<http://e/A> <http://e/B> <http://e/A>) SubClassOf(<http://e/A> <http://e/B>))",
         "Prefix(b:=<http://e/>) Ontology(<http://e/o> Import(<http://x/i>) SubClassOf(b:A b:B) SubClassOf(b:A b:B) EquivalentClasses(b:A b:B))",
     ] {
-        let same = Wanted {
-            status: Status::Done,
-            text: "same\n",
-            line: "same\n",
-        };
-        compare(rt, first, second, &same)?;
+        assert!(rt; compares(rt.alloc(), first, second, &SAME)?, "{second}");
     }
     for second in [
         "Ontology()",
@@ -408,33 +418,35 @@ fn compares_documents(rt: HostRuntime) -> Result<(), Fail> {
             text: "different\n",
             line: "different\n",
         };
-        compare(rt, first, second, &different)?;
+        assert!(rt;
+            compares(rt.alloc(), first, second, &different)?,
+            "{second}"
+        );
     }
     Ok(())
 }
 
 #[test]
 fn looks_at_the_first_document_first(rt: HostRuntime) -> Result<(), Fail> {
-    check(
-        rt,
-        "same m.ofn k.ofn",
-        b"Ontology(".as_slice(),
-        &Wanted {
-            status: Status::Document,
+    for (document, status, line) in [
+        (
+            "Ontology(",
+            Status::Document,
+            "m.ofn: item at 9: NotHere at 9\n",
+        ),
+        ("Ontology()", Status::ReadFailed, "read: k.ofn\n"),
+    ] {
+        let wanted = Wanted {
+            status,
             text: "",
-            line: "m.ofn: item at 9: NotHere at 9\n",
-        },
-    )?;
-    check(
-        rt,
-        "same m.ofn k.ofn",
-        b"Ontology()".as_slice(),
-        &Wanted {
-            status: Status::ReadFailed,
-            text: "",
-            line: "read: k.ofn\n",
-        },
-    )
+            line,
+        };
+        assert!(rt;
+            tells(rt.alloc(), "same m.ofn k.ofn", document.as_bytes(), &wanted)?,
+            "{line}"
+        );
+    }
+    Ok(())
 }
 
 #[test]
@@ -462,7 +474,10 @@ fn refuses_other_words(rt: HostRuntime) -> Result<(), Fail> {
             text: "",
             line: "words\n",
         };
-        check(rt, line, b"Ontology()".as_slice(), &wanted)?;
+        assert!(rt;
+            tells(rt.alloc(), line, b"Ontology()".as_slice(), &wanted)?,
+            "{line}"
+        );
     }
     Ok(())
 }
@@ -489,7 +504,11 @@ fn reads_words(rt: HostRuntime) -> Result<(), Fail> {
         "show a.v2.ofn",
         "same b.ofn a.v2.ofn",
     ] {
-        assert_eq!(rt; last_name(rt.alloc(), line), Ok(Text::of(rt.alloc(), "a.v2.ofn")?), "{line}");
+        assert_eq!(rt;
+            last_name(rt.alloc(), line),
+            Ok(Text::of(rt.alloc(), "a.v2.ofn")?),
+            "{line}"
+        );
     }
     for (fault, want) in [
         (WordsFault::Words, "words"),
@@ -512,12 +531,12 @@ fn tells_that_a_read_failed(rt: HostRuntime) -> Result<(), Fail> {
     room.shelf.piece(8);
     room.shelf.fail_at(2);
     let status = run_line(rt.alloc(), "translate --to fss m.ofn", &mut room)?;
-    look(rt, &room, status, &wanted, "the second read");
+    assert!(rt; is_as_wanted(&room, status, &wanted), "the second read");
 
     let mut lacking = room_with(rt.alloc(), b"Ontology()".as_slice())?;
     lacking.shelf = MemShelf::new(rt.alloc());
     let status = run_line(rt.alloc(), "show m.ofn", &mut lacking)?;
-    look(rt, &lacking, status, &wanted, "no such name");
+    assert!(rt; is_as_wanted(&lacking, status, &wanted), "no such name");
     Ok(())
 }
 
@@ -532,7 +551,7 @@ fn tells_that_a_write_failed(rt: HostRuntime) -> Result<(), Fail> {
     room.out.piece(10);
     room.out.fail_at(3);
     let status = run_line(rt.alloc(), "translate --to fss m.ofn", &mut room)?;
-    look(rt, &room, status, &wanted, "the third write");
+    assert!(rt; is_as_wanted(&room, status, &wanted), "the third write");
     Ok(())
 }
 
@@ -546,7 +565,7 @@ fn answers_the_same_where_the_note_fails(rt: HostRuntime) -> Result<(), Fail> {
     let mut room = room_with(rt.alloc(), b"Ontology()".as_slice())?;
     room.note.fail_at(1);
     let status = run_line(rt.alloc(), "show", &mut room)?;
-    look(rt, &room, status, &wanted, "the note fails");
+    assert!(rt; is_as_wanted(&room, status, &wanted), "the note fails");
     Ok(())
 }
 
