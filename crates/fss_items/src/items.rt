@@ -1,6 +1,6 @@
 //! The body of a document, read term by term.
 
-ghost use Rattle.std.specs.Prelude.{◌≡◌, ◌≢◌, ◌≤◌, ◌+◌, ◌^◌, ◌⊎◌, ◌↔◌, [], IfErr, IfSome, IsNone, List, OnOk};
+ghost use Rattle.std.specs.Prelude.{◌≡◌, ◌≢◌, ◌≤◌, ◌+◌, ◌^◌, ◌⊎◌, ◌↔◌, [], IfErr, IfSome, IsNone, List, OnOk, false, true};
 ghost use Rattle.owl_doc.specs.declared.term.Term.{Term};
 ghost use Rattle.owl_doc.specs.Documents.{ontology_of};
 ghost use Rattle.owl_doc.specs.Functional.{IsWithinLimits};
@@ -85,7 +85,10 @@ impl Items {
 
     /// Whether no item is begun, so that the next term begins one or is the last
     /// bracket.
-    pub fn is_between(&self) -> bool {
+    pub fn is_between(&self) -> bool
+        ensures yes { result ≡ true → (self.now.begun ≡ []) × (self.now.waiting ≡ []) }
+        ensures no { result ≡ false → (self.now.begun ≡ []) → (self.now.waiting ≡ []) → ⊥ }
+    {
         self.stack.is_empty() && matches!(self.waiting, Waiting::Nothing)
     }
 

@@ -104,6 +104,8 @@ pub fn level_of(place: AtomPlace, levels: usize) -> usize
     requires { levels < 2 ^ 63 }
     ensures most { result ≤ levels + 1 }
     ensures other { levels < result → place ≡ Facet }
+    ensures least { levels ≤ result }
+    ensures facet { place ≡ Facet → result ≡ levels + 1 }
 {
     match place {
         AtomPlace::Facet => levels + 1,
