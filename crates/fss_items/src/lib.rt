@@ -3,7 +3,7 @@
 #![tactic(auto)]
 
 mod item_fault;
-pub mod items;
+mod items;
 mod laws;
 
 pub use item_fault::ItemFault;
