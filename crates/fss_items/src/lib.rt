@@ -9,3 +9,6 @@ mod laws;
 pub use item_fault::ItemFault;
 pub use items::Items;
 pub use laws::{bodies_are_read_one_way, ontologies_are_written_apart};
+
+#[cfg(test)]
+mod tests;

@@ -13,3 +13,6 @@ mod token_fault;
 
 pub use fault::{ReadFault, Reason};
 pub use reader::{MOST_BYTES, Reader};
+
+#[cfg(test)]
+mod tests;

@@ -1,0 +1,205 @@
+use super::*;
+use owl_atom::Iri;
+use owl_doc::Doc;
+use owl_text::NoMemory;
+use std::alloc::Global;
+use std::test::Fail;
+
+/// Feeds two pieces, the second where the first was taken.
+fn feed_both(reader: &mut Reader, first: &[u8], second: &[u8]) -> Result<(), ReadFault> {
+    reader.feed(first)?;
+    reader.feed(second)
+}
+
+/// What comes of a document that comes in two pieces.
+fn read(alloc: Global, first: &[u8], second: &[u8]) -> Result<Result<Doc, ReadFault>, NoMemory> {
+    let mut reader = Reader::new(alloc)?;
+    match feed_both(&mut reader, first, second) {
+        Ok(()) => Ok(reader.finish()),
+        Err(fault) => Ok(Err(fault)),
+    }
+}
+
+fn name_of(iri: &Option<Iri>) -> &str {
+    match iri {
+        Some(iri) => iri.text(),
+        None => "none",
+    }
+}
+
+/// One text for a document: its names, and how many of each part it has.
+fn shown(alloc: Global, doc: &Doc) -> Result<String, Fail> {
+    let head = doc.head();
+    let names = format!(in alloc; "{} {}", name_of(&head.iri), name_of(&head.version))?;
+    let items = format!(in alloc;
+        "{} {} {}",
+        head.imports.len(),
+        doc.notes().len(),
+        doc.axioms().len()
+    )?;
+    Ok(format!(in alloc; "{names}, {items}, {}", doc.prefixes().len())?)
+}
+
+/// One text for what comes of a document in two pieces.
+fn told(alloc: Global, first: &[u8], second: &[u8]) -> Result<String, Fail> {
+    match read(alloc, first, second)? {
+        Ok(doc) => shown(alloc, &doc),
+        Err(fault) => Ok(format!(in alloc; "{fault}")?),
+    }
+}
+
+#[test]
+fn documents_are_read_in_two_pieces(rt: HostRuntime) -> Result<(), Fail> {
+    for (document, want) in [
+        (b"Ontology()".as_slice(), "none none, 0 0 0, 4"),
+        (
+            b"Prefix(:=<a:>)Ontology(:o <a:v>Import(:i)Annotation(rdfs:label \"\xC3\xA9\"@en)Declaration(Class(:\xC3\xA9))#\n)",
+            "a:o a:v, 1 1 1, 5",
+        ),
+        (
+            b"Ontology(Declaration(Class(<a:b>)) Class(<a:c>))",
+            "NotHere at byte 35, in the item at byte 35",
+        ),
+    ] {
+        for cut in 0usize..document.len() {
+            let (first, second) = document.split_at(cut);
+            let text = told(rt.alloc(), first, second)?;
+            assert_eq!(rt; text.as_str(), want, "cut at {cut}");
+        }
+    }
+    Ok(())
+}
+
+#[test]
+fn refusals_have_their_places(rt: HostRuntime) -> Result<(), Fail> {
+    for (document, want) in [
+        (b"".as_slice(), "NotHere at byte 0, in the item at byte 0"),
+        (b"Ontology(\xFF", "BadUtf8 at byte 9, in the item at byte 9"),
+        (
+            b"Ontology(Import(\xFF",
+            "BadUtf8 at byte 16, in the item at byte 9",
+        ),
+        (
+            b"Ontology(Import(<a b>))",
+            "BadToken at byte 16, in the item at byte 9",
+        ),
+        (
+            b"Ontology() Import",
+            "NotHere at byte 11, in the item at byte 11",
+        ),
+        (
+            b"Ontology(Declaration(<a:b>))",
+            "NotHere at byte 21, in the item at byte 9",
+        ),
+        (
+            b"Ontology(Import(<a:b>) ",
+            "NotHere at byte 23, in the item at byte 23",
+        ),
+        (
+            b"Ontology(<a:b> x:c",
+            "UnknownPrefix at byte 15, in the item at byte 0",
+        ),
+        (
+            b"Ontology(Declaration(Class(p:A)))",
+            "UnknownPrefix at byte 27, in the item at byte 9",
+        ),
+        (
+            b"Prefix(p:=<a:b>)Prefix(p:=<a:b>)Ontology()",
+            "PrefixTwice at byte 23, in the item at byte 16",
+        ),
+        (
+            b"Prefix(owl:=<a:b>)Ontology()",
+            "PrefixFixed at byte 12, in the item at byte 0",
+        ),
+        (
+            b"Ontology(Annotation(rdfs:label \"x\"^^rdf:langString))",
+            "BadLiteral at byte 36, in the item at byte 9",
+        ),
+        (
+            b"Ontology(HasKey(owl:Thing () ()))",
+            "EmptyKey at byte 31, in the item at byte 9",
+        ),
+    ] {
+        let text = told(rt.alloc(), document, b"".as_slice())?;
+        assert_eq!(rt; text.as_str(), want);
+    }
+    Ok(())
+}
+
+#[test]
+fn numbers_end_below_two_to_the_64(rt: HostRuntime) -> Result<(), Fail> {
+    for (digits, want) in [
+        ("018446744073709551615", "none none, 0 0 1, 4"),
+        ("18446744073709551616", "a number is too large"),
+    ] {
+        let document = format!(in rt.alloc();
+            "Ontology(SubClassOf(<a:b> ObjectMinCardinality({digits} <a:p>)))"
+        )?;
+        let text = told(rt.alloc(), document.as_bytes(), b"".as_slice())?;
+        assert_eq!(rt; text.as_str(), want);
+    }
+    Ok(())
+}
+
+/// The subclass of so many complements of a class.
+fn nested(alloc: Global, count: usize) -> Result<String, Fail> {
+    let mut document = String::from_str(alloc, "Ontology(SubClassOf(")?;
+    for _ in 0usize..count {
+        document.push_str("ObjectComplementOf(")?;
+    }
+    document.push_str("<a:b>")?;
+    for _ in 0usize..count {
+        document.push_str(")")?;
+    }
+    document.push_str("<a:c>))")?;
+    Ok(document)
+}
+
+#[test]
+fn trees_have_128_levels(rt: HostRuntime) -> Result<(), Fail> {
+    for (count, want) in [(126usize, "none none, 0 0 1, 4"), (127, "too deep")] {
+        let document = nested(rt.alloc(), count)?;
+        let text = told(rt.alloc(), document.as_bytes(), b"".as_slice())?;
+        assert_eq!(rt; text.as_str(), want);
+    }
+    Ok(())
+}
+
+/// What a reader answers to a bad document, then to a good one, and at the end.
+fn answers(
+    alloc: Global,
+) -> Result<(Option<ReadFault>, Option<ReadFault>, Option<ReadFault>), NoMemory> {
+    let mut reader = Reader::new(alloc)?;
+    let first = reader.feed(b"Ontology) ".as_slice()).err();
+    let second = reader.feed(b"Ontology()".as_slice()).err();
+    Ok((first, second, reader.finish().err()))
+}
+
+#[test]
+fn a_refusal_is_kept(rt: HostRuntime) -> Result<(), Fail> {
+    let (first, second, last) = answers(rt.alloc())?;
+    let kept = Some(ReadFault::Refused {
+        item_at: 0,
+        at: 8,
+        reason: Reason::NotHere,
+    });
+    assert_eq!(rt; first, kept);
+    assert_eq!(rt; second, kept);
+    assert_eq!(rt; last, kept);
+    Ok(())
+}
+
+#[test]
+fn refusals_are_printed(rt: HostRuntime) -> Result<(), Fail> {
+    for (fault, want) in [
+        (ReadFault::TooLong, "too long"),
+        (ReadFault::TooDeep, "too deep"),
+        (ReadFault::TooHeavy, "too heavy"),
+        (ReadFault::NumberTooLarge, "a number is too large"),
+        (ReadFault::Memory, "out of memory"),
+    ] {
+        let text = format!(in rt.alloc(); "{fault}")?;
+        assert_eq!(rt; text.as_str(), want);
+    }
+    Ok(())
+}
