@@ -1,8 +1,7 @@
 -- What is answered for documents is what is asked.
-use Rattle.std.proofs.Common.{Result, Ok, Err, IfOk, IfErr, ◌≡◌, ◌≢◌, ◌⊎◌, inl, inr, ◌<◌, ◌≤◌, ℕ, IsTrue, Bool, Option, None, Some, List, [], ◌∷◌, ◌++◌, length, codes, refl, sym, ap, ◌∙◌, subst, arith}
-use Rattle.std.specs.List.{AllByRecursion}
+use Rattle.std.proofs.Common.{Result, Ok, Err, IfOk, IfErr, ◌≡◌, ◌≢◌, ◌⊎◌, inl, inr, ◌<◌, ◌≤◌, ℕ, IsTrue, Bool, Option, None, Some, List, [], ◌∷◌, ◌++◌, length, refl, sym, ◌∙◌, subst, arith}
 use Rattle.std.specs.Result.{IsErrAnd}
-use Rattle.owl_port.specs.Outside.{Rose, SameElsewhere, before}
+use Rattle.owl_port.specs.Outside.{Rose, SameElsewhere}
 use Rattle.owl_atom.specs.declared.prefixes.Prefix.{Prefix}
 use Rattle.owl_tree.specs.Ontologies.{Ontology}
 use Rattle.owl_doc.specs.Functional.{Reads, longest}
@@ -13,14 +12,14 @@ use Rattle.fss_read.specs.declared.fault.ReadFault as read
 use Rattle.fss_read.specs.declared.fault.ReadFault.TheVariants as rf
 use Rattle.fss_write.specs.Text.{declared_prefixes}
 use Rattle.owl_top.specs.Commands.{IsAmong, Request, translates, shows, compares, names_of}
-use Rattle.owl_top.specs.Outcome.{Becomes, BecomesOf, IsFaulty, IsFirstFaulty, IsFrontTaken, IsNoDocument, IsReached, IsReadBack, IsSettled, IsSuccess, IsTheOutcome, IsUnread, LineFor, Outcome, Says, agreement, difference, has_defect, of_success, shown, too_deep, too_heavy, too_large, too_long, translation, unreadable}
+use Rattle.owl_top.specs.Outcome.{Becomes, BecomesOf, IsFaulty, IsFirstFaulty, IsFrontTaken, IsNoDocument, IsReached, IsSettled, IsSuccess, IsTheOutcome, IsUnread, LineFor, Outcome, has_defect, of_success, shown, too_deep, too_heavy, too_large, too_long, translation, unreadable}
 use Rattle.owl_top.specs.Answers.{ComparesWith, IsAnswered, IsComparedWith, IsComparison, IsFaultOf, IsOnlyReading, IsProper, IsTaken, IsTroubleOf, Rises, SaysOnly, Shelves, not_read, of_reader, of_shelf, settled, trouble_outcome}
 use Rattle.owl_top.specs.Answers as a
 use Rattle.owl_top.specs.declared.trouble.Trouble.{Trouble}
 use Rattle.owl_top.specs.declared.trouble.Trouble.TheVariants as t
 use Rattle.owl_top.specs.declared.command.Target.TheVariants.{Fss}
 use Rattle.owl_top.proofs.Lines.{line_more, settled_line, settled_proper, trouble_line}
-use Rattle.owl_top.proofs.Outcomes.{compared_the, first_unread_the, settled_the, shown_of_form, translation_of_form, unread_the}
+use Rattle.owl_top.proofs.Outcomes.{compared_the, settled_the, shown_of_form, translation_of_form}
 
 -- two facts of an answer
 pub from_both : {T E : Type 0} (r : Result T E) (P Q R : T → Type 0) → ((x : T) → P x → Q x → R x) → IfOk r P → IfOk r Q → IfOk r R

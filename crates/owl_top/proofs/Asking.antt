@@ -1,7 +1,7 @@
 -- Words that ask for something.
-use Rattle.std.proofs.Common.{◌≡◌, ◌≢◌, ℕ, inl, inr, List, [], ◌∷◌, codes, map, length, get_or, ap, ◌∙◌, arith, refl, sym, subst}
+use Rattle.std.proofs.Common.{◌≡◌, ◌≢◌, ℕ, inl, inr, List, [], ◌∷◌, codes, map, length, get_or, ap, ◌∙◌, arith, refl, sym}
 use Rattle.std.specs.Str.{encode_utf8_all}
-use Rattle.owl_top.specs.Commands.{Asks, HasNoCommand, IsCommand, IsName, Request, compares, first_name, shows, translates, words_of}
+use Rattle.owl_top.specs.Commands.{Asks, HasNoCommand, IsName, Request, compares, first_name, shows, translates, words_of}
 use Rattle.owl_top.specs.declared.command.Target.TheVariants.{Fss}
 
 pub asks_four : (verb flag target name : List ℕ) → (verb ≡ codes "translate") × (flag ≡ codes "--to") × (target ≡ codes "fss") → IsName name → Asks (verb ∷ flag ∷ target ∷ name ∷ []) (translates Fss name)

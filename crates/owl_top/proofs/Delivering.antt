@@ -3,10 +3,9 @@ use Rattle.std.proofs.Common.{Result, Ok, Err, OnOk, OnErr, ◌≡◌, ◌≢◌
 use Rattle.std.specs.List.{AllByRecursion}
 use Rattle.std.proofs.lemmas.List.{append-nil}
 use Rattle.std.proofs.Math.Seq.{take-length}
-use Rattle.owl_port.specs.Outside.{Rose}
 use Rattle.owl_top.specs.Commands.{Asks, HasNoCommand, IsAmong, Name, Request, names_of}
 use Rattle.owl_top.specs.Outcome.{AreOneOutcome, Becomes, IsFaulty, IsFirstFaulty, IsFrontNoted, IsFrontOfNote, IsFrontTaken, IsFrontWritten, IsLine, IsNoted, IsNotedAlone, IsOutcome, IsQuiet, IsSettled, IsSuccess, IsTheOutcome, IsWritten, LineFor, Outcome, of_asked, of_memory, of_words, of_write_fault, refused}
-use Rattle.owl_top.specs.Answers.{HasNoText, IsAnswered, IsFound, IsProper, IsTaken, IsWrittenFor, Rises, Shelves, delivered_line}
+use Rattle.owl_top.specs.Answers.{HasNoText, IsAnswered, IsFound, IsTaken, IsWrittenFor, Rises, Shelves, delivered_line}
 use Rattle.owl_top.specs.declared.status.Status.{Status}
 use Rattle.owl_top.specs.declared.status.Status.TheVariants.{Done, No, Words, Document as NoDocument, Target, Limit, ReadFailed, WriteFailed, Memory}
 use Rattle.owl_top.proofs.Lines.{fault_in}

@@ -1,14 +1,14 @@
 -- The lines of the note.
-use Rattle.std.proofs.Common.{◌≡◌, ◌⊎◌, inl, inr, ℕ, Bool, true, false, List, [], ◌∷◌, ◌++◌, length, nat_le, if◌then◌else◌, codes, refl, sym, ap, ◌∙◌, subst}
+use Rattle.std.proofs.Common.{◌≡◌, ℕ, Bool, true, false, List, [], ◌∷◌, length, nat_le, if◌then◌else◌, refl, ap, ◌∙◌}
 use Rattle.owl_doc.specs.Functional.{longest}
 use Rattle.owl_top.specs.Commands.{IsAmong, Request, translates, shows, compares, names_of}
-use Rattle.owl_top.specs.Outcome.{IsRefusal, IsRefusalLine, IsSuccess, LineFor, Outcome, SuccessLine, has_defect, not_built, of_imports, of_length, of_no_memory, of_output, of_read_fault, of_reader, of_refusal, of_success, of_write_fault, refused, too_deep, too_heavy, too_large, too_long_output}
-use Rattle.owl_top.specs.Answers.{HasNoText, IsFound, IsProper, limited, settled, trouble_outcome}
+use Rattle.owl_top.specs.Outcome.{IsRefusal, IsRefusalLine, LineFor, Outcome, SuccessLine, has_defect, of_imports, of_length, of_no_memory, of_output, of_read_fault, of_reader, of_refusal, of_success, of_write_fault, too_deep, too_heavy, too_large, too_long_output}
+use Rattle.owl_top.specs.Answers.{IsProper, settled, trouble_outcome}
 use Rattle.owl_top.specs.declared.trouble.Trouble.{Trouble}
 use Rattle.owl_top.specs.declared.trouble.Trouble.TheVariants as t
 use Rattle.owl_top.specs.declared.command.Target.TheVariants.{Fss}
 use Rattle.owl_top.specs.declared.status.Status.{Status}
-use Rattle.owl_top.specs.declared.status.Status.TheVariants.{Done, No, Words, Document as NoDocument, Target, Limit, ReadFailed, WriteFailed, Memory}
+use Rattle.owl_top.specs.declared.status.Status.TheVariants.{Document as NoDocument, Limit, ReadFailed}
 
 -- a cause that tells more
 pub line_more : (request : Request) (IsCause IsMore : List ℕ → Type 0) (status : Status) (line : List ℕ) → ((name : List ℕ) → IsCause name → IsMore name) → LineFor request IsCause status line → LineFor request IsMore status line

@@ -1,5 +1,5 @@
 -- The outcome is one.
-use Rattle.std.proofs.Common.{◌≡◌, ◌≢◌, ◌⊎◌, inl, inr, ◌<◌, ◌≤◌, ℕ, Bool, true, false, Contains, Option, Some, List, [], ◌∷◌, ◌++◌, length, nat_le, if◌then◌else◌, codes, refl, sym, ap, ◌∙◌, subst, arith, ◌+◌}
+use Rattle.std.proofs.Common.{◌≡◌, ◌≢◌, inl, inr, ◌<◌, ◌≤◌, ℕ, Bool, true, false, Contains, Option, Some, List, [], ◌∷◌, ◌++◌, length, nat_le, if◌then◌else◌, codes, refl, sym, ap, ◌∙◌, subst, arith, ◌+◌}
 use Rattle.std.specs.List.{sum_by}
 use Rattle.std.specs.Str.{encode_utf8_all}
 use Rattle.std.proofs.lemmas.Bool.{le-leb, leb-true}

@@ -1,7 +1,6 @@
 -- What a run answers, for its words and the contents of its documents.
 use Rattle.std.specs.Prelude.{◌≡◌, ◌≢◌, ◌<◌, ◌≤◌, ◌^◌, ◌+◌, ◌⊎◌, ℕ, Option, Some, List, [], ◌∷◌, ◌++◌, length, take, codes}
 use Rattle.std.specs.Fmt.{decimal}
-use Rattle.std.specs.List.{AllByRecursion}
 use Rattle.std.specs.Str.{encode_utf8_all}
 use Rattle.owl_port.specs.Outside.{before}
 use Rattle.owl_atom.specs.declared.prefixes.Prefix.{Prefix}

@@ -20,7 +20,7 @@ fn room_with(alloc: Global, document: &[u8]) -> Result<Room, Fail> {
     put(alloc, &mut shelf, "m.ofn", document)?;
     Ok(Room {
         shelf,
-        out: MemSink::new(alloc, 2000)?,
+        out: MemSink::new(alloc, 10_000)?,
         note: MemSink::new(alloc, 1000)?,
     })
 }

@@ -1,4 +1,4 @@
-use Rattle.std.proofs.Common.{◌≡◌, ◌++◌, sym, ap, ◌∙◌}
+use Rattle.std.proofs.Common.{◌≡◌, ◌++◌}
 use Rattle.std.proofs.lemmas.List.{take-append-drop}
 use Rattle.owl_top.proofs.Fed.{led_to_refusal, passed}
 use Rattle.owl_top.proofs.reading.feed_all.Goals as goal

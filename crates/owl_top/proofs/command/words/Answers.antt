@@ -1,1 +1,0 @@
-use Rattle.owl_top.proofs.command.words.Goals as goal
