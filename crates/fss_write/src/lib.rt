@@ -10,3 +10,6 @@ mod writer;
 
 pub use fault::WriteFault;
 pub use writer::{axiom_text, write};
+
+#[cfg(test)]
+mod tests;
