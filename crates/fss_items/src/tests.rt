@@ -72,16 +72,32 @@ fn shown(alloc: Global, doc: &Doc) -> Result<String, Fail> {
     Ok(format!(in alloc; "{parts}, {} of {}", counts.distinct, counts.weight)?)
 }
 
-/// One text for what comes of a document of these words.
-fn told(alloc: Global, words: &str) -> Result<String, Fail> {
+/// Whether all of these words are taken, and the document that they make.
+fn read(alloc: Global, words: &str) -> (Result<Result<(), ItemFault>, Fail>, Option<Doc>) {
     let mut items = nothing_read(alloc);
-    if let Err(fault) = take_all(alloc, &mut items, words)? {
-        return Ok(format!(in alloc; "{fault:?}")?);
+    let taken = take_all(alloc, &mut items, words);
+    (taken, items.finish())
+}
+
+/// One text for what comes of words.
+fn shown_or_refused(
+    alloc: Global,
+    taken: Result<Result<(), ItemFault>, Fail>,
+    doc: &Option<Doc>,
+) -> Result<String, Fail> {
+    match taken? {
+        Ok(()) => match doc {
+            Some(doc) => shown(alloc, doc),
+            None => Ok(String::from_str(alloc, "unfinished")?),
+        },
+        Err(fault) => Ok(format!(in alloc; "{fault:?}")?),
     }
-    match items.finish() {
-        Some(doc) => shown(alloc, &doc),
-        None => Ok(String::from_str(alloc, "unfinished")?),
-    }
+}
+
+/// The same, where the words are read first.
+fn told(alloc: Global, words: &str) -> Result<String, Fail> {
+    let (taken, doc) = read(alloc, words);
+    shown_or_refused(alloc, taken, &doc)
 }
 
 #[test]
@@ -156,13 +172,20 @@ fn expected(alloc: Global, items: &Items) -> Result<String, Fail> {
     Ok(text)
 }
 
+/// Takes these words, and tells what may stand behind them.
+fn take_and_expect(alloc: Global, items: &mut Items, words: &str) -> Result<String, Fail>
+    requires { items.old.trees ≡ 0 }
+{
+    match take_all(alloc, items, words)? {
+        Ok(()) => expected(alloc, items),
+        Err(fault) => Ok(format!(in alloc; "{fault:?}")?),
+    }
+}
+
 /// What may stand behind these words.
 fn expected_behind(alloc: Global, words: &str) -> Result<String, Fail> {
     let mut items = nothing_read(alloc);
-    match take_all(alloc, &mut items, words)? {
-        Ok(()) => expected(alloc, &items),
-        Err(fault) => Ok(format!(in alloc; "{fault:?}")?),
-    }
+    take_and_expect(alloc, &mut items, words)
 }
 
 #[test]

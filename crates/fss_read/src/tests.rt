@@ -11,13 +11,15 @@ fn feed_both(reader: &mut Reader, first: &[u8], second: &[u8]) -> Result<(), Rea
     reader.feed(second)
 }
 
-/// What comes of a document that comes in two pieces.
-fn read(alloc: Global, first: &[u8], second: &[u8]) -> Result<Result<Doc, ReadFault>, NoMemory> {
+/// What a reader answers to two pieces, and at the end.
+fn read(
+    alloc: Global,
+    first: &[u8],
+    second: &[u8],
+) -> Result<(Result<(), ReadFault>, Result<Doc, ReadFault>), NoMemory> {
     let mut reader = Reader::new(alloc)?;
-    match feed_both(&mut reader, first, second) {
-        Ok(()) => Ok(reader.finish()),
-        Err(fault) => Ok(Err(fault)),
-    }
+    let fed = feed_both(&mut reader, first, second);
+    Ok((fed, reader.finish()))
 }
 
 fn name_of(iri: &Option<Iri>) -> &str {
@@ -40,12 +42,25 @@ fn shown(alloc: Global, doc: &Doc) -> Result<String, Fail> {
     Ok(format!(in alloc; "{names}, {items}, {}", doc.prefixes().len())?)
 }
 
-/// One text for what comes of a document in two pieces.
-fn told(alloc: Global, first: &[u8], second: &[u8]) -> Result<String, Fail> {
-    match read(alloc, first, second)? {
-        Ok(doc) => shown(alloc, &doc),
+/// One text for these answers.
+fn shown_or_refused(
+    alloc: Global,
+    fed: Result<(), ReadFault>,
+    finished: &Result<Doc, ReadFault>,
+) -> Result<String, Fail> {
+    if let Err(fault) = fed {
+        return Ok(format!(in alloc; "{fault}")?);
+    }
+    match finished {
+        Ok(doc) => shown(alloc, doc),
         Err(fault) => Ok(format!(in alloc; "{fault}")?),
     }
+}
+
+/// One text for what comes of a document in two pieces.
+fn told(alloc: Global, first: &[u8], second: &[u8]) -> Result<String, Fail> {
+    let (fed, finished) = read(alloc, first, second)?;
+    shown_or_refused(alloc, fed, &finished)
 }
 
 #[test]

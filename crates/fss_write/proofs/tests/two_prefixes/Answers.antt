@@ -3,7 +3,7 @@ use Rattle.owl_atom.proofs.Words.{empty_name, prefix_name}
 use Rattle.fss_write.proofs.tests.two_prefixes.Goals as goal
 
 pub set-requires : goal.set-requires
-set-requires g c = prefix_name _ [] refl refl refl refl
+set-requires c = prefix_name _ [] refl refl refl refl
 
 pub set-requires-2 : goal.set-requires-2
-set-requires-2 g c = empty_name
+set-requires-2 c = empty_name
