@@ -1,6 +1,7 @@
 use super::*;
-use fss_read::Reader;
+use fss_read::{ReadFault, Reader};
 use fss_write::write;
+use owl_doc::Doc;
 use owl_port::{MemShelf, MemSink};
 use owl_text::Text;
 use std::alloc::{AllocError, Global};
@@ -67,19 +68,38 @@ fn is_as_wanted(room: &Room, status: Status, wanted: &Wanted<'_>) -> bool {
         && room.note.bytes() == wanted.line.as_bytes()
 }
 
+/// Runs a line, and says whether it told this.
+fn runs(
+    alloc: Global,
+    line: &str,
+    room: &mut Room,
+    wanted: &Wanted<'_>,
+) -> Result<bool, AllocError> {
+    let status = run_line(alloc, line, room)?;
+    Ok(is_as_wanted(room, status, wanted))
+}
+
 /// Runs a line over the document `m.ofn`.
 fn tells(alloc: Global, line: &str, document: &[u8], wanted: &Wanted<'_>) -> Result<bool, Fail> {
     let mut room = room_with(alloc, document)?;
-    let status = run_line(alloc, line, &mut room)?;
-    Ok(is_as_wanted(&room, status, wanted))
+    Ok(runs(alloc, line, &mut room, wanted)?)
+}
+
+/// Runs `same m.ofn k.ofn` where this document is put beside.
+fn compares_in(
+    alloc: Global,
+    room: &mut Room,
+    second: &str,
+    wanted: &Wanted<'_>,
+) -> Result<bool, Fail> {
+    put(alloc, &mut room.shelf, "k.ofn", second.as_bytes())?;
+    Ok(runs(alloc, "same m.ofn k.ofn", room, wanted)?)
 }
 
 /// Runs `same m.ofn k.ofn` over two documents.
 fn compares(alloc: Global, first: &str, second: &str, wanted: &Wanted<'_>) -> Result<bool, Fail> {
     let mut room = room_with(alloc, first.as_bytes())?;
-    put(alloc, &mut room.shelf, "k.ofn", second.as_bytes())?;
-    let status = run_line(alloc, "same m.ofn k.ofn", &mut room)?;
-    Ok(is_as_wanted(&room, status, wanted))
+    compares_in(alloc, &mut room, second, wanted)
 }
 
 /// What `same` has to tell of documents that say the same.
@@ -520,61 +540,83 @@ fn reads_words(rt: HostRuntime) -> Result<(), Fail> {
     Ok(())
 }
 
+/// Translates where the second read of 8 bytes fails.
+fn translates_on_a_bad_shelf(alloc: Global, wanted: &Wanted<'_>) -> Result<bool, Fail> {
+    let mut room = room_with(alloc, b"Ontology()".as_slice())?;
+    room.shelf.piece(8);
+    room.shelf.fail_at(2);
+    Ok(runs(alloc, "translate --to fss m.ofn", &mut room, wanted)?)
+}
+
+/// Translates where the third write of 10 bytes fails.
+fn translates_to_a_bad_sink(alloc: Global, wanted: &Wanted<'_>) -> Result<bool, Fail> {
+    let mut room = room_with(alloc, b"Ontology()".as_slice())?;
+    room.out.piece(10);
+    room.out.fail_at(3);
+    Ok(runs(alloc, "translate --to fss m.ofn", &mut room, wanted)?)
+}
+
+/// Gives words that have no command where the note fails.
+fn tells_a_bad_note(alloc: Global, wanted: &Wanted<'_>) -> Result<bool, Fail> {
+    let mut room = room_with(alloc, b"Ontology()".as_slice())?;
+    room.note.fail_at(1);
+    Ok(runs(alloc, "show", &mut room, wanted)?)
+}
+
 #[test]
-fn tells_that_a_read_failed(rt: HostRuntime) -> Result<(), Fail> {
-    let wanted = Wanted {
+fn tells_which_device_failed(rt: HostRuntime) -> Result<(), Fail> {
+    let unread = Wanted {
         status: Status::ReadFailed,
         text: "",
         line: "read: m.ofn\n",
     };
-    let mut room = room_with(rt.alloc(), b"Ontology()".as_slice())?;
-    room.shelf.piece(8);
-    room.shelf.fail_at(2);
-    let status = run_line(rt.alloc(), "translate --to fss m.ofn", &mut room)?;
-    assert!(rt; is_as_wanted(&room, status, &wanted), "the second read");
-
-    let mut lacking = room_with(rt.alloc(), b"Ontology()".as_slice())?;
-    lacking.shelf = MemShelf::new(rt.alloc());
-    let status = run_line(rt.alloc(), "show m.ofn", &mut lacking)?;
-    assert!(rt; is_as_wanted(&lacking, status, &wanted), "no such name");
-    Ok(())
-}
-
-#[test]
-fn tells_that_a_write_failed(rt: HostRuntime) -> Result<(), Fail> {
-    let wanted = Wanted {
+    let unwritten = Wanted {
         status: Status::WriteFailed,
         text: "Prefix(owl:=<http://",
         line: "write\n",
     };
-    let mut room = room_with(rt.alloc(), b"Ontology()".as_slice())?;
-    room.out.piece(10);
-    room.out.fail_at(3);
-    let status = run_line(rt.alloc(), "translate --to fss m.ofn", &mut room)?;
-    assert!(rt; is_as_wanted(&room, status, &wanted), "the third write");
-    Ok(())
-}
-
-#[test]
-fn answers_the_same_where_the_note_fails(rt: HostRuntime) -> Result<(), Fail> {
-    let wanted = Wanted {
+    let untold = Wanted {
         status: Status::Words,
         text: "",
         line: "",
     };
-    let mut room = room_with(rt.alloc(), b"Ontology()".as_slice())?;
-    room.note.fail_at(1);
-    let status = run_line(rt.alloc(), "show", &mut room)?;
-    assert!(rt; is_as_wanted(&room, status, &wanted), "the note fails");
+    let lacking = Wanted {
+        status: Status::ReadFailed,
+        text: "",
+        line: "read: k.ofn\n",
+    };
+    assert!(rt;
+        translates_on_a_bad_shelf(rt.alloc(), &unread)?,
+        "the second read"
+    );
+    assert!(rt;
+        translates_to_a_bad_sink(rt.alloc(), &unwritten)?,
+        "the third write"
+    );
+    assert!(rt; tells_a_bad_note(rt.alloc(), &untold)?, "the note");
+    assert!(rt;
+        tells(rt.alloc(), "show k.ofn", b"Ontology()".as_slice(), &lacking)?,
+        "no such name"
+    );
     Ok(())
+}
+
+/// Feeds a reader with two pieces.
+fn feed_both(reader: &mut Reader, front: &[u8], back: &[u8]) -> Result<(), ReadFault> {
+    reader.feed(front)?;
+    reader.feed(back)
+}
+
+/// Reads a document in two pieces.
+fn read_in_two(alloc: Global, front: &[u8], back: &[u8]) -> Result<Doc, Fail> {
+    let mut reader = Reader::new(alloc)?;
+    feed_both(&mut reader, front, back)?;
+    Ok(reader.finish()?)
 }
 
 /// Reads a document in two pieces, and writes it.
 fn write_again(alloc: Global, front: &[u8], back: &[u8]) -> Result<Text, Fail> {
-    let mut reader = Reader::new(alloc)?;
-    reader.feed(front)?;
-    reader.feed(back)?;
-    let doc = reader.finish()?;
+    let doc = read_in_two(alloc, front, back)?;
     Ok(write(alloc, &doc)?)
 }
 
