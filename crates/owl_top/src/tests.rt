@@ -375,6 +375,42 @@ fn tells_which_limit_was_passed(rt: HostRuntime) -> Result<(), Fail> {
     Ok(())
 }
 
+/// A property axiom with a chain of so many properties.
+fn chained(alloc: Global, count: usize) -> Result<String, AllocError> {
+    let chain = ":p ".repeat(alloc, count)?;
+    format!(in alloc; "SubObjectPropertyOf(ObjectPropertyChain({chain}) :p)")
+}
+
+/// What `show` has to tell of a document that is as heavy as one may be.
+const HEAVIEST: Wanted<'static> = Wanted {
+    status: Status::Done,
+    text: "ontology <http://e/o>\nversion none\nimports 0\nannotations 0\naxioms 1\ndistinct 4\nweight 16777216\n",
+    line: "shown\n",
+};
+
+#[test]
+fn takes_what_is_not_too_heavy(rt: HostRuntime) -> Result<(), Fail> {
+    let axiom = chained(rt.alloc(), 16_777_212)?;
+    let document = about(rt.alloc(), axiom.as_str())?;
+    assert!(rt; tells(rt.alloc(), "show m.ofn", document.as_bytes(), &HEAVIEST)?);
+    Ok(())
+}
+
+#[test]
+fn tells_that_a_document_is_too_heavy(rt: HostRuntime) -> Result<(), Fail> {
+    let axiom = chained(rt.alloc(), 16_777_213)?;
+    let document = about(rt.alloc(), axiom.as_str())?;
+    assert!(rt;
+        refuses(
+            rt.alloc(),
+            document.as_bytes(),
+            Status::Limit,
+            "limit: Weight: m.ofn\n"
+        )?
+    );
+    Ok(())
+}
+
 #[test]
 fn shows_documents(rt: HostRuntime) -> Result<(), Fail> {
     for (document, text) in [
