@@ -1,8 +1,8 @@
 #!/usr/bin/env python3
 """Compares owl with a second reader of the grammar, on random documents.
 
-compare.py [COUNT [SEED]]: so many documents, 2000 if left out, half of them with
-wrong tokens. For each, owl and the second reader have to agree that it reads, or
+compare.py [COUNT [SEED]]: so many documents, 2000 if left out, three of four of
+them with wrong tokens. For each, owl and the second reader have to agree that it reads, or
 on the item, the place and the reason of its first defect. What reads is
 translated, and has to be the same as its translation.
 """

@@ -1,8 +1,8 @@
 """A second reader of Functional-Style Syntax, to compare owl with.
 
-It is written from the grammar of the OWL 2 Structural Specification alone, by
-recursive descent, and tells the first defect of a list of tokens: the item in
-which it stands, its place, and its reason.
+It goes by the grammar of the OWL 2 Structural Specification, by recursive
+descent, and shares no code or table with owl. It tells the first defect of a list
+of tokens by owl's rules: the item in which it stands, its place, and its reason.
 
 A token is a triple (kind, value, place). The kinds are "word", "iri", "name",
 "blank", "string", "tag", "number", "(", ")", "=" and "^^"; the value of a name is
