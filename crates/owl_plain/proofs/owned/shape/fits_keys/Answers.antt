@@ -1,5 +1,0 @@
-use Rattle.owl_tree.specs.ShapeTestLaws.{not_other, only_where}
-use Rattle.owl_plain.proofs.owned.shape.fits_keys.Goals as goal
-
-pub returns-else-ne : goal.returns-else-ne
-returns-else-ne c = only_where _ _ _ (not_other _ _ _ c.ne.ensures c.if-ne.false) c.some_has_key_property.ensures

@@ -1,2 +1,0 @@
-pub mod OwnedForms
-pub mod OwnedFalls
