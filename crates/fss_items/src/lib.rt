@@ -9,6 +9,3 @@ mod laws;
 pub use item_fault::ItemFault;
 pub use items::Items;
 pub use laws::{bodies_are_read_one_way, ontologies_are_written_apart};
-
-#[cfg(test)]
-mod tests;

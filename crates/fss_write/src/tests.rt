@@ -248,22 +248,6 @@ fn a_document_has_a_line_for_each_part(rt: HostRuntime) -> Result<(), Fail> {
     Ok(())
 }
 
-const NOTHING: &str = "Prefix(owl:=<http://www.w3.org/2002/07/owl#>)
-Prefix(rdf:=<http://www.w3.org/1999/02/22-rdf-syntax-ns#>)
-Prefix(rdfs:=<http://www.w3.org/2000/01/rdf-schema#>)
-Prefix(xsd:=<http://www.w3.org/2001/XMLSchema#>)
-Ontology(
-)
-";
-
-#[test]
-fn four_prefixes_are_always_written(rt: HostRuntime) -> Result<(), Fail> {
-    let doc = unnamed(rt.alloc(), "")?;
-    let text = write(rt.alloc(), &doc)?;
-    assert_eq!(rt; text.as_str(), NOTHING);
-    Ok(())
-}
-
 #[test]
 fn refusals_are_printed(rt: HostRuntime) -> Result<(), Fail> {
     for (fault, want) in [

@@ -1,4 +1,2 @@
-mod axioms;
 mod made;
 mod rows;
-mod same;

@@ -1,3 +1,1 @@
 mod atoms;
-mod places;
-mod rows;

@@ -80,22 +80,3 @@ pub fn comment(alloc: Global, builder: &mut Builder, name: char) -> Result<ExprI
     let value = leaf(alloc, builder, Tag::Literal, name)?;
     node(alloc, builder, Tag::Annotation, &[notes, property, value])
 }
-
-/// Adds the declaration of each of these classes.
-pub fn declare(alloc: Global, builder: &mut Builder, names: &str) -> Result<(), Fail> {
-    for name in names.chars() {
-        let axiom = declaration(alloc, builder, name)?;
-        add(builder, axiom)??;
-    }
-    Ok(())
-}
-
-/// Adds an import and an annotation for each of these names.
-pub fn import_and_annotate(alloc: Global, builder: &mut Builder, names: &str) -> Result<(), Fail> {
-    for name in names.chars() {
-        builder.import(iri(alloc, name)?)?;
-        let note = comment(alloc, builder, name)?;
-        annotate(builder, note)??;
-    }
-    Ok(())
-}

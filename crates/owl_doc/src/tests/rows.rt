@@ -1,7 +1,7 @@
-//! Small documents, and what is told of them.
+//! What is told of axioms and annotations that are added.
 
-use super::made::{add, annotate, begun, comment, declaration, declare, iri, leaf, node};
-use crate::{AddFault, Builder, Counts, Doc, Rule};
+use super::made::{add, annotate, begun, comment, declaration, leaf};
+use crate::{AddFault, Builder, Rule};
 use owl_arena::ExprId;
 use owl_tree::Tag;
 use std::alloc::Global;
@@ -59,92 +59,6 @@ fn notes_added(alloc: Global) -> Result<[Result<bool, AddFault>; 3], Fail> {
 fn an_annotation_is_new_once(rt: HostRuntime) -> Result<(), Fail> {
     let wrong = Err(AddFault::WrongTag);
     assert_eq!(rt; notes_added(rt.alloc())?, [Ok(true), Ok(false), wrong]);
-    Ok(())
-}
-
-/// One declaration, and one import that is given twice.
-fn fill_small(alloc: Global, builder: &mut Builder) -> Result<(), Fail> {
-    let axiom = one_declaration(alloc, builder)?;
-    add(builder, axiom)??;
-    builder.import(iri(alloc, 'i')?)?;
-    Ok(builder.import(iri(alloc, 'i')?)?)
-}
-
-fn small(alloc: Global) -> Result<Doc, Fail> {
-    let mut builder = begun(alloc);
-    fill_small(alloc, &mut builder)?;
-    Ok(builder.finish())
-}
-
-#[test]
-fn a_declaration_is_counted(rt: HostRuntime) -> Result<(), Fail> {
-    let doc = small(rt.alloc())?;
-    let counts = Counts {
-        axioms: 1,
-        distinct: 3,
-        weight: 3,
-    };
-    assert_eq!(rt; doc.counts(rt.alloc())?, counts);
-    assert_eq!(rt; doc.head().imports.len(), 1);
-    Ok(())
-}
-
-/// Adds a subclass axiom of A and B with these notes.
-fn add_subclass(alloc: Global, builder: &mut Builder, notes: &[ExprId]) -> Result<bool, Fail> {
-    let notes = node(alloc, builder, Tag::Notes, notes)?;
-    let a = leaf(alloc, builder, Tag::Class, 'A')?;
-    let b = leaf(alloc, builder, Tag::Class, 'B')?;
-    let axiom = node(alloc, builder, Tag::SubClassOf, &[notes, a, b])?;
-    Ok(add(builder, axiom)??)
-}
-
-/// Two declarations, and a subclass axiom bare and with an annotation.
-fn fill_worked(alloc: Global, builder: &mut Builder) -> Result<(), Fail> {
-    declare(alloc, builder, "BA")?;
-    let note = comment(alloc, builder, 'x')?;
-    add_subclass(alloc, builder, &[note])?;
-    add_subclass(alloc, builder, &[])?;
-    Ok(())
-}
-
-fn worked(alloc: Global) -> Result<Doc, Fail> {
-    let mut builder = begun(alloc);
-    fill_worked(alloc, &mut builder)?;
-    Ok(builder.finish())
-}
-
-#[test]
-fn shared_trees_are_counted_once(rt: HostRuntime) -> Result<(), Fail> {
-    let doc = worked(rt.alloc())?;
-    let counts = Counts {
-        axioms: 4,
-        distinct: 11,
-        weight: 18,
-    };
-    assert_eq!(rt; doc.counts(rt.alloc())?, counts);
-    Ok(())
-}
-
-/// Whether each axiom comes before the next.
-fn ascends(doc: &Doc) -> bool {
-    let mut ascends = true;
-    for pair in doc.axioms().windows(2) {
-        match pair {
-            [first, second] if doc.arena().holds(*first) && doc.arena().holds(*second) => {
-                ascends = ascends && doc.arena().before(*first, *second);
-            }
-            _ => ascends = false,
-        }
-    }
-    ascends
-}
-
-#[test]
-fn axioms_stand_in_order(rt: HostRuntime) -> Result<(), Fail> {
-    let doc = worked(rt.alloc())?;
-    assert!(rt; ascends(&doc));
-    assert_eq!(rt; doc.axioms().len(), 4);
-    assert!(rt; doc.notes().is_empty());
     Ok(())
 }
 
