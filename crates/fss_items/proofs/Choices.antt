@@ -14,11 +14,11 @@ use Rattle.owl_tree.specs.declared.tag.Tag.TheVariants as tag
 use Rattle.owl_tree.specs.OrderLaws.{same_number}
 use Rattle.owl_tree.specs.Places.{counts}
 use Rattle.owl_tree.specs.PlacesLaws.{fits_by_place}
-use Rattle.owl_tree.specs.Rows.{Row, Leaf, Node, admits, fits, is_of_sort, is_tag, row_of, sort_of, takes}
+use Rattle.owl_tree.specs.Rows.{Row, Leaf, Node, admits, fits, is_of_sort, is_tag, row_of, sort_of, takes, is_bare, is_group}
 use Rattle.owl_tree.specs.Tags.{number_of}
 use Rattle.owl_tree.specs.Trees.{Tree, tag_of}
 use Rattle.owl_tree.specs.TreeLaws.{list_of_kids_of}
-use Rattle.owl_doc.specs.Spelling.{MeetsMinimum, is_bare, is_group}
+use Rattle.owl_doc.specs.Spelling.{MeetsMinimum}
 use Rattle.fss_items.specs.Bodies.{Closes}
 use Rattle.fss_items.proofs.Tables.{is_entity}
 use Rattle.fss_items.specs.Places.{group_of, is_pair_sort, leaf_of, may_close, meets_minimum}

@@ -8,12 +8,12 @@ use Rattle.owl_tree.specs.CanonicalLaws.{canonical_again}
 use Rattle.owl_tree.specs.declared.row.Rest.TheVariants as rest
 use Rattle.owl_tree.specs.declared.tag.Tag.{Tag}
 use Rattle.owl_tree.specs.declared.tag.Tag.TheVariants as tag
-use Rattle.owl_tree.specs.Rows.{Row, Leaf, Node, is_tag, row_of}
+use Rattle.owl_tree.specs.Rows.{Row, Leaf, Node, is_tag, row_of, is_bare}
 use Rattle.owl_tree.specs.Tags.{number_of}
 use Rattle.owl_tree.specs.Trees.{Tree, kids_of, node}
 use Rattle.owl_doc.specs.declared.term.Term.{Term}
 use Rattle.owl_doc.specs.declared.term.Term.TheVariants.{Closing}
-use Rattle.owl_doc.specs.Spelling.{MeetsMinimum, is_bare}
+use Rattle.owl_doc.specs.Spelling.{MeetsMinimum}
 use Rattle.fss_items.specs.declared.item_fault.ItemFault.{ItemFault}
 use Rattle.fss_items.specs.declared.item_fault.ItemFault.TheVariants.{Memory}
 use Rattle.fss_items.specs.declared.items.parts.Open as kept

@@ -9,7 +9,7 @@ use Rattle.owl_doc.specs.declared.term.Term.{Term}
 use Rattle.owl_doc.specs.declared.term.Term.TheVariants.{Closing}
 use Rattle.owl_doc.specs.declared.term.Term.TheVariants as term
 use Rattle.owl_doc.specs.Functional.{import_terms, item_terms}
-use Rattle.owl_doc.specs.Spelling.{closed, is_bare, spellings}
+use Rattle.owl_doc.specs.Spelling.{closed, spellings}
 use Rattle.fss_items.specs.declared.items.parts.Stage.{Stage}
 use Rattle.fss_items.specs.declared.items.parts.Stage.TheVariants.{Imports, Annotations, Axioms, Ended}
 use Rattle.fss_items.specs.declared.items.parts.Waiting.{Waiting}
@@ -17,6 +17,7 @@ use Rattle.fss_items.specs.declared.items.parts.Waiting.TheVariants as waiting
 use Rattle.fss_items.specs.Bodies.{Body, Completes, Completion, Construct, EndsWith, Goes, Remains, Takes}
 use Rattle.owl_doc.specs.Documents.{Document, ontology_of}
 use Rattle.owl_tree.specs.OntologyLaws.{canonical_same_ontology, same_ontology_sym, same_ontology_trans}
+use Rattle.owl_tree.specs.Rows.{is_bare}
 use Rattle.fss_items.specs.declared.items.Items.TheInside as items
 use Rattle.fss_items.specs.declared.items.parts.Open as kept
 use Rattle.fss_items.specs.InHand.{body_of, construct_of, constructs_before, terms_of}

@@ -4,14 +4,14 @@ use Rattle.std.specs.Prelude.{List, [], ◌∷◌, ◌++◌, length, if◌then�
 use Rattle.owl_tree.specs.declared.atom.Atom.{Atom}
 use Rattle.owl_tree.specs.declared.tag.Tag.{Tag}
 use Rattle.owl_tree.specs.declared.tag.Tag.TheVariants as tag
-use Rattle.owl_tree.specs.Rows.{is_tag, row_of}
+use Rattle.owl_tree.specs.Rows.{is_tag, row_of, is_bare, is_group}
 use Rattle.owl_tree.specs.Tags.{keyword_of}
 use Rattle.owl_tree.specs.Trees.{Tree, Kids, leaf, node, kids_of, list_of, tag_of}
 use Rattle.owl_tree.specs.TreeLaws.{kids_of_list_of, list_of_kids_of}
 use Rattle.owl_doc.specs.declared.term.Term.{Term}
 use Rattle.owl_doc.specs.declared.term.Term.TheVariants.{Keyword, Opening, Closing}
 use Rattle.owl_doc.specs.declared.term.Term.TheVariants as term
-use Rattle.owl_doc.specs.Spelling.{HasMembers, HaveMembers, MeetsMinimum, closed, is_bare, is_group, opened, spelling, spellings}
+use Rattle.owl_doc.specs.Spelling.{HasMembers, HaveMembers, MeetsMinimum, closed, opened, spelling, spellings}
 use Rattle.owl_tree.specs.Shape.{IsShaped}
 use Rattle.fss_items.specs.Bodies.{Closes, Goes}
 use Rattle.fss_items.specs.Places.{May, next_of}
@@ -43,23 +43,23 @@ pub closed_bracket : (t : Tag) (more : List Term) → is_bare t ≡ false → cl
 closed_bracket t more e = ap (λ (b : Bool). if b then more else Closing ∷ more) e
 
 -- how a tree begins, where it is the next in a construct
-pub data Begins (within : Tag) (k : Tree) (x : Term) (terms more : List Term) : Type 0 where
-  an_atom : (t : Tag) (a : Atom) → k ≡ leaf t a → is_tag tag.Declaration within ≡ false → x ≡ term.Atom a → terms ≡ more → Begins within k x terms more
-  an_entity : (t : Tag) (a : Atom) → k ≡ leaf t a → is_tag tag.Declaration within ≡ true → x ≡ Keyword (keyword_of t) → terms ≡ Opening ∷ term.Atom a ∷ Closing ∷ more → Begins within k x terms more
-  a_bare : (t : Tag) (ks : Kids) → k ≡ node t ks → is_bare t ≡ true → x ∷ terms ≡ spellings t ks (closed t more) → Begins within k x terms more
-  a_group : (t : Tag) (ks : Kids) → k ≡ node t ks → is_bare t ≡ false → is_group t ≡ true → x ≡ Opening → terms ≡ spellings t ks (closed t more) → Begins within k x terms more
-  a_construct : (t : Tag) (ks : Kids) → k ≡ node t ks → is_bare t ≡ false → is_group t ≡ false → x ≡ Keyword (keyword_of t) → terms ≡ Opening ∷ spellings t ks (closed t more) → Begins within k x terms more
+pub data BeginsTree (within : Tag) (k : Tree) (x : Term) (terms more : List Term) : Type 0 where
+  an_atom : (t : Tag) (a : Atom) → k ≡ leaf t a → is_tag tag.Declaration within ≡ false → x ≡ term.Atom a → terms ≡ more → BeginsTree within k x terms more
+  an_entity : (t : Tag) (a : Atom) → k ≡ leaf t a → is_tag tag.Declaration within ≡ true → x ≡ Keyword (keyword_of t) → terms ≡ Opening ∷ term.Atom a ∷ Closing ∷ more → BeginsTree within k x terms more
+  a_bare : (t : Tag) (ks : Kids) → k ≡ node t ks → is_bare t ≡ true → x ∷ terms ≡ spellings t ks (closed t more) → BeginsTree within k x terms more
+  a_group : (t : Tag) (ks : Kids) → k ≡ node t ks → is_bare t ≡ false → is_group t ≡ true → x ≡ Opening → terms ≡ spellings t ks (closed t more) → BeginsTree within k x terms more
+  a_construct : (t : Tag) (ks : Kids) → k ≡ node t ks → is_bare t ≡ false → is_group t ≡ false → x ≡ Keyword (keyword_of t) → terms ≡ Opening ∷ spellings t ks (closed t more) → BeginsTree within k x terms more
 
-leaf_begins : (within t : Tag) (a : Atom) (b : Bool) (x : Term) (terms more : List Term) → is_tag tag.Declaration within ≡ b → x ∷ terms ≡ (if b then Keyword (keyword_of t) ∷ Opening ∷ term.Atom a ∷ Closing ∷ more else term.Atom a ∷ more) → Begins within (leaf t a) x terms more
+leaf_begins : (within t : Tag) (a : Atom) (b : Bool) (x : Term) (terms more : List Term) → is_tag tag.Declaration within ≡ b → x ∷ terms ≡ (if b then Keyword (keyword_of t) ∷ Opening ∷ term.Atom a ∷ Closing ∷ more else term.Atom a ∷ more) → BeginsTree within (leaf t a) x terms more
 leaf_begins within t a true x terms more f e = an_entity t a refl f (head_is _ _ _ _ e) (tail_is _ _ _ _ e)
 leaf_begins within t a false x terms more f e = an_atom t a refl f (head_is _ _ _ _ e) (tail_is _ _ _ _ e)
 
-node_begins : (within t : Tag) (ks : Kids) (b g : Bool) (x : Term) (terms more inner : List Term) → is_bare t ≡ b → is_group t ≡ g → inner ≡ spellings t ks (closed t more) → x ∷ terms ≡ (if b then inner else (if g then Opening ∷ inner else Keyword (keyword_of t) ∷ Opening ∷ inner)) → Begins within (node t ks) x terms more
+node_begins : (within t : Tag) (ks : Kids) (b g : Bool) (x : Term) (terms more inner : List Term) → is_bare t ≡ b → is_group t ≡ g → inner ≡ spellings t ks (closed t more) → x ∷ terms ≡ (if b then inner else (if g then Opening ∷ inner else Keyword (keyword_of t) ∷ Opening ∷ inner)) → BeginsTree within (node t ks) x terms more
 node_begins within t ks true g x terms more inner f h i e = a_bare t ks refl f (e ∙ i)
 node_begins within t ks false true x terms more inner f h i e = a_group t ks refl f h (head_is _ _ _ _ e) (tail_is _ _ _ _ e ∙ i)
 node_begins within t ks false false x terms more inner f h i e = a_construct t ks refl f h (head_is _ _ _ _ e) (tail_is _ _ _ _ e ∙ ap (λ (ts : List Term). Opening ∷ ts) i)
 
-pub begins : (within : Tag) (k : Tree) (x : Term) (terms more : List Term) → x ∷ terms ≡ spelling within k more → Begins within k x terms more
+pub begins : (within : Tag) (k : Tree) (x : Term) (terms more : List Term) → x ∷ terms ≡ spelling within k more → BeginsTree within k x terms more
 begins within (leaf t a) x terms more e = leaf_begins within t a (is_tag tag.Declaration within) x terms more refl e
 begins within (node t ks) x terms more e = node_begins within t ks (is_bare t) (is_group t) x terms more (spellings t ks (closed t more)) refl refl refl e
 

@@ -36,4 +36,3 @@ pub mod Tops
 pub mod Turns
 pub mod Waited
 pub mod Wholes
-pub mod Words

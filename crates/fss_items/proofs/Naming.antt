@@ -10,7 +10,7 @@ use Rattle.owl_tree.specs.declared.row.Sort.TheVariants as sort
 use Rattle.owl_tree.specs.declared.tag.Tag.{Tag}
 use Rattle.owl_tree.specs.declared.tag.Tag.TheVariants as tag
 use Rattle.owl_tree.specs.Ontologies.{Ontology}
-use Rattle.owl_tree.specs.Rows.{admits, is_tag, row_of, sort_of, takes}
+use Rattle.owl_tree.specs.Rows.{admits, is_tag, row_of, sort_of, takes, is_bare}
 use Rattle.owl_tree.specs.Shape.{IsShaped}
 use Rattle.owl_tree.specs.Tags.{keyword_of, number_of}
 use Rattle.owl_tree.specs.Trees.{Tree, kids_of, leaf, tag_of}
@@ -18,7 +18,7 @@ use Rattle.owl_doc.specs.declared.term.Term.{Term}
 use Rattle.owl_doc.specs.declared.term.Term.TheVariants.{Closing}
 use Rattle.owl_doc.specs.declared.term.Term.TheVariants as term
 use Rattle.owl_doc.specs.Documents.{Document, ontology_of}
-use Rattle.owl_doc.specs.Spelling.{closed, is_bare, spellings}
+use Rattle.owl_doc.specs.Spelling.{closed, spellings}
 use Rattle.fss_items.specs.declared.item_fault.ItemFault.{ItemFault}
 use Rattle.fss_items.specs.declared.item_fault.ItemFault.TheVariants.{Memory}
 use Rattle.fss_items.specs.declared.items.parts.Open as kept
@@ -33,7 +33,7 @@ use Rattle.fss_items.specs.Places.{May, has_notes, leaf_of, next_of}
 use Rattle.fss_items.specs.Waits.{IsAmongNames, NameWaits, in_hand}
 use Rattle.fss_items.proofs.Changes.{bracket_notes, bracket_pair, ready_behind}
 use Rattle.fss_items.proofs.Choices.{leaf_is}
-use Rattle.fss_items.proofs.Firsts.{Begins, a_bare, a_construct, a_group, an_atom, an_entity, begins, closed_bracket, head_is, last_shaped, last_stands}
+use Rattle.fss_items.proofs.Firsts.{BeginsTree, a_bare, a_construct, a_group, an_atom, an_entity, begins, closed_bracket, head_is, last_shaped, last_stands}
 use Rattle.fss_items.proofs.Moves.{atom_closing, atom_is, atom_keyword, atom_opening, construct_turns, keyword_closing, opening_closing}
 use Rattle.fss_items.proofs.Names.{data_names, names_everywhere}
 use Rattle.fss_items.proofs.Sites.{no_pair_name}
@@ -103,7 +103,7 @@ no_bare_name later u e m = elim (bare_tag u e) [
 ]
 
 -- a tree that stands there doesn't begin with the bracket that ends it
-name_goes_on : (within : Tag) (k : Tree) (x : Term) (terms more : List Term) (later : ℕ) → May data_names later (tag_of k) → Begins within k x terms more → x ≡ Closing → ⊥
+name_goes_on : (within : Tag) (k : Tree) (x : Term) (terms more : List Term) (later : ℕ) → May data_names later (tag_of k) → BeginsTree within k x terms more → x ≡ Closing → ⊥
 name_goes_on within k x terms more later m (an_atom t a f h i j) c = atom_closing a (sym i ∙ c)
 name_goes_on within k x terms more later m (an_entity t a f h i j) c = keyword_closing (keyword_of t) (sym i ∙ c)
 name_goes_on within k x terms more later m (a_bare t ks f h i) c = no_bare_name later t h (subst (λ (j : Tree). May data_names later (tag_of j)) f m)

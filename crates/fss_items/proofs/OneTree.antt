@@ -9,7 +9,7 @@ use Rattle.owl_tree.specs.declared.row.Sort.TheVariants as sort
 use Rattle.owl_tree.specs.declared.tag.Tag.{Tag}
 use Rattle.owl_tree.specs.declared.tag.Tag.TheVariants as tag
 use Rattle.owl_tree.specs.OrderLaws.{same_number}
-use Rattle.owl_tree.specs.Rows.{Row, Leaf, Node, admits, fits, is_tag, row_of, sort_of, takes}
+use Rattle.owl_tree.specs.Rows.{Row, Leaf, Node, admits, fits, is_tag, row_of, sort_of, takes, is_bare, is_group}
 use Rattle.owl_tree.specs.Shape.{IsShaped}
 use Rattle.owl_tree.specs.Tags.{keyword_of, number_of}
 use Rattle.owl_tree.specs.Trees.{Tree, Kids, kids_of, leaf, list_of, node, no_kids, kid, tag_of}
@@ -17,13 +17,13 @@ use Rattle.owl_tree.specs.TreeLaws.{kids_of_list_of}
 use Rattle.owl_doc.specs.declared.term.Term.{Term}
 use Rattle.owl_doc.specs.declared.term.Term.TheVariants.{Keyword, Opening, Closing}
 use Rattle.owl_doc.specs.declared.term.Term.TheVariants as term
-use Rattle.owl_doc.specs.Spelling.{HaveMembers, IsWritten, closed, is_bare, is_group, opened, spelling, spellings}
+use Rattle.owl_doc.specs.Spelling.{HaveMembers, IsWritten, closed, opened, spelling, spellings}
 use Rattle.fss_items.specs.declared.items.places.Next.{Next}
 use Rattle.fss_items.specs.declared.items.places.Next.TheVariants as next
 use Rattle.fss_items.specs.Bodies.{Closes}
 use Rattle.fss_items.specs.Places.{May, has_notes, leaf_of, next_of}
 use Rattle.fss_items.proofs.Choices.{leaf_is}
-use Rattle.fss_items.proofs.Firsts.{Begins, an_atom, an_entity, a_bare, a_group, a_construct, begins, closed_bare, closed_bracket, head_is, opened_keyword, tail_is}
+use Rattle.fss_items.proofs.Firsts.{BeginsTree, an_atom, an_entity, a_bare, a_group, a_construct, begins, closed_bare, closed_bracket, head_is, opened_keyword, tail_is}
 use Rattle.fss_items.proofs.Going.{no_more, one_more}
 use Rattle.fss_items.proofs.Moves.{atom_closing, atom_is, atom_keyword, keyword_closing, keyword_opening, opening_closing, pair_begins, word_is}
 use Rattle.fss_items.proofs.Names.{data_names, names_everywhere}
@@ -207,7 +207,7 @@ module _ (t : Tag) (before : List Tree) (l : Tree) (ls : List Tree) (d : Closes 
   no_closing_bare v ks x more e h f (inl g) = no_notes t (length before) (length ls) h (subst (λ (u : Tag). May (next_of t (length before)) (length ls) u) (ap tag_of e ∙ g) kid_may)
   no_closing_bare v ks x more e h f (inr g) = let p = pair_first v ks Closing x more g (subst IsWritten e kid_written) f in atom_closing p.0 (sym p.1)
 
-  no_closing : (x more : List Term) → (length before ≡ 0 → has_notes t ≡ false) → Begins t l Closing x more → ⊥
+  no_closing : (x more : List Term) → (length before ≡ 0 → has_notes t ≡ false) → BeginsTree t l Closing x more → ⊥
   no_closing x more h (an_atom u a e f g i) = atom_closing _ (sym g)
   no_closing x more h (an_entity u a e f g i) = keyword_closing _ (sym g)
   no_closing x more h (a_bare u ks e f g) = no_closing_bare u ks x more e h g (bare_tag u f)
@@ -238,7 +238,7 @@ module _ (t : Tag) (before : List Tree) (l : Tree) (ls : List Tree) (d : Closes 
   no_note_bare v ks x more e h f (inl g) = no_notes t (length before) (length ls) h (subst (λ (u : Tag). May (next_of t (length before)) (length ls) u) (ap tag_of e ∙ g) kid_may)
   no_note_bare v ks x more e h f (inr g) = let p = pair_first v ks (Keyword (keyword_of tag.Annotation)) x more g (subst IsWritten e kid_written) f in atom_keyword p.0 _ (sym p.1)
 
-  no_note : (x more : List Term) → (length before ≡ 0 → has_notes t ≡ false) → is_tag tag.Notes t ≡ false → Begins t l (Keyword (keyword_of tag.Annotation)) x more → ⊥
+  no_note : (x more : List Term) → (length before ≡ 0 → has_notes t ≡ false) → is_tag tag.Notes t ≡ false → BeginsTree t l (Keyword (keyword_of tag.Annotation)) x more → ⊥
   no_note x more h n (an_atom u a e f g i) = atom_keyword _ _ (sym g)
   no_note x more h n (an_entity u a e f g i) = no_leaf_annotation a (subst (λ (v : Tag). IsShaped (leaf v a)) (sym (same_keyword tag.Annotation u (word_is _ _ g))) (subst IsShaped e kid_written.shaped))
   no_note x more h n (a_bare u ks e f g) = no_note_bare u ks x more e h g (bare_tag u f)

@@ -9,10 +9,10 @@ use Rattle.owl_tree.specs.declared.tag.Tag.TheVariants as tag
 use Rattle.owl_tree.specs.Ontologies.{Ontology}
 use Rattle.owl_tree.specs.Tags.{keyword_of, number_of}
 use Rattle.owl_tree.specs.Trees.{Tree, kids_of, node}
+use Rattle.owl_tree.specs.Rows.{is_bare, is_group}
 use Rattle.owl_doc.specs.declared.term.Term.{Term}
 use Rattle.owl_doc.specs.declared.term.Term.TheVariants.{Keyword, Opening, Closing}
 use Rattle.owl_doc.specs.Functional.{IsWithinLimits}
-use Rattle.owl_doc.specs.Spelling.{is_bare, is_group}
 use Rattle.fss_items.specs.declared.item_fault.ItemFault.{ItemFault}
 use Rattle.fss_items.specs.declared.items.parts.Open as kept
 use Rattle.fss_items.specs.declared.items.parts.Stage.{Stage}
@@ -112,7 +112,7 @@ deep_group [] u e n r = absurd (some_not_none u (sym e))
 deep_group (c ∷ cs) u e n r = λ stage whole o terms limits k. deep_construct stage whole o limits c cs u terms n ((turned_group (c ∷ cs) u e r).all stage whole o terms limits k)
 
 -- a keyword and its bracket begin a construct
-pub record Begins (cs : List Construct) (u : Tag) : Type 0 where
+pub record BeginsConstruct (cs : List Construct) (u : Tag) : Type 0 where
   pub all : (stage : Stage) (whole o : Ontology) (terms : List Term) → Completion cs stage whole o (Keyword (keyword_of u) ∷ Opening ∷ terms) → Completion (opened_with u cs) stage whole o terms
   pub only : (stage : Stage) (whole o : Ontology) (terms : List Term) → Completion (opened_with u cs) stage whole o terms → Completion cs stage whole o (Keyword (keyword_of u) ∷ Opening ∷ terms)
 
@@ -126,7 +126,7 @@ outside_begins stage whole o u terms n (item_comes v inner k f g i t more e j) =
     (subst (λ (ts : List Term). Goes v [] (Takes [] stage whole o) ts) (sym (tail_is _ _ _ _ g)) i)
 outside_begins stage whole o u terms n (body_ends m f g s) = absurd (keyword_closing_not (keyword_of u) f)
 
-pub begins : (cs : List Construct) (u : Tag) → IsKeyworded u → (codes "Import" ≡ keyword_of u → ⊥) → AreReady cs (Keyword (keyword_of u)) → Begins cs u
+pub begins : (cs : List Construct) (u : Tag) → IsKeyworded u → (codes "Import" ≡ keyword_of u → ⊥) → AreReady cs (Keyword (keyword_of u)) → BeginsConstruct cs u
 begins [] u k n r = record {
   all = λ stage whole o terms h. outside_begins stage whole o u terms n (item_turns stage whole o (Keyword (keyword_of u)) (Opening ∷ terms) h);
   only = λ stage whole o terms h. item_begins_back stage whole o u terms k h;

@@ -7,18 +7,18 @@ use Rattle.owl_tree.specs.declared.row.Sort.TheVariants as sort
 use Rattle.owl_tree.specs.declared.tag.Tag.{Tag}
 use Rattle.owl_tree.specs.declared.tag.Tag.TheVariants as tag
 use Rattle.owl_tree.specs.OrderLaws.{same_number}
-use Rattle.owl_tree.specs.Rows.{admits, fits, row_of}
+use Rattle.owl_tree.specs.Rows.{admits, fits, row_of, is_bare, is_group}
 use Rattle.owl_tree.specs.Shape.{IsShaped}
 use Rattle.owl_tree.specs.Tags.{keyword_of, number_of}
 use Rattle.owl_tree.specs.Trees.{Tree, kids_of, leaf, node, tag_of}
 use Rattle.owl_doc.specs.declared.term.Term.{Term}
 use Rattle.owl_doc.specs.declared.term.Term.TheVariants.{Keyword}
-use Rattle.owl_doc.specs.Spelling.{HasMembers, closed, is_bare, is_group, spelling, spellings}
+use Rattle.owl_doc.specs.Spelling.{HasMembers, closed, spelling, spellings}
 use Rattle.fss_items.specs.declared.items.places.Next.{Next}
 use Rattle.fss_items.specs.declared.items.places.Next.TheVariants as next
 use Rattle.fss_items.specs.Bodies.{Closes, Goes}
 use Rattle.fss_items.specs.Places.{May, has_notes, next_of}
-use Rattle.fss_items.proofs.Firsts.{Begins, an_atom, an_entity, a_bare, a_group, a_construct, back, begins, closed_bare, into, last_shaped, last_stands, opened_bare}
+use Rattle.fss_items.proofs.Firsts.{BeginsTree, an_atom, an_entity, a_bare, a_group, a_construct, back, begins, closed_bare, into, last_shaped, last_stands, opened_bare}
 use Rattle.fss_items.proofs.Going.{On, stops_back, stops_or_goes}
 
 -- where annotations stand first, nothing else does
@@ -90,7 +90,7 @@ unfolding number_of
 annotation_group e = false≢true e
 
 module _ (kids : List Tree) (on : On) (x : Term) (terms : List Term) (other : x ≡ Keyword (keyword_of tag.Annotation) → ⊥) where
-  no_more_notes : (k : Tree) (more : List Term) → tag_of k ≡ tag.Annotation → Goes tag.Notes (kids ++ k ∷ []) on more → Begins tag.Notes k x terms more → ⊥
+  no_more_notes : (k : Tree) (more : List Term) → tag_of k ≡ tag.Annotation → Goes tag.Notes (kids ++ k ∷ []) on more → BeginsTree tag.Notes k x terms more → ⊥
   no_more_notes k more e g (an_atom u a f h i j) = no_annotation_leaf a (subst (λ (v : Tag). IsShaped (leaf v a)) (sym (ap tag_of f) ∙ e) (subst IsShaped f (last_shaped tag.Notes kids on k more g)))
   no_more_notes k more e g (an_entity u a f h i j) = no_annotation_leaf a (subst (λ (v : Tag). IsShaped (leaf v a)) (sym (ap tag_of f) ∙ e) (subst IsShaped f (last_shaped tag.Notes kids on k more g)))
   no_more_notes k more e g (a_bare u ks f h i) = annotation_bare (subst (λ (v : Tag). is_bare v ≡ true) (sym (ap tag_of f) ∙ e) h)

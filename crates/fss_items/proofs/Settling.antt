@@ -6,12 +6,12 @@ use Rattle.owl_tree.specs.Canonical.{canonical}
 use Rattle.owl_tree.specs.CanonicalLaws.{canonical_again}
 use Rattle.owl_tree.specs.declared.tag.Tag.{Tag}
 use Rattle.owl_tree.specs.declared.tag.Tag.TheVariants as tag
-use Rattle.owl_tree.specs.Rows.{row_of}
+use Rattle.owl_tree.specs.Rows.{row_of, is_bare}
 use Rattle.owl_tree.specs.Tags.{keyword_of}
 use Rattle.owl_tree.specs.Trees.{Tree, kids_of, node}
 use Rattle.owl_doc.specs.declared.term.Term.{Term}
 use Rattle.owl_doc.specs.declared.term.Term.TheVariants.{Keyword}
-use Rattle.owl_doc.specs.Spelling.{MeetsMinimum, is_bare}
+use Rattle.owl_doc.specs.Spelling.{MeetsMinimum}
 use Rattle.fss_items.specs.Bodies.{Barred, Closes, Construct, Goes, Takes}
 use Rattle.fss_items.specs.Changes.{Settles}
 use Rattle.fss_items.specs.InHand.{shut_in}

@@ -6,7 +6,7 @@ use Rattle.owl_tree.specs.declared.atom.Atom.{Atom}
 use Rattle.owl_tree.specs.declared.tag.Tag.{Tag}
 use Rattle.owl_tree.specs.declared.tag.Tag.TheVariants as tag
 use Rattle.owl_tree.specs.Ontologies.{IsSameOntology, Ontology}
-use Rattle.owl_tree.specs.Rows.{is_tag, row_of}
+use Rattle.owl_tree.specs.Rows.{is_tag, row_of, is_bare, is_group}
 use Rattle.owl_tree.specs.Shape.{IsShaped}
 use Rattle.owl_tree.specs.Tags.{keyword_of, number_of}
 use Rattle.owl_tree.specs.Trees.{Tree, Kids, kids_of, leaf, list_of, node, tag_of}
@@ -15,7 +15,7 @@ use Rattle.owl_doc.specs.declared.term.Term.{Term}
 use Rattle.owl_doc.specs.declared.term.Term.TheVariants.{Keyword, Opening, Closing}
 use Rattle.owl_doc.specs.declared.term.Term.TheVariants as term
 use Rattle.owl_doc.specs.Functional.{iri_term}
-use Rattle.owl_doc.specs.Spelling.{HaveMembers, IsWritten, MeetsMinimum, closed, is_bare, is_group, spelling, spellings}
+use Rattle.owl_doc.specs.Spelling.{HaveMembers, IsWritten, MeetsMinimum, closed, spelling, spellings}
 use Rattle.fss_items.specs.declared.items.parts.Stage.{Stage}
 use Rattle.fss_items.specs.declared.items.parts.Stage.TheVariants.{Imports}
 use Rattle.fss_items.specs.Bodies.{EndsWith, Goes, MayAdd, Remains, Takes, with_import}

@@ -7,17 +7,17 @@ use Rattle.owl_tree.specs.declared.tag.Tag.{Tag}
 use Rattle.owl_tree.specs.declared.tag.Tag.TheVariants as tag
 use Rattle.owl_tree.specs.declared.row.Sort.TheVariants.{Facet as facet}
 use Rattle.owl_tree.specs.OrderLaws.{same_number}
-use Rattle.owl_tree.specs.Rows.{admits, is_tag, row_of}
+use Rattle.owl_tree.specs.Rows.{admits, is_tag, row_of, is_bare, is_group}
 use Rattle.owl_tree.specs.Shape.{IsShaped}
 use Rattle.owl_tree.specs.Tags.{keyword_of}
 use Rattle.owl_tree.specs.Trees.{Tree, Kids, leaf, node, kids_of, tag_of}
 use Rattle.owl_doc.specs.declared.term.Term.{Term}
 use Rattle.owl_doc.specs.declared.term.Term.TheVariants.{Keyword, Opening, Closing}
 use Rattle.owl_doc.specs.declared.term.Term.TheVariants as term
-use Rattle.owl_doc.specs.Spelling.{HasMembers, closed, is_bare, is_group, spellings}
+use Rattle.owl_doc.specs.Spelling.{HasMembers, closed, spellings}
 use Rattle.fss_items.specs.Bodies.{Closes, Goes, IsReady}
 use Rattle.fss_items.specs.Places.{May, has_notes, next_of}
-use Rattle.fss_items.proofs.Firsts.{Begins, an_atom, an_entity, a_bare, a_group, a_construct, begins, closed_bare, closed_bracket, head_is, into, last_shaped, last_stands, tail_is}
+use Rattle.fss_items.proofs.Firsts.{BeginsTree, an_atom, an_entity, a_bare, a_group, a_construct, begins, closed_bare, closed_bracket, head_is, into, last_shaped, last_stands, tail_is}
 use Rattle.fss_items.proofs.Going.{On, Stops, stops_or_goes}
 use Rattle.fss_items.proofs.Tables.{no_notes}
 
@@ -58,7 +58,7 @@ module _ (t : Tag) (kids : List Tree) (on : On) (x : Term) (terms : List Term) w
       let goes = subst (λ (ts : List Term). Goes u [] Inner ts) (sym e) (into t kids on u ks more m g) in
       a_pair_comes (length g.later, there) (subst (λ (v : Tag). Goes v [] Inner (x ∷ terms)) f goes)
 
-  first_comes : (k : Tree) (more : List Term) → (length kids ≡ 0 → has_notes t ≡ false) → HasMembers k → (g : Goes t (kids ++ k ∷ []) on more) → Begins t k x terms more → Turns
+  first_comes : (k : Tree) (more : List Term) → (length kids ≡ 0 → has_notes t ≡ false) → HasMembers k → (g : Goes t (kids ++ k ∷ []) on more) → BeginsTree t k x terms more → Turns
   first_comes k more h m g (an_atom u a e f i j) =
       an_atom_comes u a f i (subst (λ (ts : List Term). Goes t (kids ++ leaf u a ∷ []) on ts) (sym j) (subst (λ (v : Tree). Goes t (kids ++ v ∷ []) on more) e g))
   first_comes k more h m g (an_entity u a e f i j) = an_entity_comes u a more f i j (subst (λ (v : Tree). Goes t (kids ++ v ∷ []) on more) e g)

@@ -2,7 +2,6 @@
 use Rattle.std.specs.Prelude.{◌≡◌, ◌-◌, ℕ, zero, suc, Bool, true, false, not, nat_eq, ◌&&◌, ◌||◌, nat_le, length, slice_get, Option, None, Some, if◌then◌else◌}
 use Rattle.owl_tree.specs.declared.tag.Tag.{Tag}
 use Rattle.owl_tree.specs.declared.tag.Tag.TheVariants as tag
-use Rattle.owl_doc.specs.Spelling.{is_bare, is_group}
 use Rattle.owl_tree.specs.declared.row.AtomSort.{AtomSort}
 use Rattle.owl_tree.specs.declared.row.AtomSort.TheVariants as atom
 use Rattle.owl_tree.specs.declared.row.Sort.{Sort}
@@ -11,7 +10,7 @@ use Rattle.owl_tree.specs.Places.{counts}
 use Rattle.owl_tree.specs.declared.row.Rest.{Rest}
 use Rattle.owl_tree.specs.declared.row.Rest.TheVariants as rest
 use Rattle.owl_tree.specs.Tags.{is_axiom}
-use Rattle.owl_tree.specs.Rows.{Row, Leaf, Node, admits, is_tag, row_of}
+use Rattle.owl_tree.specs.Rows.{Row, Leaf, Node, admits, is_tag, row_of, is_bare, is_group}
 use Rattle.fss_items.specs.declared.items.parts.AtomPlace.{AtomPlace}
 use Rattle.fss_items.specs.declared.items.parts.AtomPlace.TheVariants as place
 use Rattle.fss_items.specs.declared.items.places.Next.{Next}

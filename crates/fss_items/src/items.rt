@@ -28,7 +28,6 @@ mod sites;
 mod stack;
 mod steps;
 mod waiting;
-mod words;
 
 use parts::{Open, Stage, Waiting};
 use sites::{expects_behind, expects_in};

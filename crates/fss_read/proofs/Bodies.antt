@@ -9,7 +9,7 @@ use Rattle.owl_text.specs.declared.token.Sign.TheVariants as sign
 use Rattle.owl_atom.specs.declared.prefixes.Prefix.{Prefix}
 use Rattle.owl_atom.specs.declared.fault.LiteralFault.{LiteralFault}
 use Rattle.owl_atom.specs.declared.fault.LiteralFault.TheVariants as literal_fault
-use Rattle.owl_atom.specs.Literals.{Denotes, LiteralParts}
+use Rattle.owl_atom.specs.Literals.{DenotesLiteral, LiteralParts}
 use Rattle.owl_tree.specs.declared.atom.Atom.{Atom}
 use Rattle.owl_tree.specs.declared.atom.Atom.TheVariants as atom
 use Rattle.owl_tree.specs.declared.row.AtomSort.{AtomSort}
@@ -108,8 +108,8 @@ literal_is prefixes l other more terms e f = subst (λ (y : LiteralParts). First
 
 -- what is known of a literal that was made
 pub record Made (form : List ℕ) (datatype tag : Option (List ℕ)) (l : LiteralParts) : Type 0 where
-  pub denotes : Denotes form datatype tag l
-  pub only : (other : LiteralParts) → Denotes form datatype tag other → other ≡ l
+  pub denotes : DenotesLiteral form datatype tag l
+  pub only : (other : LiteralParts) → DenotesLiteral form datatype tag other → other ≡ l
 
 pub plain_passes : (old new : Body) (form : List ℕ) (l : LiteralParts) → Made form None None l → Steps old (term.Atom (atom.Literal l)) new → new.prefixes ≡ old.prefixes → StringPasses old form new
 plain_passes old new form l made steps same = record {
@@ -138,10 +138,10 @@ tagged_blocks old form tag l made bars more o w s =
     barred old (term.Atom (atom.Literal l)) more s.terms o bars w (literal_is old.prefixes l f.literal more s.terms (made.only f.literal f.denotes) f.first) s.completes
 
 -- a string that no literal with a tag, or with neither, is made of
-pub tagged_none : (old : Body) (form tag : List ℕ) → ((l : LiteralParts) → Denotes form None (Some tag) l → ⊥) → BodyBlocks old (token.Str form ∷ token.At tag ∷ [])
+pub tagged_none : (old : Body) (form tag : List ℕ) → ((l : LiteralParts) → DenotesLiteral form None (Some tag) l → ⊥) → BodyBlocks old (token.Str form ∷ token.At tag ∷ [])
 tagged_none old form tag none_such more o w s = let f = tagged_first old.prefixes form tag more s.terms s.are in none_such f.literal f.denotes
 
-pub plain_none : (old : Body) (form : List ℕ) → ((l : LiteralParts) → Denotes form None None l → ⊥) → StringBlocks old form
+pub plain_none : (old : Body) (form : List ℕ) → ((l : LiteralParts) → DenotesLiteral form None None l → ⊥) → StringBlocks old form
 plain_none old form none_such more o h w s = let f = plain_first old.prefixes form more s.terms h s.are in none_such f.literal f.denotes
 
 module _ (old : Body) (form datatype : List ℕ) (name : Token) (names : iri_of_token old.prefixes name ≡ Some datatype) where
@@ -165,7 +165,7 @@ module _ (old : Body) (form datatype : List ℕ) (name : Token) (names : iri_of_
       let f = typed_literal more s.terms s.are in
       barred old (term.Atom (atom.Literal l)) more s.terms o bars w (literal_is old.prefixes l f.literal more s.terms (made.only f.literal f.denotes) f.first) s.completes
 
-  pub typed_none : ((l : LiteralParts) → Denotes form (Some datatype) None l → ⊥) → BodyBlocks old (token.Str form ∷ token.Sign sign.Carets ∷ name ∷ [])
+  pub typed_none : ((l : LiteralParts) → DenotesLiteral form (Some datatype) None l → ⊥) → BodyBlocks old (token.Str form ∷ token.Sign sign.Carets ∷ name ∷ [])
   typed_none none_such more o w s = let f = typed_literal more s.terms s.are in none_such f.literal f.denotes
 
 pub untyped_blocks : (old : Body) (form : List ℕ) (name : Token) → iri_of_token old.prefixes name ≡ None → BodyBlocks old (token.Str form ∷ token.Sign sign.Carets ∷ name ∷ [])
@@ -218,6 +218,6 @@ pub bad_literal : (fault : LiteralFault) (told : TokenFault) → told ≡ of_lit
 bad_literal literal_fault.BadLiteral told is no_memory = refl
 bad_literal literal_fault.Memory told is no_memory = absurd (no_memory is)
 
-pub tagged_made : (shown form shown_tag tag : List ℕ) (l : LiteralParts) → shown ≡ form → shown_tag ≡ tag → Denotes shown None (Some shown_tag) l → ((other : LiteralParts) → Denotes shown None (Some shown_tag) other → other ≡ l) → Made form None (Some tag) l
+pub tagged_made : (shown form shown_tag tag : List ℕ) (l : LiteralParts) → shown ≡ form → shown_tag ≡ tag → DenotesLiteral shown None (Some shown_tag) l → ((other : LiteralParts) → DenotesLiteral shown None (Some shown_tag) other → other ≡ l) → Made form None (Some tag) l
 tagged_made shown form shown_tag tag l e f ok only =
     subst (λ (x : List ℕ). Made x None (Some tag) l) e (subst (λ (x : List ℕ). Made shown None (Some x) l) f (record { denotes = ok; only = only }))

@@ -8,7 +8,7 @@ use Rattle.owl_list.specs.AscendingLaws.{all_later, in_cases, in_head, in_none, 
 use Rattle.owl_text.specs.Order.{text_eq}
 use Rattle.owl_atom.specs.declared.prefixes.Prefix.{Prefix}
 use Rattle.owl_atom.specs.Prefixes.{IsTable, fixed_prefixes, is_declared, is_fixed, prefix_in}
-use Rattle.owl_atom.proofs.PrefixTables.{tables_are_told_by_names}
+use Rattle.owl_atom.specs.PrefixLaws.{tables_are_told_by_names}
 use Rattle.owl_doc.specs.Functional.{AreDeclarable, IsDeclarable, IsTableOf, PrefixDeclaration, declaration_of, declared_prefix}
 use Rattle.fss_read.specs.Parsing.{IsDeclarableIn, Makes, MakesOne, declared_in}
 

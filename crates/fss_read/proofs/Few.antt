@@ -3,14 +3,15 @@ use Rattle.std.proofs.Common.{◌≡◌, ◌≤◌, ◌+◌, ◌*◌, ◌^◌, �
 use Rattle.std.specs.Str.{encode_utf8_all}
 use Rattle.std.proofs.lemmas.List.{length-append}
 use Rattle.std.proofs.lemmas.Str.{length-le-encodes}
+use Rattle.owl_text.specs.Limit.{most_bytes}
 use Rattle.owl_text.specs.Lexing.{AddsLast, Begun, Continues, EndsAt, SplitsBehind}
-use Rattle.owl_text.specs.Tokens.{Begins, SplitsFrom, behind_mark, is_mark}
+use Rattle.owl_text.specs.Tokens.{BeginsToken, SplitsFrom, behind_mark, is_mark}
 use Rattle.owl_text.specs.Utf8.{Decodes}
 use Rattle.owl_text.specs.declared.fault.LexFault.{LexFault}
 use Rattle.owl_text.specs.declared.token.Placed.{Placed}
-use Rattle.owl_text.proofs.Leads.{spelled_lead}
+use Rattle.owl_text.specs.LeadLaws.{spelled_lead}
 
-shorter : (place : ℕ) (cs : List ℕ) (first : Placed) (next : ℕ) (rest : List ℕ) → Begins place cs first next rest → length rest + 1 ≤ length cs
+shorter : (place : ℕ) (cs : List ℕ) (first : Placed) (next : ℕ) (rest : List ℕ) → BeginsToken place cs first next rest → length rest + 1 ≤ length cs
 shorter place cs first next rest b =
     let lead = spelled_lead first.token b.spelling b.token in
     omega (arith, ap (λ (x : List ℕ). length x) b.parts, length-append b.gap (b.spelling ++ rest), length-append b.spelling rest, ap (λ (x : List ℕ). length x) lead.is)
@@ -42,12 +43,12 @@ few_tokens begun more tokens ending h =
 
 -- so there is room for those before a fault
 
-pub room_before : (begun : Begun) (bytes : List ℕ) (before after : List Placed) (fault : LexFault) (count fed : ℕ) → before ≡ [] → EndsAt begun bytes before after fault → count + 2 * length begun.held ≤ 2 * fed → fed + length bytes ≤ 2 ^ 27 → count + 2 * length after ≤ 2 ^ 28
+pub room_before : (begun : Begun) (bytes : List ℕ) (before after : List Placed) (fault : LexFault) (count fed : ℕ) → before ≡ [] → EndsAt begun bytes before after fault → count + 2 * length begun.held ≤ 2 * fed → fed + length bytes ≤ most_bytes → count + 2 * length after ≤ 2 ^ 28
 room_before begun bytes before after fault count fed nothing ends few within =
     let given : after ≡ ends.given = ends.added ∙ ap (λ (x : List Placed). x ++ ends.given) nothing in
     omega (arith, few, within, ap (λ (x : List Placed). length x) given, few_tokens begun (bytes ++ []) ends.given (Some fault) (ends.ends []), length-append bytes [])
 
-pub room_last : (begun : Begun) (before after : List Placed) (fault : LexFault) (count fed : ℕ) → before ≡ [] → AddsLast begun before after (Some fault) → count + 2 * length begun.held ≤ 2 * fed → fed ≤ 2 ^ 27 → count + 2 * length after ≤ 2 ^ 28
+pub room_last : (begun : Begun) (before after : List Placed) (fault : LexFault) (count fed : ℕ) → before ≡ [] → AddsLast begun before after (Some fault) → count + 2 * length begun.held ≤ 2 * fed → fed ≤ most_bytes → count + 2 * length after ≤ 2 ^ 28
 room_last begun before after fault count fed nothing ends few within =
     let given : after ≡ ends.given = ends.added ∙ ap (λ (x : List Placed). x ++ ends.given) nothing in
     omega (arith, few, within, ap (λ (x : List Placed). length x) given, few_tokens begun [] ends.given (Some fault) ends.continues)

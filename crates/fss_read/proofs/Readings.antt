@@ -1,7 +1,8 @@
 -- What bytes make of a reader.
-use Rattle.std.proofs.Common.{◌≡◌, ◌≢◌, ◌≤◌, ◌<◌, ◌+◌, ◌^◌, ℕ, true, Option, None, Some, List, [], ◌∷◌, ◌++◌, length, Result, Ok, Err, IfErr, OnOk, refl, sym, ap, ◌∙◌, subst, arith}
+use Rattle.std.proofs.Common.{◌≡◌, ◌≢◌, ◌≤◌, ◌<◌, ◌+◌, ℕ, true, Option, None, Some, List, [], ◌∷◌, ◌++◌, length, Result, Ok, Err, IfErr, OnOk, refl, sym, ap, ◌∙◌, subst, arith}
 use Rattle.std.specs.List.{AllByRecursion}
 use Rattle.std.proofs.lemmas.List.{append-nil, length-append}
+use Rattle.owl_text.specs.Limit.{most_bytes}
 use Rattle.owl_text.specs.Lexing.{Adds, AddsLast, Begun, Continues, EndsAt}
 use Rattle.owl_text.specs.declared.fault.LexFault.{LexFault}
 use Rattle.owl_text.specs.declared.token.Placed.{Placed}
@@ -90,7 +91,7 @@ last_refused begun old fed before after fault ends prefixes o a =
     cc
 
 -- too many bytes
-pub long_refused : (begun : Begun) (old : Parse) (fed : ℕ) (bytes : List ℕ) → 2 ^ 27 < fed + length bytes → IsRefused begun old fed bytes
+pub long_refused : (begun : Begun) (old : Parse) (fed : ℕ) (bytes : List ℕ) → most_bytes < fed + length bytes → IsRefused begun old fed bytes
 long_refused begun old fed bytes long more prefixes o a = absurd (omega (arith, a.few, length-append bytes more))
 
 -- the end
@@ -103,7 +104,7 @@ module _ (begun : Begun) (old : Parse) (fed : ℕ) (before after : List Placed) 
       let same = (same_continues begun [] a.placed adds.given None None a.continues adds.continues).tokens in
       subst (λ (x : List Placed). Takes old (tokens_of x) prefixes o) (same ∙ last_given) a.takes
 
-  pub end_awaits : (d : Document) → fed ≤ 2 ^ 27 → EndsWith old (tokens_of after) d → IsWithinLimits (ontology_of d) → AwaitsAt begun old fed [] d.prefixes (ontology_of d)
+  pub end_awaits : (d : Document) → fed ≤ most_bytes → EndsWith old (tokens_of after) d → IsWithinLimits (ontology_of d) → AwaitsAt begun old fed [] d.prefixes (ontology_of d)
   end_awaits d few ends within = record {
     placed = after;
     few = omega arith;

@@ -6,7 +6,7 @@ use Rattle.owl_text.specs.declared.token.Token.{Token}
 use Rattle.owl_text.specs.declared.token.Token.TheVariants as token
 use Rattle.owl_text.specs.declared.token.Sign.TheVariants as sign
 use Rattle.owl_atom.specs.declared.prefixes.Prefix.{Prefix}
-use Rattle.owl_atom.specs.Literals.{Denotes, LiteralParts}
+use Rattle.owl_atom.specs.Literals.{DenotesLiteral, LiteralParts}
 use Rattle.owl_tree.specs.declared.atom.Atom.TheVariants as atom
 use Rattle.owl_doc.specs.Terms.{AreTerms, BeginsLiteral, iri_of_token, plain, tagged, typed}
 use Rattle.owl_doc.specs.declared.term.Term.{Term}
@@ -174,7 +174,7 @@ string_first prefixes form more (term.Atom (atom.Number number) ∷ others) a = 
 -- The terms are a literal that is denoted so, and others, which are the tokens that follow.
 pub record LiteralFirst (prefixes : List Prefix) (form : List ℕ) (datatype tag : Option (List ℕ)) (more : List Token) (terms : List Term) : Type 0 where
   pub literal : LiteralParts
-  pub denotes : Denotes form datatype tag literal
+  pub denotes : DenotesLiteral form datatype tag literal
   pub first : First prefixes (term.Atom (atom.Literal literal)) more terms
 
 moved : (prefixes : List Prefix) (x : Term) (rest more : List Token) (terms : List Term) → rest ≡ more → First prefixes x rest terms → First prefixes x more terms
@@ -183,7 +183,7 @@ moved prefixes x rest more terms e f = subst (λ (y : List Token). First prefixe
 plain_at : (prefixes : List Prefix) (form : List ℕ) (more rest : List Token) (terms : List Term) (l : LiteralParts) → ends_string more ≡ true → BeginsLiteral prefixes (token.Str form ∷ more) l rest → First prefixes (term.Atom (atom.Literal l)) rest terms → LiteralFirst prefixes form None None more terms
 plain_at prefixes form more rest terms l h (plain f e d) first =
     let same : f ≡ form = cc in
-    record { literal = l; denotes = subst (λ (x : List ℕ). Denotes x None None l) same d; first = moved prefixes (term.Atom (atom.Literal l)) rest more terms (cc) first }
+    record { literal = l; denotes = subst (λ (x : List ℕ). DenotesLiteral x None None l) same d; first = moved prefixes (term.Atom (atom.Literal l)) rest more terms (cc) first }
 plain_at prefixes form more rest terms l h (tagged f tag e d) first =
     let same : more ≡ token.At tag ∷ rest = cc in
     let k : ends_string more ≡ false = ap ends_string same in
@@ -203,7 +203,7 @@ tagged_at prefixes form tag more rest terms l (plain f e d) first =
 tagged_at prefixes form tag more rest terms l (tagged f t e d) first =
     let same : f ≡ form = cc in
     let too : t ≡ tag = cc in
-    record { literal = l; denotes = subst (λ (x : List ℕ). Denotes form None (Some x) l) too (subst (λ (x : List ℕ). Denotes x None (Some t) l) same d); first = moved prefixes (term.Atom (atom.Literal l)) rest more terms (cc) first }
+    record { literal = l; denotes = subst (λ (x : List ℕ). DenotesLiteral form None (Some x) l) too (subst (λ (x : List ℕ). DenotesLiteral x None (Some t) l) same d); first = moved prefixes (term.Atom (atom.Literal l)) rest more terms (cc) first }
 tagged_at prefixes form tag more rest terms l (typed f datatype name e i d) first = absurd (cc)
 
 pub tagged_first : (prefixes : List Prefix) (form tag : List ℕ) (more : List Token) (terms : List Term) → AreTerms prefixes (token.Str form ∷ token.At tag ∷ more) terms → LiteralFirst prefixes form None (Some tag) more terms
@@ -226,7 +226,7 @@ typed_at prefixes form name more rest terms l (typed f datatype n e i d) first =
     record {
       datatype = datatype;
       names = sym (ap (iri_of_token prefixes) too) ∙ i;
-      literal = record { literal = l; denotes = subst (λ (x : List ℕ). Denotes x (Some datatype) None l) same d; first = moved prefixes (term.Atom (atom.Literal l)) rest more terms (cc) first };
+      literal = record { literal = l; denotes = subst (λ (x : List ℕ). DenotesLiteral x (Some datatype) None l) same d; first = moved prefixes (term.Atom (atom.Literal l)) rest more terms (cc) first };
     }
 
 pub typed_first : (prefixes : List Prefix) (form : List ℕ) (name : Token) (more : List Token) (terms : List Term) → AreTerms prefixes (token.Str form ∷ token.Sign sign.Carets ∷ name ∷ more) terms → TypedFirst prefixes form name more terms

@@ -10,12 +10,12 @@ use Rattle.owl_tree.specs.declared.tag.Tag.{Tag}
 use Rattle.owl_tree.specs.declared.tag.Tag.TheVariants as tag
 use Rattle.owl_tree.specs.Atoms.{IsAtom}
 use Rattle.owl_tree.specs.Ontologies.{Ontology}
-use Rattle.owl_tree.specs.Rows.{Row, Leaf, Node, is_tag, row_of, takes}
+use Rattle.owl_tree.specs.Rows.{Row, Leaf, Node, is_tag, row_of, takes, is_bare, is_group}
 use Rattle.owl_tree.specs.Shape.{AreShaped, IsShaped}
 use Rattle.owl_tree.specs.Tags.{is_axiom, keyword_of, number_of}
 use Rattle.owl_tree.specs.Trees.{Tree, Kids, leaf, node, no_kids, kid, tag_of}
 use Rattle.owl_doc.specs.Functional.{IsWrittenAnnotation, IsWrittenAxiom, IsWrittenOntology, body_terms, import_terms, iri_term, item_terms}
-use Rattle.owl_doc.specs.Spelling.{closed, is_bare, is_group, leaf_spelling, opened, spelling, spellings}
+use Rattle.owl_doc.specs.Spelling.{closed, leaf_spelling, opened, spelling, spellings}
 use Rattle.owl_doc.specs.declared.term.Term.{Term}
 use Rattle.owl_doc.specs.declared.term.Term.TheVariants as term
 use Rattle.fss_read.specs.Parsing.{FitsLeaf}

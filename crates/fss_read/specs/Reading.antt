@@ -2,9 +2,10 @@
 use Rattle.std.specs.Prelude.{◌≡◌, ◌≤◌, ◌+◌, ◌*◌, ℕ, Option, None, List, [], ◌++◌, length}
 use Rattle.owl_text.specs.Lexing.{Begun, Continues, Lexing}
 use Rattle.owl_text.specs.declared.token.Placed.{Placed}
+use Rattle.owl_text.specs.Limit.{most_bytes}
 use Rattle.owl_atom.specs.declared.prefixes.Prefix.{Prefix}
 use Rattle.owl_tree.specs.Ontologies.{Ontology}
-use Rattle.owl_doc.specs.Functional.{IsWithinLimits, Reads, longest}
+use Rattle.owl_doc.specs.Functional.{IsWithinLimits, ReadsFunctional}
 use Rattle.owl_doc.specs.Terms.{tokens_of}
 use Rattle.fss_read.specs.Parsing.{IsWell, Parse, Takes, count_of}
 use Rattle.fss_read.specs.declared.fault.ReadFault.{ReadFault}
@@ -19,7 +20,7 @@ pub record Reading : Type 0 where
 -- When these bytes follow what was fed, and then the end, they are a document with these prefixes that says this ontology.
 pub record AwaitsAt (begun : Begun) (parse : Parse) (fed : ℕ) (more : List ℕ) (prefixes : List Prefix) (o : Ontology) : Type 0 where
   pub placed : List Placed
-  pub few : fed + length more ≤ longest
+  pub few : fed + length more ≤ most_bytes
   pub continues : Continues begun more placed None
   pub takes : Takes parse (tokens_of placed) prefixes o
   pub within : IsWithinLimits o
@@ -36,8 +37,8 @@ pub record Leads (old : Reading) (bytes : List ℕ) (new : Reading) : Type 0 whe
 
 -- Nothing was read yet: the documents that can come are those that the bytes are.
 pub record Starts (reading : Reading) : Type 0 where
-  pub all : (bytes : List ℕ) (prefixes : List Prefix) (o : Ontology) → Reads bytes prefixes o → Awaits reading bytes prefixes o
-  pub only : (bytes : List ℕ) (prefixes : List Prefix) (o : Ontology) → Awaits reading bytes prefixes o → Reads bytes prefixes o
+  pub all : (bytes : List ℕ) (prefixes : List Prefix) (o : Ontology) → ReadsFunctional bytes prefixes o → Awaits reading bytes prefixes o
+  pub only : (bytes : List ℕ) (prefixes : List Prefix) (o : Ontology) → Awaits reading bytes prefixes o → ReadsFunctional bytes prefixes o
 
 -- No document comes of what was read and these bytes, whatever follows.
 abbrev pub Refuses : Reading → List ℕ → Type 0

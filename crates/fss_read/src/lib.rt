@@ -12,7 +12,7 @@ mod stage;
 mod token_fault;
 
 pub use fault::{ReadFault, Reason};
-pub use reader::{MOST_BYTES, Reader};
+pub use reader::Reader;
 
 #[cfg(test)]
 mod tests;

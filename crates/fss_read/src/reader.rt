@@ -7,6 +7,7 @@ ghost use Rattle.owl_doc.specs.Documents.{ontology_of};
 ghost use Rattle.owl_doc.specs.Functional.{IsWithinLimits};
 ghost use Rattle.owl_doc.specs.Terms.{tokens_of};
 ghost use Rattle.owl_text.specs.Lexing.{AreTokens};
+ghost use Rattle.owl_text.specs.Limit.{most_bytes};
 ghost use Rattle.owl_text.specs.declared.fault.LexFault.{LexFault};
 ghost use Rattle.fss_read.specs.Parsing.{EndsInNothingWith, EndsWith, IsWell, count_of, parse_of};
 ghost use Rattle.fss_read.specs.Reading.{Awaits, AwaitsAt, EndsInNone, IsOpen, IsNone, IsRefused, LeadTo, Leads, Refuses, Starts};
@@ -15,12 +16,9 @@ ghost use Rattle.fss_read.specs.declared.fault.ReadFault.{ReadFault};
 use crate::fault::ReadFault;
 use crate::parser::Parser;
 use owl_doc::Doc;
-use owl_text::{Dialect, LexFault, Lexer, NoMemory, Placed};
+use owl_text::{Dialect, LexFault, Lexer, MOST_BYTES, NoMemory, Placed};
 use std::alloc::Global;
 use std::marker::Model;
-
-/// The most bytes that a document may have, 2^27.
-pub const MOST_BYTES: u64 = 1 << 27;
 
 /// Reads a document in Functional-Style Syntax (Structural Specification, section 3.7) from bytes that come in pieces.
 ///
@@ -45,13 +43,14 @@ impl Model for Reader {
 
     ghost coded = { Prim.hlevel (codes, coded_tree) };
 
-    ghost use Rattle.std.specs.Prelude.{◌≡◌, ◌≤◌, ◌^◌, None};
+    ghost use Rattle.std.specs.Prelude.{◌≡◌, ◌≤◌, None};
+    ghost use Rattle.owl_text.specs.Limit.{most_bytes};
     ghost use Rattle.fss_read.specs.Parsing.{parse_of};
     ghost use Rattle.fss_read.specs.Reading.{IsOpen};
 
     ghost view = { λ r. record { begun = r.lexer.begun; parse = parse_of r.parser; fed = r.fed; refused = r.refused } };
 
-    ghost invariant = { λ r. (r.fed ≤ 2 ^ 27) × (r.refused ≡ None → IsOpen r.lexer (parse_of r.parser) r.fed) };
+    ghost invariant = { λ r. (r.fed ≤ most_bytes) × (r.refused ≡ None → IsOpen r.lexer (parse_of r.parser) r.fed) };
 }
 
 impl Reader {
@@ -80,9 +79,9 @@ impl Reader {
         ensures refusal { self.old.refused ≡ None → IfErr result (λ fault. fault ≢ ReadFault.Memory → Refuses self.old piece.now) }
         ensures fed { OnOk result (self.new.fed ≡ self.old.fed + length piece.now) }
         ensures open_yet { OnOk result ((self.old.refused ≡ None) × (self.new.refused ≡ None)) }
-        ensures within { OnOk result (self.new.fed ≤ 2 ^ 27) }
-        ensures too_long { self.old.refused ≡ None → IsErrOf result ReadFault.TooLong → 2 ^ 27 < self.old.fed + length piece.now }
-        ensures past { 2 ^ 27 < self.old.fed + length piece.now → IsErr result }
+        ensures within { OnOk result (self.new.fed ≤ most_bytes) }
+        ensures too_long { self.old.refused ≡ None → IsErrOf result ReadFault.TooLong → most_bytes < self.old.fed + length piece.now }
+        ensures past { most_bytes < self.old.fed + length piece.now → IsErr result }
         ensures empty { self.old.refused ≡ None → piece.now ≡ [] → IsOk result }
         ensures keeps { IfErr result (λ fault. self.new.refused ≡ Some fault) }
         ensures same { (fault : ReadFault) → self.old.refused ≡ Some fault → result ≡ Err fault }
@@ -146,12 +145,12 @@ fn read(
     piece: &[u8],
 ) -> Result<(), ReadFault>
     requires open_yet { IsOpen lexer.old (parse_of parser.old) fed }
-    requires within { fed ≤ 2 ^ 27 }
+    requires within { fed ≤ most_bytes }
     ensures leads { OnOk result (LeadTo lexer.old.begun (parse_of parser.old) fed piece.now lexer.new.begun (parse_of parser.new)) }
     ensures refusal { IfErr result (λ fault. fault ≢ ReadFault.Memory → IsRefused lexer.old.begun (parse_of parser.old) fed piece.now) }
     ensures open_yet { OnOk result (IsOpen lexer.new (parse_of parser.new) (fed + length piece.now)) }
-    ensures within { OnOk result (fed + length piece.now ≤ 2 ^ 27) }
-    ensures too_long { IsErrOf result ReadFault.TooLong → 2 ^ 27 < fed + length piece.now }
+    ensures within { OnOk result (fed + length piece.now ≤ most_bytes) }
+    ensures too_long { IsErrOf result ReadFault.TooLong → most_bytes < fed + length piece.now }
 {
     let room = MOST_BYTES - fed;
     if room < piece.len() as u64 {
@@ -170,7 +169,7 @@ fn take(
     piece: &[u8],
 ) -> Result<(), ReadFault>
     requires open_yet { IsOpen lexer.old (parse_of parser.old) fed }
-    requires within { fed + length piece.now ≤ 2 ^ 27 }
+    requires within { fed + length piece.now ≤ most_bytes }
     ensures leads { OnOk result (LeadTo lexer.old.begun (parse_of parser.old) fed piece.now lexer.new.begun (parse_of parser.new)) }
     ensures refusal { IfErr result (λ fault. fault ≢ ReadFault.Memory → IsRefused lexer.old.begun (parse_of parser.old) fed piece.now) }
     ensures open_yet { OnOk result (IsOpen lexer.new (parse_of parser.new) (fed + length piece.now)) }
@@ -214,7 +213,7 @@ fn first_of(parser: &mut Parser, tokens: Vec<Placed>, fault: LexFault) -> ReadFa
 /// The document that all the bytes fed are.
 fn ended(alloc: Global, lexer: Lexer, parser: Parser, fed: u64) -> Result<Doc, ReadFault>
     requires open_yet { IsOpen lexer (parse_of parser) fed }
-    requires within { fed ≤ 2 ^ 27 }
+    requires within { fed ≤ most_bytes }
     ensures ok { IfOk result (λ doc. AwaitsAt lexer.begun (parse_of parser) fed [] doc.prefixes (ontology_of doc)) }
     ensures only { IfOk result (λ doc. (prefixes : List Prefix) (o : Ontology) → AwaitsAt lexer.begun (parse_of parser) fed [] prefixes o → (prefixes ≡ doc.prefixes) × IsSameOntology o (ontology_of doc)) }
     ensures refusal { IfErr result (λ fault. fault ≢ ReadFault.Memory → IsNone lexer.begun (parse_of parser) fed) }

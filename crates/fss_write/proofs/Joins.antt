@@ -6,10 +6,10 @@ use Rattle.std.specs.Result.{IsErrAnd}
 use Rattle.std.proofs.lemmas.Result.{err_from_is_err_and}
 use Rattle.std.proofs.lemmas.List.{append_assoc, append-nil, take_more}
 use Rattle.std.proofs.lemmas.Grind.{flat_map-append}
-use Rattle.owl_list.specs.AscendingLaws.{all_pushed}
 use Rattle.owl_text.specs.Utf8.{size}
+use Rattle.owl_text.specs.Utf8Laws.{size_append}
+use Rattle.owl_list.specs.AscendingLaws.{all_pushed}
 use Rattle.fss_write.specs.Parts.{IsTooLong}
-use Rattle.fss_write.proofs.Sizes.{size_append}
 
 pub joined2 : (s p q a b : List ℕ) → a ≡ s ++ p → b ≡ a ++ q → b ≡ s ++ (p ++ q)
 joined2 s p q a b e f = f ∙ ap (λ (x : List ℕ). x ++ q) e ∙ append_assoc s p q

@@ -3,13 +3,13 @@ use Rattle.std.proofs.Common.{◌≡◌, ℕ, ◌+◌, true, None, List, [], ◌
 use Rattle.std.specs.Prelude.{codes}
 use Rattle.std.specs.Char.{len_utf8}
 use Rattle.owl_text.specs.Names.{IsNameFrom, is_start}
-use Rattle.owl_text.specs.Tokens.{Begins, Ends as Ending, IsLongest, Spells, SplitsFrom, Stops, is_space}
+use Rattle.owl_text.specs.Tokens.{BeginsToken, Ends as Ending, IsLongest, Spells, SplitsFrom, Stops, is_space}
 use Rattle.owl_text.specs.Utf8.{size}
 use Rattle.owl_text.specs.declared.token.Placed.{Placed}
 use Rattle.owl_text.specs.declared.token.Sign.TheVariants as sign
 use Rattle.owl_text.specs.declared.token.Token.{Token}
 use Rattle.owl_text.specs.declared.token.Token.TheVariants as token
-use Rattle.owl_text.proofs.LongestTokens.{sign_longest}
+use Rattle.owl_text.specs.LongestTokenLaws.{sign_longest}
 use Rattle.owl_atom.specs.declared.prefixes.Prefix.{Prefix}
 use Rattle.owl_doc.specs.Terms.{AreTerms, tokens_of}
 use Rattle.owl_doc.specs.declared.term.Term.{Term}
@@ -27,7 +27,7 @@ cuts_none fact h = λ place. ([], record { gap = []; rest = []; parts = refl; is
 pub cuts_token : (fact next : List Token → Type 0) (token : Token) (spelling rest : List ℕ) → Spells token spelling → IsLongest spelling rest → ((ts : List Token) → next ts → fact (token ∷ ts)) → Cuts rest next → Cuts (spelling ++ rest) fact
 cuts_token fact next token spelling rest h longest step k = λ place.
     let others = k (place + size spelling) in
-    let first : Begins place (spelling ++ rest) (record { token = token; at = place }) (place + size spelling) rest =
+    let first : BeginsToken place (spelling ++ rest) (record { token = token; at = place }) (place + size spelling) rest =
     record { gap = []; spelling = spelling; parts = refl; is_gap = tt; at = omega arith; token = h; longest = longest; ends = refl } in
     (record { token = token; at = place } ∷ others.0, (place + size spelling, rest, first, others.1), step (tokens_of others.0) others.2)
 
@@ -44,7 +44,7 @@ ends_behind place c cs h e = record {
   stops = subst (λ (n : ℕ). Stops n e.rest [] None) (sym (moved place (len_utf8 c) (size e.gap) (place + len_utf8 c + size e.gap) refl)) e.stops;
 }
 
-begins_behind : (place c : ℕ) (cs : List ℕ) (first : Placed) (next : ℕ) (rest : List ℕ) → is_space c ≡ true → Begins (place + len_utf8 c) cs first next rest → Begins place (c ∷ cs) first next rest
+begins_behind : (place c : ℕ) (cs : List ℕ) (first : Placed) (next : ℕ) (rest : List ℕ) → is_space c ≡ true → BeginsToken (place + len_utf8 c) cs first next rest → BeginsToken place (c ∷ cs) first next rest
 begins_behind place c cs first next rest h b = record {
   gap = c ∷ b.gap;
   spelling = b.spelling;
@@ -66,28 +66,28 @@ cuts_space fact c cs h k = λ place.
     (others.0, splits_behind place c cs others.0 h others.1, others.2)
 
 -- the characters are these terms, by these prefixes
-abbrev pub Says : List Prefix → List ℕ → List Term → Type 0
-Says prefixes cs terms = Cuts cs (λ tokens. AreTerms prefixes tokens terms)
+abbrev pub SaysTerms : List Prefix → List ℕ → List Term → Type 0
+SaysTerms prefixes cs terms = Cuts cs (λ tokens. AreTerms prefixes tokens terms)
 
 module _ (prefixes : List Prefix) where
-  pub says_none : Says prefixes [] []
+  pub says_none : SaysTerms prefixes [] []
   says_none = cuts_none (λ tokens. AreTerms prefixes tokens []) refl
 
-  pub says_space : (cs : List ℕ) (terms : List Term) → Says prefixes cs terms → Says prefixes (32 ∷ cs) terms
+  pub says_space : (cs : List ℕ) (terms : List Term) → SaysTerms prefixes cs terms → SaysTerms prefixes (32 ∷ cs) terms
   says_space cs terms k = cuts_space (λ tokens. AreTerms prefixes tokens terms) 32 cs refl k
 
-  pub says_line : (cs : List ℕ) (terms : List Term) → Says prefixes cs terms → Says prefixes (10 ∷ cs) terms
+  pub says_line : (cs : List ℕ) (terms : List Term) → SaysTerms prefixes cs terms → SaysTerms prefixes (10 ∷ cs) terms
   says_line cs terms k = cuts_space (λ tokens. AreTerms prefixes tokens terms) 10 cs refl k
 
-  pub says_open : (cs : List ℕ) (terms : List Term) → Says prefixes cs terms → Says prefixes (40 ∷ cs) (Opening ∷ terms)
+  pub says_open : (cs : List ℕ) (terms : List Term) → SaysTerms prefixes cs terms → SaysTerms prefixes (40 ∷ cs) (Opening ∷ terms)
   says_open cs terms k =
       cuts_token (λ tokens. AreTerms prefixes tokens (Opening ∷ terms)) (λ tokens. AreTerms prefixes tokens terms) (token.Sign sign.Open) (codes "(") cs refl (sign_longest sign.Open (codes "(") cs refl) (λ ts h. (ts, refl, h)) k
 
-  pub says_close : (cs : List ℕ) (terms : List Term) → Says prefixes cs terms → Says prefixes (41 ∷ cs) (Closing ∷ terms)
+  pub says_close : (cs : List ℕ) (terms : List Term) → SaysTerms prefixes cs terms → SaysTerms prefixes (41 ∷ cs) (Closing ∷ terms)
   says_close cs terms k =
       cuts_token (λ tokens. AreTerms prefixes tokens (Closing ∷ terms)) (λ tokens. AreTerms prefixes tokens terms) (token.Sign sign.Close) (codes ")") cs refl (sign_longest sign.Close (codes ")") cs refl) (λ ts h. (ts, refl, h)) k
 
   -- a keyword, and the bracket behind it
-  pub says_opening : (word cs : List ℕ) (terms : List Term) → IsNameFrom is_start word → Says prefixes cs terms → Says prefixes (word ++ 40 ∷ cs) (Keyword word ∷ Opening ∷ terms)
+  pub says_opening : (word cs : List ℕ) (terms : List Term) → IsNameFrom is_start word → SaysTerms prefixes cs terms → SaysTerms prefixes (word ++ 40 ∷ cs) (Keyword word ∷ Opening ∷ terms)
   says_opening word cs terms h k =
       cuts_token (λ tokens. AreTerms prefixes tokens (Keyword word ∷ Opening ∷ terms)) (λ tokens. AreTerms prefixes tokens (Opening ∷ terms)) (token.Word word) word (40 ∷ cs) (h, refl) (token_longest (token.Word word) word (40 ∷ cs) (h, refl) refl) (λ ts m. (ts, refl, m)) (says_open cs terms k)

@@ -1,25 +1,24 @@
 -- The text of a document reads back to the same ontology, under the same prefixes.
-use Rattle.std.proofs.Common.{◌≡◌, ◌≤◌, ℕ, Bool, true, false, List, [], ◌∷◌, ◌++◌, map, codes, Option, Some, None, Contains, refl, sym, ap, ◌∙◌, subst, length, length-append, arith}
+use Rattle.std.proofs.Common.{◌≡◌, ◌≤◌, ℕ, Bool, true, false, List, [], ◌∷◌, ◌++◌, map, codes, Option, Some, None, Contains, refl, sym, ap, ◌∙◌, subst, length}
 use Rattle.std.specs.Prelude.{flat_map, if◌then◌else◌, IfSome}
 use Rattle.std.specs.declared.cmp.Ordering.{Ordering}
 use Rattle.std.specs.declared.cmp.Ordering.TheVariants.{Less, Equal, Greater}
-use Rattle.std.specs.Char.{encode_utf8}
 use Rattle.std.specs.List.{AllByRecursion}
 use Rattle.std.specs.Str.{all_scalars, encode_utf8_all}
 use Rattle.std.proofs.lemmas.List.{append_assoc, append-nil}
-use Rattle.std.proofs.lemmas.Str.{length-le-encodes}
 use Rattle.owl_list.specs.Ascending.{by_order}
 use Rattle.owl_list.specs.AscendingLaws.{all_from, ascending_holds, from_map, hold_same, in_map}
 use Rattle.owl_text.specs.Iri.{IsIri}
 use Rattle.owl_text.specs.Names.{IsPrefixName}
 use Rattle.owl_text.specs.Order.{text_cmp}
 use Rattle.owl_text.specs.Tokens.{Splits, SplitsFrom, behind_mark, mark_size}
-use Rattle.owl_text.specs.Utf8.{BeginsNoCharacter}
 use Rattle.owl_text.specs.declared.token.Placed.{Placed}
 use Rattle.owl_text.specs.declared.token.Sign.TheVariants as sign
 use Rattle.owl_text.specs.declared.token.Token.{Token}
 use Rattle.owl_text.specs.declared.token.Token.TheVariants as token
-use Rattle.owl_text.proofs.LongestTokens.{iri_longest, sign_longest}
+use Rattle.owl_text.specs.LongestTokenLaws.{iri_longest, sign_longest}
+use Rattle.owl_text.specs.Limit.{most_bytes}
+use Rattle.owl_text.specs.Utf8Laws.{no_bytes}
 use Rattle.owl_atom.specs.declared.prefixes.Prefix.{Prefix}
 use Rattle.owl_atom.specs.Prefixes.{IsTable}
 use Rattle.owl_atom.specs.Vocabulary.{xsd}
@@ -31,7 +30,7 @@ use Rattle.owl_tree.specs.Equivalence.{IsEquivalent}
 use Rattle.owl_tree.specs.Ontologies.{HoldEquivalent, IsAnnotation, IsAxiom, IsHead, IsName, IsOntology, IsSameOntology, Ontology, OntologyName, canonical_list, canonical_ontology}
 use Rattle.owl_tree.specs.Order.{tree_cmp}
 use Rattle.owl_tree.specs.OrderLaws.{only_equal_trees_tie, trees_total}
-use Rattle.owl_tree.specs.Rows.{is_tag}
+use Rattle.owl_tree.specs.Rows.{is_tag, is_bare, is_group}
 use Rattle.owl_tree.specs.Shape.{IsShaped}
 use Rattle.owl_tree.specs.Tags.{is_axiom, keyword_of}
 use Rattle.owl_tree.specs.Trees.{Tree, Kids, leaf, node, no_kids, kid, depth, tag_of}
@@ -39,14 +38,14 @@ use Rattle.owl_arena.specs.Held.{AreHeld, trees_at}
 use Rattle.owl_arena.specs.HeldLaws.{entry_at}
 use Rattle.owl_arena.specs.Shared.{AreShared, deepest}
 use Rattle.owl_doc.specs.Documents.{Document, IsDocument, ontology_of}
-use Rattle.owl_doc.specs.Functional.{IsWithinLimits, Reads, longest, IsWrittenAnnotation, IsWrittenAxiom, IsWrittenOntology, PrefixDeclaration, SpellsFunctional, body_terms, declaration_tokens, import_terms, iri_term, item_terms, name_terms, ontology_terms, version_terms}
-use Rattle.owl_doc.specs.Spelling.{closed, is_bare, is_group, opened, spelling, spellings}
+use Rattle.owl_doc.specs.Functional.{IsWithinLimits, ReadsFunctional, IsWrittenAnnotation, IsWrittenAxiom, IsWrittenOntology, PrefixDeclaration, SpellsFunctional, body_terms, declaration_tokens, import_terms, iri_term, item_terms, name_terms, ontology_terms, version_terms}
+use Rattle.owl_doc.specs.Spelling.{closed, opened, spelling, spellings}
 use Rattle.owl_doc.specs.Terms.{AreTerms, tokens_of}
 use Rattle.owl_doc.specs.declared.term.Term.{Term}
 use Rattle.owl_doc.specs.declared.term.Term.TheVariants as term
-use Rattle.fss_write.specs.Text.{declared_prefixes, full_iri, header_line, import_line, item_line, item_text, name_text, parts, prefix_line, text_of, version_text, with_prefix, written_form, written_prefixes}
+use Rattle.fss_write.specs.Text.{declared_prefixes, full_iri, header_line, import_line, item_line, written_text, name_text, parts, prefix_line, text_of, version_text, with_prefix, written_form, written_prefixes}
 use Rattle.fss_write.proofs.DeclaredTables.{AreKnown, are_declarable, are_known, declaration, declared_table, written_iris, written_table}
-use Rattle.fss_write.proofs.Pieces.{Cuts, Says, cuts_space, cuts_token, says_close, says_line, says_none, says_opening, says_space}
+use Rattle.fss_write.proofs.Pieces.{Cuts, SaysTerms, cuts_space, cuts_token, says_close, says_line, says_none, says_opening, says_space}
 use Rattle.fss_write.proofs.Stops.{token_longest}
 use Rattle.fss_write.proofs.WrittenForms.{equivalent_written, is_written, written_equivalent, written_tag}
 use Rattle.fss_write.proofs.WrittenIris.{spells_nothing}
@@ -89,51 +88,51 @@ mutual
 -- the lines of an ontology
 
 module _ (written read : List Prefix) (known : AreKnown written read) where
-  says_item : (t : Tree) (cs : List ℕ) (more : List Term) → IsShaped (written_form t) → Says read cs more → Says read (item_line written t ++ cs) (item_terms (written_form t) ++ more)
+  says_item : (t : Tree) (cs : List ℕ) (more : List Term) → IsShaped (written_form t) → SaysTerms read cs more → SaysTerms read (item_line written t ++ cs) (item_terms (written_form t) ++ more)
   says_item t cs more h k =
       let form = written_form t in
       let whole = say_tree written read known (tag_of form) form h (10 ∷ cs) more (allows_end (parts written (tag_of form) form) (10 ∷ cs) refl) (says_line read cs more k) in
-      subst (λ (x : List ℕ). Says read x (item_terms form ++ more)) (sym (append_assoc (item_text written t) (10 ∷ []) cs))
-      (subst (λ (x : List Term). Says read (item_text written t ++ (10 ∷ cs)) x) (spelling_append (tag_of form) form [] more) whole)
+      subst (λ (x : List ℕ). SaysTerms read x (item_terms form ++ more)) (sym (append_assoc (written_text written t) (10 ∷ []) cs))
+      (subst (λ (x : List Term). SaysTerms read (written_text written t ++ (10 ∷ cs)) x) (spelling_append (tag_of form) form [] more) whole)
 
-  says_items : (ts : List Tree) (cs : List ℕ) (more : List Term) → AllByRecursion (λ t. IsShaped (written_form t)) ts → Says read cs more → Says read (flat_map (item_line written) ts ++ cs) (flat_map item_terms (map written_form ts) ++ more)
+  says_items : (ts : List Tree) (cs : List ℕ) (more : List Term) → AllByRecursion (λ t. IsShaped (written_form t)) ts → SaysTerms read cs more → SaysTerms read (flat_map (item_line written) ts ++ cs) (flat_map item_terms (map written_form ts) ++ more)
   says_items [] cs more h k = k
   says_items (t ∷ ts) cs more h k =
       let whole = says_item t (flat_map (item_line written) ts ++ cs) (flat_map item_terms (map written_form ts) ++ more) h.0 (says_items ts cs more h.1 k) in
-      subst (λ (x : List ℕ). Says read x (flat_map item_terms (map written_form (t ∷ ts)) ++ more)) (sym (append_assoc (item_line written t) (flat_map (item_line written) ts) cs))
-      (subst (λ (x : List Term). Says read (item_line written t ++ (flat_map (item_line written) ts ++ cs)) x) (sym (append_assoc (item_terms (written_form t)) (flat_map item_terms (map written_form ts)) more)) whole)
+      subst (λ (x : List ℕ). SaysTerms read x (flat_map item_terms (map written_form (t ∷ ts)) ++ more)) (sym (append_assoc (item_line written t) (flat_map (item_line written) ts) cs))
+      (subst (λ (x : List Term). SaysTerms read (item_line written t ++ (flat_map (item_line written) ts ++ cs)) x) (sym (append_assoc (item_terms (written_form t)) (flat_map item_terms (map written_form ts)) more)) whole)
 
-says_full : (read : List Prefix) (iri cs : List ℕ) (more : List Term) → IsIri iri → Says read cs more → Says read (full_iri iri ++ cs) (iri_term iri ∷ more)
+says_full : (read : List Prefix) (iri cs : List ℕ) (more : List Term) → IsIri iri → SaysTerms read cs more → SaysTerms read (full_iri iri ++ cs) (iri_term iri ∷ more)
 says_full read iri cs more h k =
     cuts_token (λ tokens. AreTerms read tokens (iri_term iri ∷ more)) (λ tokens. AreTerms read tokens more) (token.Iri iri) (full_iri iri) cs (h, refl)
     (iri_longest iri (full_iri iri) cs (h, refl)) (λ ts m. (ts, (token.Iri iri, refl, refl), m)) k
 
-says_import : (read : List Prefix) (iri cs : List ℕ) (more : List Term) → IsIri iri → Says read cs more → Says read (import_line iri ++ cs) (import_terms iri ++ more)
+says_import : (read : List Prefix) (iri cs : List ℕ) (more : List Term) → IsIri iri → SaysTerms read cs more → SaysTerms read (import_line iri ++ cs) (import_terms iri ++ more)
 says_import read iri cs more h k =
     let inner = says_full read iri (41 ∷ 10 ∷ cs) (term.Closing ∷ more) h (says_close read (10 ∷ cs) more (says_line read cs more k)) in
     let whole = says_opening read (codes "Import") (full_iri iri ++ (41 ∷ 10 ∷ cs)) (iri_term iri ∷ term.Closing ∷ more) import_word inner in
-    subst (λ (x : List ℕ). Says read (codes "Import(" ++ x) (import_terms iri ++ more)) (sym (append_assoc (full_iri iri) (codes ")\n") cs)) whole
+    subst (λ (x : List ℕ). SaysTerms read (codes "Import(" ++ x) (import_terms iri ++ more)) (sym (append_assoc (full_iri iri) (codes ")\n") cs)) whole
 
-says_imports : (read : List Prefix) (iris : List (List ℕ)) (cs : List ℕ) (more : List Term) → AllByRecursion IsIri iris → Says read cs more → Says read (flat_map import_line iris ++ cs) (flat_map import_terms iris ++ more)
+says_imports : (read : List Prefix) (iris : List (List ℕ)) (cs : List ℕ) (more : List Term) → AllByRecursion IsIri iris → SaysTerms read cs more → SaysTerms read (flat_map import_line iris ++ cs) (flat_map import_terms iris ++ more)
 says_imports read [] cs more h k = k
 says_imports read (iri ∷ iris) cs more h k =
     let whole = says_import read iri (flat_map import_line iris ++ cs) (flat_map import_terms iris ++ more) h.0 (says_imports read iris cs more h.1 k) in
-    subst (λ (x : List ℕ). Says read x (import_terms iri ++ (flat_map import_terms iris ++ more))) (sym (append_assoc (import_line iri) (flat_map import_line iris) cs)) whole
+    subst (λ (x : List ℕ). SaysTerms read x (import_terms iri ++ (flat_map import_terms iris ++ more))) (sym (append_assoc (import_line iri) (flat_map import_line iris) cs)) whole
 
-says_version : (read : List Prefix) (version : Option (List ℕ)) (cs : List ℕ) (more : List Term) → IfSome version IsIri → Says read cs more → Says read (version_text version ++ cs) (version_terms version ++ more)
+says_version : (read : List Prefix) (version : Option (List ℕ)) (cs : List ℕ) (more : List Term) → IfSome version IsIri → SaysTerms read cs more → SaysTerms read (version_text version ++ cs) (version_terms version ++ more)
 says_version read None cs more h k = k
 says_version read (Some iri) cs more h k = says_space read (full_iri iri ++ cs) (iri_term iri ∷ more) (says_full read iri cs more h k)
 
-says_name : (read : List Prefix) (name : Option OntologyName) (cs : List ℕ) (more : List Term) → IfSome name IsName → Says read cs more → Says read (name_text name ++ cs) (name_terms name ++ more)
+says_name : (read : List Prefix) (name : Option OntologyName) (cs : List ℕ) (more : List Term) → IfSome name IsName → SaysTerms read cs more → SaysTerms read (name_text name ++ cs) (name_terms name ++ more)
 says_name read None cs more h k = k
 says_name read (Some name) cs more h k =
-    subst (λ (x : List ℕ). Says read x (name_terms (Some name) ++ more)) (sym (append_assoc (full_iri name.iri) (version_text name.version) cs))
+    subst (λ (x : List ℕ). SaysTerms read x (name_terms (Some name) ++ more)) (sym (append_assoc (full_iri name.iri) (version_text name.version) cs))
     (says_full read name.iri (version_text name.version ++ cs) (version_terms name.version ++ more) h.iri (says_version read name.version cs more h.version k))
 
-says_header : (read : List Prefix) (name : Option OntologyName) (cs : List ℕ) (more : List Term) → IfSome name IsName → Says read cs more → Says read (header_line name ++ cs) (term.Keyword (codes "Ontology") ∷ term.Opening ∷ (name_terms name ++ more))
+says_header : (read : List Prefix) (name : Option OntologyName) (cs : List ℕ) (more : List Term) → IfSome name IsName → SaysTerms read cs more → SaysTerms read (header_line name ++ cs) (term.Keyword (codes "Ontology") ∷ term.Opening ∷ (name_terms name ++ more))
 says_header read name cs more h k =
     let whole = says_opening read (codes "Ontology") (name_text name ++ (10 ∷ cs)) (name_terms name ++ more) ontology_word (says_name read name (10 ∷ cs) more h (says_line read cs more k)) in
-    subst (λ (x : List ℕ). Says read (codes "Ontology(" ++ x) (term.Keyword (codes "Ontology") ∷ term.Opening ∷ (name_terms name ++ more))) (sym (append_assoc (name_text name) (codes "\n") cs)) whole
+    subst (λ (x : List ℕ). SaysTerms read (codes "Ontology(" ++ x) (term.Keyword (codes "Ontology") ∷ term.Opening ∷ (name_terms name ++ more))) (sym (append_assoc (name_text name) (codes "\n") cs)) whole
 
 -- the ontology as it is written
 abbrev pub written_ontology : Ontology → Ontology
@@ -147,7 +146,7 @@ abbrev ontology_lines : List Prefix → Ontology → List ℕ
 ontology_lines written o =
     header_line o.head.name ++ (flat_map import_line o.head.imports ++ (flat_map (item_line written) o.annotations ++ (flat_map (item_line written) o.axioms ++ codes ")\n")))
 
-says_ontology : (written read : List Prefix) → AreKnown written read → (o : Ontology) → IsHead o.head → AreShapedForms o.annotations → AreShapedForms o.axioms → Says read (ontology_lines written o) (ontology_terms (written_ontology o))
+says_ontology : (written read : List Prefix) → AreKnown written read → (o : Ontology) → IsHead o.head → AreShapedForms o.annotations → AreShapedForms o.axioms → SaysTerms read (ontology_lines written o) (ontology_terms (written_ontology o))
 says_ontology written read known o head annotations axioms =
     let last = says_close read (10 ∷ []) [] (says_line read [] [] (says_none read)) in
     says_header read o.head.name _ (body_terms (written_ontology o)) head.name
@@ -185,7 +184,7 @@ declares_one read p ds terms cs name iri k =
     ∙ sym (append_assoc p.name (58 ∷ []) after) in
     subst (λ (x : List ℕ). Cuts (codes "Prefix(" ++ x) fact) (sym same) whole
 
-declares_all : (read : List Prefix) (ps : List Prefix) (terms : List Term) (cs : List ℕ) → AllByRecursion (λ p. IsPrefixName p.name) ps → HaveIris ps → Says read cs terms → Cuts (flat_map prefix_line ps ++ cs) (Declares read (map declaration ps) terms)
+declares_all : (read : List Prefix) (ps : List Prefix) (terms : List Term) (cs : List ℕ) → AllByRecursion (λ p. IsPrefixName p.name) ps → HaveIris ps → SaysTerms read cs terms → Cuts (flat_map prefix_line ps ++ cs) (Declares read (map declaration ps) terms)
 declares_all read [] terms cs names iris k = λ place. let others = k place in (others.0, others.1, (tokens_of others.0, refl, others.2))
 declares_all read (p ∷ ps) terms cs names iris k =
     subst (λ (x : List ℕ). Cuts x (Declares read (map declaration (p ∷ ps)) terms)) (sym (append_assoc (prefix_line p) (flat_map prefix_line ps) cs))
@@ -252,10 +251,6 @@ unmarked : (name iri : List ℕ) (ps : List Prefix) (rest : List ℕ) → IsUnma
 unmarked name iri [] rest = (refl, refl)
 unmarked name iri (p ∷ ps) rest = unmarked_by name iri p ps (text_cmp name p.name) rest
 
-no_character : BeginsNoCharacter []
-no_character c rest h e =
-    absurd (omega (arith, ap (λ (x : List ℕ). length x) e, length-append (encode_utf8 c) rest, length-append (encode_utf8 c) [], length-le-encodes (c ∷ [])))
-
 -- the text is cut into tokens that are prefixes and then the ontology, or an equivalent one
 pub record SpellsText (prefixes : List Prefix) (o : Ontology) : Type 0 where
   pub placed : List Placed
@@ -266,7 +261,7 @@ splits_text : (cs : List ℕ) (placed : List Placed) → IsUnmarked cs → all_s
 splits_text cs placed unmarked scalars splits = record {
   characters = cs;
   tail = [];
-  decodes = record { parts = sym (append-nil (encode_utf8_all cs)); scalars = scalars; stops = no_character };
+  decodes = record { parts = sym (append-nil (encode_utf8_all cs)); scalars = scalars; stops = no_bytes };
   splits =
       subst (λ (n : ℕ). SplitsFrom n (behind_mark cs) [] placed None) (sym unmarked.1)
       (subst (λ (x : List ℕ). SplitsFrom 0 x [] placed None) (sym unmarked.0) splits);
@@ -314,8 +309,8 @@ within_limits d h shared = record {
 
 -- a document's text that is not too long is read as the same ontology
 pub document_reads_back : (d : Document) → IsDocument d → AreShared d.arena.trees → IsTable d.prefixes → HaveIris (written_prefixes d.prefixes)
-    → all_scalars (text_of d.prefixes (ontology_of d)) ≡ true → length (encode_utf8_all (text_of d.prefixes (ontology_of d))) ≤ longest
-    → Reads (encode_utf8_all (text_of d.prefixes (ontology_of d))) (declared_prefixes d.prefixes) (ontology_of d)
+    → all_scalars (text_of d.prefixes (ontology_of d)) ≡ true → length (encode_utf8_all (text_of d.prefixes (ontology_of d))) ≤ most_bytes
+    → ReadsFunctional (encode_utf8_all (text_of d.prefixes (ontology_of d))) (declared_prefixes d.prefixes) (ontology_of d)
 document_reads_back d h shared table iris scalars few =
     let back = written_reads_back d.prefixes (ontology_of d) table iris h.ontology h.canonical scalars in
     record { placed = back.placed; few = few; splits = back.splits; spells = back.spells; within = within_limits d h shared }

@@ -1,11 +1,10 @@
 -- Abbreviated IRIs.
-use Rattle.std.proofs.Common.{◌≡◌, ℕ, true, List, [], ◌∷◌, ◌++◌, length, drop, Option, Some, sym, ap, ◌∙◌, codes}
+use Rattle.std.proofs.Common.{◌≡◌, ℕ, true, List, ◌++◌, length, drop, Option, Some, sym, ap, ◌∙◌, codes}
 use Rattle.std.specs.Prelude.{slice_get}
-use lib.Utf8.{scalar}
-use Rattle.std.specs.Cmp.{second_so}
 use Rattle.std.proofs.Math.Seq.{drop-append_seam}
 use Rattle.std.specs.Str.{all_scalars, chars, encode_utf8_all}
 use Rattle.std.proofs.lemmas.Str.{chars-encodes, encodes-append}
+use Rattle.owl_text.specs.Utf8Laws.{scalars_behind}
 use Rattle.owl_atom.specs.declared.prefixes.Prefix.{Prefix}
 use Rattle.owl_atom.specs.Prefixes.{AreAscending, Shortens}
 use Rattle.fss_write.specs.Text.{iri_text, shortened_by}
@@ -20,10 +19,6 @@ short_text prefixes iri place begin ascending s =
 -- the prefix that stands at the place
 pub short_name : (prefixes : List Prefix) (iri : List ℕ) (place begin : ℕ) (s : Shortens prefixes iri place begin) (prefix : Prefix) → slice_get prefixes place ≡ Some prefix → prefix.name ≡ s.prefix.name
 short_name prefixes iri place begin s prefix e = let f = s.stands in cc
-
-scalars_behind : (front local : List ℕ) → all_scalars (front ++ local) ≡ true → all_scalars local ≡ true
-scalars_behind [] local h = h
-scalars_behind (c ∷ cs) local h = scalars_behind cs local (second_so (scalar c) (all_scalars (cs ++ local)) h)
 
 -- what stands behind the front of an IRI
 pub local_chars : (iri bytes : List ℕ) (begin : ℕ) (front local : List ℕ) → all_scalars iri ≡ true → bytes ≡ encode_utf8_all iri → iri ≡ front ++ local → begin ≡ length (encode_utf8_all front) → chars (drop begin bytes) ≡ local

@@ -2,41 +2,20 @@
 use Rattle.std.specs.Cmp.Derive.{both_true}
 use Rattle.std.specs.Fmt.{decimal}
 use Rattle.std.proofs.lemmas.Fmt.{decimal_by_steps}
-use Rattle.std.proofs.Common.{Bool, ◌≤◌, ◌^◌, ◌%◌, ◌≡◌, ℕ, ◌+◌, ◌<◌, List, [], ◌∷◌, ◌++◌, length, true, refl, sym, ap, ◌∙◌, arith}
-use Rattle.std.specs.Char.{encode_utf8}
+use Rattle.std.proofs.Common.{Bool, ◌≤◌, ◌^◌, ◌%◌, ◌≡◌, ℕ, ◌+◌, ◌<◌, List, [], ◌∷◌, ◌++◌, length, true, sym, ap, ◌∙◌, arith}
 use Rattle.std.specs.List.{list_all}
-use Rattle.std.specs.Str.{IsAscii, IsUtf8, chars, encode_utf8_all}
+use Rattle.std.specs.Str.{IsUtf8, chars, encode_utf8_all}
 use Rattle.std.proofs.lemmas.Bool.Decides.{nat_tests}
-use Rattle.std.proofs.lemmas.List.{length-append}
-use Rattle.std.proofs.lemmas.Str.{chars-IsAscii, encodes-chars, length-encode}
-use Rattle.std.proofs.lemmas.Str.Ascii.{IsAscii-cons, IsAscii-nil}
+use Rattle.std.proofs.lemmas.Str.{encodes-chars}
 use Rattle.std.specs.Cmp.{first_so, second_so}
 use Rattle.owl_text.specs.Iri.{is_ascii}
 use Rattle.owl_text.specs.Utf8.{size}
-use Rattle.owl_doc.specs.Functional.{longest}
+use Rattle.owl_text.specs.Limit.{most_bytes}
+use Rattle.owl_text.specs.Utf8Laws.{size_is}
 use Rattle.fss_write.specs.Parts.{IsTooLong}
-
-pub size_append : (xs ys : List ℕ) → size (xs ++ ys) ≡ size xs + size ys
-size_append [] ys = omega arith
-size_append (x ∷ xs) ys = omega (arith, size_append xs ys)
-
--- the bytes of characters are as many as they take
-pub size_is : (cs : List ℕ) → length (encode_utf8_all cs) ≡ size cs
-size_is [] = refl
-size_is (c ∷ cs) = omega (arith, length-append (encode_utf8 c) (encode_utf8_all cs), length-encode c, size_is cs)
 
 pub size_chars : (s : List ℕ) → IsUtf8 s → size (chars s) ≡ length s
 size_chars s u = sym (size_is (chars s)) ∙ ap length (encodes-chars s u)
-
-ascii_bytes : (s : List ℕ) → list_all is_ascii s ≡ true → IsAscii s
-ascii_bytes [] h = IsAscii-nil
-ascii_bytes (b ∷ bs) h =
-    let small : b < 128 = let e = first_so (is_ascii b) (list_all is_ascii bs) h in grind (arith, nat_tests) in
-    IsAscii-cons b bs small (ascii_bytes bs (second_so (is_ascii b) (list_all is_ascii bs) h))
-
--- ASCII bytes are their characters
-pub ascii_chars : (s : List ℕ) → list_all is_ascii s ≡ true → chars s ≡ s
-ascii_chars s h = chars-IsAscii s (ascii_bytes s h)
 
 all_both : (test : ℕ → Bool) (xs ys : List ℕ) → list_all test xs ≡ true → list_all test ys ≡ true → list_all test (xs ++ ys) ≡ true
 all_both test [] ys h k = k
@@ -49,8 +28,8 @@ pub decimal_ascii : (n : ℕ) → n < 2 ^ 64 → list_all is_ascii (decimal n) �
 decimal_ascii = decimal_by_steps (λ n ds. list_all is_ascii ds ≡ true) (λ n h. digit_ascii n h) (λ n ds h k. all_both is_ascii ds ((48 + n % 10) ∷ []) k (digit_ascii (n % 10) (omega arith)))
 
 -- the limit in bytes
-pub too_long_in_bytes : (text : List ℕ) → IsTooLong text → longest < length (encode_utf8_all text)
+pub too_long_in_bytes : (text : List ℕ) → IsTooLong text → most_bytes < length (encode_utf8_all text)
 too_long_in_bytes text h = omega (arith, size_is text)
 
-pub within_in_bytes : (text : List ℕ) → size text ≤ longest → length (encode_utf8_all text) ≤ longest
+pub within_in_bytes : (text : List ℕ) → size text ≤ most_bytes → length (encode_utf8_all text) ≤ most_bytes
 within_in_bytes text h = omega (arith, size_is text)

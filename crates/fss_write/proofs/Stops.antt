@@ -7,10 +7,9 @@ use Rattle.std.proofs.lemmas.Bool.{and_parts, eqb-true, not-true, or_cases, fals
 use Rattle.owl_text.specs.declared.token.Token.{Token}
 use Rattle.owl_text.specs.declared.token.Token.TheVariants.{Iri, Name, Blank, Str, At, Word, Int, Sign}
 use Rattle.owl_text.specs.Iri.{is_among}
-use Rattle.owl_text.specs.Names.{is_inner}
+use Rattle.owl_text.specs.Names.{is_inner, begins_with}
 use Rattle.owl_text.specs.Tokens.{IsLongest, Spells}
-use Rattle.owl_text.proofs.LongestTokens.{blank_longest, int_longest, iri_longest, is_behind_name, is_behind_tag, is_behind_word, name_longest, sign_longest, str_longest, tag_longest, word_longest}
-use Rattle.owl_atom.specs.Characters.{begins_with}
+use Rattle.owl_text.specs.LongestTokenLaws.{blank_longest, int_longest, iri_longest, is_behind_name, is_behind_tag, is_behind_word, name_longest, sign_longest, str_longest, tag_longest, word_longest}
 
 -- a space, a line end, a bracket or an equals sign: no token goes on there
 abbrev pub is_stop : ℕ → Bool

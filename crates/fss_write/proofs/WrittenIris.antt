@@ -6,15 +6,16 @@ use Rattle.std.specs.Int.{is_in_range}
 use Rattle.std.specs.List.{AllByRecursion}
 use Rattle.std.specs.Option.{option_map}
 use Rattle.std.proofs.lemmas.Bool.{cases_Bool, eqb-true, false_from_ne_true, or_cases, or_left, or_right}
-use Rattle.owl_list.specs.AscendingLaws.{all_in}
 use Rattle.owl_text.specs.Iri.{AllAre, IsIri, is_among}
 use Rattle.owl_text.specs.Names.{AreLocalPieces, IsPieceOf, IsPrefixName, SpellsLocal, ends_in_plain_dot, in_ranges, is_base, is_local_inner, is_local_start, is_part, is_start, part_ranges, piece_spelling, piece_text, plain, start_ranges}
 use Rattle.owl_text.specs.Tokens.{Spells}
 use Rattle.owl_text.specs.declared.token.Token.{Token}
 use Rattle.owl_text.specs.declared.token.Token.TheVariants as token
-use Rattle.owl_text.proofs.Spans.{both}
+use Rattle.owl_text.specs.CutLaws.{both}
+use Rattle.owl_list.specs.AscendingLaws.{all_in}
 use Rattle.owl_atom.specs.declared.prefixes.Prefix.{Prefix}
 use Rattle.owl_atom.specs.Prefixes.{IsPlainLocal, is_plain_character, is_plain_start}
+use Rattle.owl_atom.specs.PrefixLaws.{start_is_plain}
 use Rattle.owl_doc.specs.Abbreviations.{best_prefix, local_behind}
 use Rattle.owl_doc.specs.Terms.{iri_of_token}
 use Rattle.fss_write.specs.Text.{full_iri, iri_text, shortened_by}
@@ -66,15 +67,6 @@ inner_stands c h = elim (or_cases ((is_in_range 48 57 c || is_in_range 65 90 c) 
     | inl e ↦ ap is_local_inner (sym (eqb-true 95 c e))
     | inr mark ↦ one_of_one 45 c is_local_inner mark refl
   ]
-]
-
-start_is_plain : (c : ℕ) → is_plain_start c ≡ true → is_plain_character c ≡ true
-start_is_plain c h = elim (or_cases (is_in_range 65 90 c || is_in_range 97 122 c) (is_among (codes "_") c) h) as (λ _. is_plain_character c ≡ true) [
-  | inl letter ↦ elim (or_cases (is_in_range 65 90 c) (is_in_range 97 122 c) letter) as (λ _. is_plain_character c ≡ true) [
-    | inl upper ↦ or_left ((is_in_range 48 57 c || is_in_range 65 90 c) || is_in_range 97 122 c) (is_among (codes "_-") c) (or_left (is_in_range 48 57 c || is_in_range 65 90 c) (is_in_range 97 122 c) (or_right (is_in_range 48 57 c) (is_in_range 65 90 c) upper))
-    | inr lower ↦ or_left ((is_in_range 48 57 c || is_in_range 65 90 c) || is_in_range 97 122 c) (is_among (codes "_-") c) (or_right (is_in_range 48 57 c || is_in_range 65 90 c) (is_in_range 97 122 c) lower)
-  ]
-  | inr mark ↦ one_of_one 95 c is_plain_character mark refl
 ]
 
 no_dot : (c : ℕ) → is_plain_character c ≡ true → is_among (codes ".") c ≡ false

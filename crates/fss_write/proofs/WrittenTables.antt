@@ -7,19 +7,18 @@ use Rattle.std.specs.List.{list_all}
 use Rattle.std.specs.Option.{option_map}
 use Rattle.std.specs.Str.{chars}
 use Rattle.std.proofs.lemmas.Bool.{both_ways, cases_Bool}
-use Rattle.std.proofs.lemmas.Option.{same_Some}
 use Rattle.std.proofs.lemmas.Slice.Eq.{bytes_eq-Decides}
 use Rattle.owl_list.specs.Ascending.{by_order}
 use Rattle.owl_text.specs.Iri.{IsIri, is_ascii}
 use Rattle.owl_text.specs.Names.{IsPrefixName}
 use Rattle.owl_text.specs.Order.{text_cmp, text_eq}
+use Rattle.owl_text.specs.OrderLaws.{equal, same_texts, turned}
+use Rattle.owl_text.specs.AsciiLaws.{ascii_chars}
 use Rattle.owl_atom.specs.declared.prefixes.Prefix.{Prefix}
 use Rattle.owl_atom.specs.Places.{IsGapFor, IsPlaceOf}
 use Rattle.owl_atom.specs.Prefixes.{AreAscending, IsTable, is_declared, is_fixed, prefix_in}
 use Rattle.owl_atom.specs.Vocabulary.{owl, rdf, rdfs, xsd}
-use Rattle.owl_atom.proofs.PrefixTables.{IsFound, SetsOnly, absent, below_none, equal, found, insert_at, met, passed, same_names, set_at, stands, turned}
-use Rattle.owl_atom.proofs.Shortening.{contained}
-use Rattle.owl_atom.proofs.Words.{own}
+use Rattle.owl_atom.specs.PrefixLaws.{IsFound, SetsOnly, absent, contained, found, insert_at, set_at, stands, tables_are_told_by_names}
 use Rattle.fss_write.specs.Parts.{HaveIris}
 use Rattle.fss_write.specs.Text.{with_prefix, written_prefixes}
 
@@ -45,7 +44,7 @@ edit_behind name iri p old new less (at_gap place here e) = at_gap (suc place) (
 edit_by : (name iri : List ℕ) (p : Prefix) (old : List Prefix) (o : Ordering) → text_cmp name p.name ≡ o → IsEdit name iri old (with_prefix name iri old)
     → IsEdit name iri (p ∷ old) (by_order o (new_prefix name iri ∷ p ∷ old) (record p { iri = iri } ∷ old) (p ∷ with_prefix name iri old))
 edit_by name iri p old Less e rest = at_gap 0 e refl
-edit_by name iri p old Equal e rest = at_place 0 p (sym (same_names name p.name e)) refl refl
+edit_by name iri p old Equal e rest = at_place 0 p (sym (same_texts name p.name e)) refl refl
 edit_by name iri p old Greater e rest = edit_behind name iri p old (with_prefix name iri old) (turned name p.name e) rest
 
 is_edit : (name iri : List ℕ) (old : List Prefix) → IsEdit name iri old (with_prefix name iri old)
@@ -99,42 +98,6 @@ pub with_prefix_iris : (name iri : List ℕ) (old : List Prefix) → IsIri iri �
 with_prefix_iris name iri [] i h = (i, tt)
 with_prefix_iris name iri (p ∷ old) i h = iris_by name iri p old (text_cmp name p.name) i h (with_prefix_iris name iri old i h.1)
 
--- tables with the same look-ups are the same
-
-tails_same : (x y : Prefix) (xs ys : List Prefix) → AreAscending (x ∷ xs) → AreAscending (y ∷ ys) → x.name ≡ y.name
-    → ((name : List ℕ) → prefix_in (x ∷ xs) name ≡ prefix_in (y ∷ ys) name) → (name : List ℕ) → prefix_in xs name ≡ prefix_in ys name
-tails_same x y xs ys up_x up_y e h name = elim (cases_Bool (text_eq x.name name)) as (λ _. prefix_in xs name ≡ prefix_in ys name) [
-  | inl t ↦
-      let same : x.name ≡ name = (bytes_eq-Decides x.name name).0 t in
-      ap (prefix_in xs) (sym same) ∙ below_none x.name xs up_x.0
-      ∙ sym (below_none y.name ys up_y.0) ∙ ap (prefix_in ys) (sym e ∙ same)
-  | inr f ↦ sym (passed x xs name f) ∙ h name ∙ passed y ys name (ap (λ (n : List ℕ). text_eq n name) (sym e) ∙ f)
-]
-
-heads_by : (x y : Prefix) (xs ys : List Prefix) (o : Ordering) → text_cmp x.name y.name ≡ o → AreAscending (x ∷ xs) → AreAscending (y ∷ ys)
-    → ((name : List ℕ) → prefix_in (x ∷ xs) name ≡ prefix_in (y ∷ ys) name) → x.name ≡ y.name
-heads_by x y xs ys Less e up_x up_y h =
-    let none : prefix_in (y ∷ ys) x.name ≡ None = absent (y ∷ ys) x.name 0 up_y e in
-    let some = met x xs x.name refl in
-    let same = h x.name in
-    absurd (cc)
-heads_by x y xs ys Equal e up_x up_y h = same_names x.name y.name e
-heads_by x y xs ys Greater e up_x up_y h =
-    let none : prefix_in (x ∷ xs) y.name ≡ None = absent (x ∷ xs) y.name 0 up_x (turned x.name y.name e) in
-    let some = met y ys y.name refl in
-    let same = h y.name in
-    absurd (cc)
-
-pub same_tables : (a b : List Prefix) → AreAscending a → AreAscending b → ((name : List ℕ) → prefix_in a name ≡ prefix_in b name) → a ≡ b
-same_tables [] [] up_a up_b h = refl
-same_tables [] (y ∷ ys) up_a up_b h = let some = met y ys y.name refl in let same = h y.name in absurd (cc)
-same_tables (x ∷ xs) [] up_a up_b h = let some = met x xs x.name refl in let same = h x.name in absurd (cc)
-same_tables (x ∷ xs) (y ∷ ys) up_a up_b h =
-    let names = heads_by x y xs ys (text_cmp x.name y.name) refl up_a up_b h in
-    let first : x ≡ y = same_Some x y (sym (met x xs y.name names) ∙ h y.name ∙ met y ys y.name refl) in
-    let rest : xs ≡ ys = same_tables xs ys up_a.1 up_b.1 (tails_same x y xs ys up_a up_b names h) in
-    cc
-
 -- where a name is given an IRI and all other look-ups stay, the table is that with the prefix
 pub record IsSet (name iri : List ℕ) (old new : List Prefix) : Type 0 where
   pub table : IsTable new
@@ -144,7 +107,7 @@ pub record IsSet (name iri : List ℕ) (old new : List Prefix) : Type 0 where
 pub set_is_with_prefix : (name iri : List ℕ) (old new : List Prefix) → IsTable old → IsSet name iri old new → new ≡ with_prefix name iri old
 set_is_with_prefix name iri old new is_old h =
     let sets = with_prefix_sets name iri old is_old.ascending in
-    same_tables new (with_prefix name iri old) h.table.ascending sets.ascending (λ other. elim (cases_Bool (text_eq other name)) as (λ _. prefix_in new other ≡ prefix_in (with_prefix name iri old) other) [
+    tables_are_told_by_names new (with_prefix name iri old) h.table.ascending sets.ascending (λ other. elim (cases_Bool (text_eq other name)) as (λ _. prefix_in new other ≡ prefix_in (with_prefix name iri old) other) [
       | inl t ↦
           let same : other ≡ name = (bytes_eq-Decides other name).0 t in
           ap (prefix_in new) same ∙ h.here ∙ sym sets.here ∙ ap (prefix_in (with_prefix name iri old)) (sym same)
@@ -155,7 +118,7 @@ set_is_with_prefix name iri old new is_old h =
 
 -- the name and the IRI may be given as the characters of words
 pub own_set : (name iri : List ℕ) (old new : List Prefix) → list_all is_ascii name ≡ true → list_all is_ascii iri ≡ true → IsSet (chars name) (chars iri) old new → IsSet name iri old new
-own_set name iri old new h k set = subst (λ (n : List ℕ). IsSet n iri old new) (own name h) (subst (λ (i : List ℕ). IsSet (chars name) i old new) (own iri k) set)
+own_set name iri old new h k set = subst (λ (n : List ℕ). IsSet n iri old new) (ascii_chars name h) (subst (λ (i : List ℕ). IsSet (chars name) i old new) (ascii_chars iri k) set)
 
 -- the four prefixes in turn
 pub four_set : (p0 p1 p2 p3 p4 : List Prefix) → IsTable p0 → IsSet (codes "owl") (owl []) p0 p1 → IsSet (codes "rdf") (rdf []) p1 p2 → IsSet (codes "rdfs") (rdfs []) p2 p3

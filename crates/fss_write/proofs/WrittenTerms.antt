@@ -9,32 +9,30 @@ use Rattle.std.proofs.lemmas.Fmt.{decimal_by_steps, decimal_is_IsNumeral}
 use Rattle.std.proofs.lemmas.List.{append_assoc, append-nil}
 use Rattle.std.proofs.lemmas.Slice.Eq.{bytes_eq-Decides}
 use Rattle.owl_text.specs.Iri.{IsIri}
-use Rattle.owl_text.specs.Names.{IsNameFrom, IsRunOf, ends_in_dot, is_inner, is_start}
+use Rattle.owl_text.specs.Names.{IsNameFrom, IsRunOf, ends_in_dot, is_inner, is_start, begins_with}
 use Rattle.owl_text.specs.Order.{text_eq}
 use Rattle.owl_text.specs.declared.token.Sign.TheVariants as sign
 use Rattle.owl_text.specs.declared.token.Token.TheVariants as token
-use Rattle.owl_text.proofs.Spans.{AllAre-append}
-use Rattle.owl_text.proofs.LongestTokens.{sign_longest, str_longest}
+use Rattle.owl_text.specs.AllAreLaws.{AllAre-append, all_are}
+use Rattle.owl_text.specs.LongestTokenLaws.{sign_longest, str_longest}
 use Rattle.owl_atom.specs.declared.prefixes.Prefix.{Prefix}
-use Rattle.owl_atom.specs.Characters.{begins_with}
 use Rattle.owl_atom.specs.Literals.{FitsTag, IsLiteral, LiteralParts, of_datatype, string, with_tag}
-use Rattle.owl_atom.proofs.Characters.{all_are}
 use Rattle.owl_tree.specs.declared.atom.Atom.{Atom}
 use Rattle.owl_tree.specs.declared.atom.Atom.TheVariants.{Iri, Label, Literal, Number}
 use Rattle.owl_tree.specs.declared.tag.Tag.{Tag}
 use Rattle.owl_tree.specs.declared.tag.Tag.TheVariants as tag
 use Rattle.owl_tree.specs.Atoms.{IsAtom}
-use Rattle.owl_tree.specs.Rows.{is_tag}
+use Rattle.owl_tree.specs.Rows.{is_tag, is_bare, is_group}
 use Rattle.owl_tree.specs.Shape.{AreShaped, IsShaped}
 use Rattle.owl_tree.specs.Tags.{keyword_of}
 use Rattle.owl_tree.specs.Trees.{Tree, Kids, leaf, node, no_kids, kid}
-use Rattle.owl_doc.specs.Spelling.{is_bare, is_group, spelling, spellings}
+use Rattle.owl_doc.specs.Spelling.{spelling, spellings}
 use Rattle.owl_doc.specs.Terms.{AreTerms, plain, tagged, typed}
 use Rattle.owl_doc.specs.declared.term.Term.{Term}
 use Rattle.owl_doc.specs.declared.term.Term.TheVariants as term
 use Rattle.fss_write.specs.Text.{atom_text, bracketed, iri_text, joined, literal_end, literal_text, parts, parts_of, string_text}
 use Rattle.fss_write.proofs.DeclaredTables.{AreKnown}
-use Rattle.fss_write.proofs.Pieces.{Cuts, Says, cuts_token, says_close, says_open, says_opening, says_space}
+use Rattle.fss_write.proofs.Pieces.{Cuts, SaysTerms, cuts_token, says_close, says_open, says_opening, says_space}
 use Rattle.fss_write.proofs.Stops.{Ends, token_longest}
 use Rattle.fss_write.proofs.WrittenIris.{iri_token}
 
@@ -87,19 +85,19 @@ decimal_run n h =
 -- atoms
 
 module _ (written read : List Prefix) (known : AreKnown written read) where
-  pub says_iri : (iri rest : List ℕ) (terms : List Term) → IsIri iri → Ends rest → Says read rest terms → Says read (iri_text written iri ++ rest) (term.Atom (Iri iri) ∷ terms)
+  pub says_iri : (iri rest : List ℕ) (terms : List Term) → IsIri iri → Ends rest → SaysTerms read rest terms → SaysTerms read (iri_text written iri ++ rest) (term.Atom (Iri iri) ∷ terms)
   says_iri iri rest terms h e k =
       let one = iri_token written read iri known h in
       cuts_token (λ tokens. AreTerms read tokens (term.Atom (Iri iri) ∷ terms)) (λ tokens. AreTerms read tokens terms) one.token (iri_text written iri) rest one.spells
       (token_longest one.token (iri_text written iri) rest one.spells e) (λ ts m. (ts, (one.token, refl, one.stands), m)) k
 
   -- a string that is begun: what its tokens are follows from those behind it
-  says_string : (form rest : List ℕ) (literal : LiteralParts) (terms : List Term) → Cuts rest (λ tokens. AreTerms read (token.Str form ∷ tokens) (term.Atom (Literal literal) ∷ terms)) → Says read (string_text form ++ rest) (term.Atom (Literal literal) ∷ terms)
+  says_string : (form rest : List ℕ) (literal : LiteralParts) (terms : List Term) → Cuts rest (λ tokens. AreTerms read (token.Str form ∷ tokens) (term.Atom (Literal literal) ∷ terms)) → SaysTerms read (string_text form ++ rest) (term.Atom (Literal literal) ∷ terms)
   says_string form rest literal terms k =
       cuts_token (λ tokens. AreTerms read tokens (term.Atom (Literal literal) ∷ terms)) (λ tokens. AreTerms read (token.Str form ∷ tokens) (term.Atom (Literal literal) ∷ terms)) (token.Str form) (string_text form) rest refl
       (str_longest form (string_text form) rest refl) (λ ts m. m) k
 
-  says_end : (form datatype : List ℕ) (b : Bool) (rest : List ℕ) (terms : List Term) → text_eq datatype string ≡ b → IsIri datatype → FitsTag None datatype → Ends rest → Says read rest terms
+  says_end : (form datatype : List ℕ) (b : Bool) (rest : List ℕ) (terms : List Term) → text_eq datatype string ≡ b → IsIri datatype → FitsTag None datatype → Ends rest → SaysTerms read rest terms
       → Cuts ((if b then [] else codes "^^" ++ iri_text written datatype) ++ rest) (λ tokens. AreTerms read (token.Str form ∷ tokens) (term.Atom (Literal (of_datatype form datatype)) ∷ terms))
   says_end form datatype true rest terms t i fits e k = λ place.
       let others = k place in
@@ -113,7 +111,7 @@ module _ (written read : List Prefix) (known : AreKnown written read) where
       (cuts_token (λ tokens. AreTerms read (token.Str form ∷ token.Sign sign.Carets ∷ tokens) (term.Atom (Literal literal) ∷ terms)) (λ tokens. AreTerms read tokens terms) one.token (iri_text written datatype) rest one.spells
       (token_longest one.token (iri_text written datatype) rest one.spells e) (λ ts m. (ts, typed form datatype one.token refl one.stands (inr (fits.0, fits.1, refl)), m)) k)
 
-  says_tag : (form datatype language rest : List ℕ) (terms : List Term) → FitsTag (Some language) datatype → Ends rest → Says read rest terms
+  says_tag : (form datatype language rest : List ℕ) (terms : List Term) → FitsTag (Some language) datatype → Ends rest → SaysTerms read rest terms
       → Cuts (codes "@" ++ (language ++ rest)) (λ tokens. AreTerms read (token.Str form ∷ tokens) (term.Atom (Literal (record { lexical = form; datatype = datatype; tag = Some language })) ∷ terms))
   says_tag form datatype language rest terms fits e k =
       let literal : LiteralParts = record { lexical = form; datatype = datatype; tag = Some language } in
@@ -121,17 +119,17 @@ module _ (written read : List Prefix) (known : AreKnown written read) where
       cuts_token (λ tokens. AreTerms read (token.Str form ∷ tokens) (term.Atom (Literal literal) ∷ terms)) (λ tokens. AreTerms read tokens terms) (token.At language) (codes "@" ++ language) rest (fits.1, refl)
       (token_longest (token.At language) (codes "@" ++ language) rest (fits.1, refl) e) (λ ts m. (ts, tagged form language refl same, m)) k
 
-  says_parts : (form datatype : List ℕ) (language : Option (List ℕ)) (rest : List ℕ) (terms : List Term) → IsIri datatype → FitsTag language datatype → Ends rest → Says read rest terms
+  says_parts : (form datatype : List ℕ) (language : Option (List ℕ)) (rest : List ℕ) (terms : List Term) → IsIri datatype → FitsTag language datatype → Ends rest → SaysTerms read rest terms
       → Cuts (literal_end written datatype language ++ rest) (λ tokens. AreTerms read (token.Str form ∷ tokens) (term.Atom (Literal (record { lexical = form; datatype = datatype; tag = language })) ∷ terms))
   says_parts form datatype None rest terms i fits e k = says_end form datatype (text_eq datatype string) rest terms refl i fits e k
   says_parts form datatype (Some language) rest terms i fits e k = says_tag form datatype language rest terms fits e k
 
-  says_literal : (literal : LiteralParts) (rest : List ℕ) (terms : List Term) → IsLiteral literal → Ends rest → Says read rest terms → Says read (literal_text written literal ++ rest) (term.Atom (Literal literal) ∷ terms)
+  says_literal : (literal : LiteralParts) (rest : List ℕ) (terms : List Term) → IsLiteral literal → Ends rest → SaysTerms read rest terms → SaysTerms read (literal_text written literal ++ rest) (term.Atom (Literal literal) ∷ terms)
   says_literal literal rest terms h e k =
-      subst (λ (cs : List ℕ). Says read cs (term.Atom (Literal literal) ∷ terms)) (sym (append_assoc (string_text literal.lexical) (literal_end written literal.datatype literal.tag) rest))
+      subst (λ (cs : List ℕ). SaysTerms read cs (term.Atom (Literal literal) ∷ terms)) (sym (append_assoc (string_text literal.lexical) (literal_end written literal.datatype literal.tag) rest))
       (says_string literal.lexical (literal_end written literal.datatype literal.tag ++ rest) literal terms (says_parts literal.lexical literal.datatype literal.tag rest terms h.datatype h.tag e k))
 
-  pub says_atom : (a : Atom) (rest : List ℕ) (terms : List Term) → IsAtom a → Ends rest → Says read rest terms → Says read (atom_text written a ++ rest) (term.Atom a ∷ terms)
+  pub says_atom : (a : Atom) (rest : List ℕ) (terms : List Term) → IsAtom a → Ends rest → SaysTerms read rest terms → SaysTerms read (atom_text written a ++ rest) (term.Atom a ∷ terms)
   says_atom (Iri iri) rest terms h e k = says_iri iri rest terms h e k
   says_atom (Label label) rest terms h e k =
       cuts_token (λ tokens. AreTerms read tokens (term.Atom (Label label) ∷ terms)) (λ tokens. AreTerms read tokens terms) (token.Blank label) (codes "_:" ++ label) rest (h, refl)
@@ -155,7 +153,7 @@ allows_end (part ∷ others) cs e = e
 
 -- the parts are terms, before whatever follows
 abbrev pub SayParts : List Prefix → List (List ℕ) → (List Term → List Term) → Type 0
-SayParts read ps terms = (cs : List ℕ) (more : List Term) → Allows ps cs → Says read cs more → Says read (joined ps ++ cs) (terms more)
+SayParts read ps terms = (cs : List ℕ) (more : List Term) → Allows ps cs → SaysTerms read cs more → SaysTerms read (joined ps ++ cs) (terms more)
 
 joined_both : (p : List ℕ) (ps : List (List ℕ)) (q : List ℕ) (qs : List (List ℕ)) → joined (p ∷ (ps ++ q ∷ qs)) ≡ joined (p ∷ ps) ++ (32 ∷ joined (q ∷ qs))
 joined_both p [] q qs = refl
@@ -165,10 +163,10 @@ module _ (read : List Prefix) where
   pub say_both : (ps qs : List (List ℕ)) (front back : List Term → List Term) → SayParts read ps front → SayParts read qs back → SayParts read (ps ++ qs) (λ more. front (back more))
   say_both [] qs front back f g cs more allows k = f (joined qs ++ cs) (back more) tt (g cs more allows k)
   say_both (p ∷ ps) [] front back f g cs more allows k =
-      subst (λ (x : List (List ℕ)). Says read (joined x ++ cs) (front (back more))) (sym (append-nil (p ∷ ps))) (f cs (back more) allows (g cs more tt k))
+      subst (λ (x : List (List ℕ)). SaysTerms read (joined x ++ cs) (front (back more))) (sym (append-nil (p ∷ ps))) (f cs (back more) allows (g cs more tt k))
   say_both (p ∷ ps) (q ∷ qs) front back f g cs more allows k =
       let behind = 32 ∷ (joined (q ∷ qs) ++ cs) in
-      subst (λ (x : List ℕ). Says read x (front (back more))) (sym (ap (λ (x : List ℕ). x ++ cs) (joined_both p ps q qs) ∙ append_assoc (joined (p ∷ ps)) (32 ∷ joined (q ∷ qs)) cs))
+      subst (λ (x : List ℕ). SaysTerms read x (front (back more))) (sym (ap (λ (x : List ℕ). x ++ cs) (joined_both p ps q qs) ∙ append_assoc (joined (p ∷ ps)) (32 ∷ joined (q ∷ qs)) cs))
       (f behind (back more) refl (says_space read (joined (q ∷ qs) ++ cs) (back more) (g cs more allows k)))
 
 -- trees
@@ -179,7 +177,7 @@ module _ (written read : List Prefix) (known : AreKnown written read) where
   say_leaf true t a h cs more e k =
       let inner = says_atom written read known a (41 ∷ cs) (term.Closing ∷ more) h refl (says_close read cs more k) in
       let whole = says_opening read (keyword_of t) (atom_text written a ++ 41 ∷ cs) (term.Atom a ∷ term.Closing ∷ more) (keyword_fits t) inner in
-      subst (λ (x : List ℕ). Says read x (term.Keyword (keyword_of t) ∷ term.Opening ∷ term.Atom a ∷ term.Closing ∷ more))
+      subst (λ (x : List ℕ). SaysTerms read x (term.Keyword (keyword_of t) ∷ term.Opening ∷ term.Atom a ∷ term.Closing ∷ more))
       (sym (append_assoc (keyword_of t) (40 ∷ (atom_text written a ++ 41 ∷ [])) cs ∙ ap (λ (x : List ℕ). keyword_of t ++ 40 ∷ x) (append_assoc (atom_text written a) (41 ∷ []) cs))) whole
   say_leaf false t a h cs more e k = says_atom written read known a cs more h e k
 
@@ -189,11 +187,11 @@ module _ (written read : List Prefix) (known : AreKnown written read) where
   say_node true g t inside terms f cs more allows k = f cs more allows k
   say_node false true t inside terms f cs more e k =
       let inner = f (41 ∷ cs) (term.Closing ∷ more) (allows_end inside (41 ∷ cs) refl) (says_close read cs more k) in
-      subst (λ (x : List ℕ). Says read (40 ∷ x) (term.Opening ∷ terms (term.Closing ∷ more))) (sym (append_assoc (joined inside) (41 ∷ []) cs)) (says_open read (joined inside ++ 41 ∷ cs) (terms (term.Closing ∷ more)) inner)
+      subst (λ (x : List ℕ). SaysTerms read (40 ∷ x) (term.Opening ∷ terms (term.Closing ∷ more))) (sym (append_assoc (joined inside) (41 ∷ []) cs)) (says_open read (joined inside ++ 41 ∷ cs) (terms (term.Closing ∷ more)) inner)
   say_node false false t inside terms f cs more e k =
       let inner = f (41 ∷ cs) (term.Closing ∷ more) (allows_end inside (41 ∷ cs) refl) (says_close read cs more k) in
       let whole = says_opening read (keyword_of t) (joined inside ++ 41 ∷ cs) (terms (term.Closing ∷ more)) (keyword_fits t) inner in
-      subst (λ (x : List ℕ). Says read x (term.Keyword (keyword_of t) ∷ term.Opening ∷ terms (term.Closing ∷ more)))
+      subst (λ (x : List ℕ). SaysTerms read x (term.Keyword (keyword_of t) ∷ term.Opening ∷ terms (term.Closing ∷ more)))
       (sym (append_assoc (keyword_of t) (40 ∷ (joined inside ++ 41 ∷ [])) cs ∙ ap (λ (x : List ℕ). keyword_of t ++ 40 ∷ x) (append_assoc (joined inside) (41 ∷ []) cs))) whole
 
   mutual

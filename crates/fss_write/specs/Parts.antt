@@ -3,13 +3,13 @@ use Rattle.std.specs.Prelude.{◌<◌, ℕ, zero, suc, Bool, true, false, nat_le
 use Rattle.std.specs.List.{AllByRecursion}
 use Rattle.owl_text.specs.Iri.{IsIri}
 use Rattle.owl_text.specs.Utf8.{size}
+use Rattle.owl_text.specs.Limit.{most_bytes}
 use Rattle.owl_atom.specs.declared.prefixes.Prefix.{Prefix}
 use Rattle.owl_arena.specs.Held.{tree_at}
 use Rattle.owl_tree.specs.declared.tag.Tag.{Tag}
 use Rattle.owl_tree.specs.declared.row.Rest.TheVariants.{Nothing, Optional, AtLeast, SomeThen, Set}
 use Rattle.owl_tree.specs.Rows.{Row, Leaf, Node}
 use Rattle.owl_tree.specs.Trees.{Tree, kids_in, tag_of}
-use Rattle.owl_doc.specs.Functional.{longest}
 use Rattle.fss_write.specs.Text.{bracketed, joined, node_name, node_parts, parts, written_form}
 
 -- each prefix stands for an IRI
@@ -18,7 +18,7 @@ HaveIris prefixes = AllByRecursion (λ (prefix : Prefix). IsIri prefix.iri) pref
 
 -- the text passes the limit
 abbrev pub IsTooLong : List ℕ → Type 0
-IsTooLong text = longest < size text
+IsTooLong text = most_bytes < size text
 
 abbrev pub spaced : List ℕ → List ℕ
 spaced part = codes " " ++ part

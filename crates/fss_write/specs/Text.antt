@@ -15,11 +15,10 @@ use Rattle.owl_tree.specs.declared.tag.Tag.{Tag}
 use Rattle.owl_tree.specs.declared.tag.Tag.TheVariants as tag
 use Rattle.owl_tree.specs.declared.row.Rest.TheVariants.{Nothing, Optional, AtLeast, SomeThen, Set}
 use Rattle.owl_tree.specs.Ontologies.{Ontology, OntologyName}
-use Rattle.owl_tree.specs.Rows.{Row, Leaf, Node, is_tag, row_of}
+use Rattle.owl_tree.specs.Rows.{Row, Leaf, Node, is_tag, row_of, is_bare, is_group}
 use Rattle.owl_tree.specs.Tags.{keyword_of}
 use Rattle.owl_tree.specs.Trees.{Tree, Kids, leaf, node, no_kids, kid, kids_of, tag_of}
 use Rattle.owl_doc.specs.Abbreviations.{best_prefix, local_behind}
-use Rattle.owl_doc.specs.Spelling.{is_bare, is_group}
 
 -- The table with this IRI for the name: in place of the one that the name has, or where the name belongs by its bytes.
 abbrev pub with_prefix : List ℕ → List ℕ → List Prefix → List Prefix
@@ -130,8 +129,8 @@ abbrev mutual
   written_forms no_kids = []
   written_forms (kid k ks) = written_form k ∷ written_forms ks
 
-abbrev pub item_text : List Prefix → Tree → List ℕ
-item_text prefixes t = tree_text prefixes (written_form t)
+abbrev pub written_text : List Prefix → Tree → List ℕ
+written_text prefixes t = tree_text prefixes (written_form t)
 
 abbrev pub prefix_line : Prefix → List ℕ
 prefix_line prefix = codes "Prefix(" ++ (prefix.name ++ (codes ":=" ++ (full_iri prefix.iri ++ codes ")\n")))
@@ -151,7 +150,7 @@ abbrev pub import_line : List ℕ → List ℕ
 import_line iri = codes "Import(" ++ (full_iri iri ++ codes ")\n")
 
 abbrev pub item_line : List Prefix → Tree → List ℕ
-item_line prefixes t = item_text prefixes t ++ codes "\n"
+item_line prefixes t = written_text prefixes t ++ codes "\n"
 
 -- the lines of an ontology with these prefixes, in the order of its lists
 abbrev pub lines_of : List Prefix → Ontology → List ℕ
@@ -164,4 +163,4 @@ text_of prefixes o = lines_of (written_prefixes prefixes) o
 
 -- the text of an axiom, where all IRIs stand in full
 abbrev pub axiom_text : Tree → List ℕ
-axiom_text t = item_text [] t
+axiom_text t = written_text [] t

@@ -5,17 +5,14 @@ ghost use Rattle.std.specs.List.{list_all};
 ghost use Rattle.std.specs.Str.{chars};
 ghost use Rattle.owl_text.specs.Iri.{is_ascii};
 ghost use Rattle.owl_text.specs.Utf8.{size};
-ghost use Rattle.owl_doc.specs.Functional.{longest};
+ghost use Rattle.owl_text.specs.Limit.{most_bytes};
 ghost use Rattle.fss_write.specs.Parts.{IsTooLong};
 ghost use Rattle.fss_write.specs.declared.fault.WriteFault.{WriteFault};
 
 use crate::fault::WriteFault;
-use owl_text::Text;
+use owl_text::{MOST_BYTES, Text};
 use std::alloc::Global;
 use std::marker::Model;
-
-/// The most bytes of a text, 2^27.
-const MOST_BYTES: usize = 1 << 27;
 
 /// The front of a text, of at most 2^27 bytes. Contracts see its characters.
 ///
@@ -29,13 +26,13 @@ pub struct Draft {
 impl Model for Draft {
     ghost use Rattle.std.specs.Prelude.{List, ℕ, ◌≤◌};
     ghost use Rattle.owl_text.specs.Utf8.{size as byte_size};
-    ghost use Rattle.owl_doc.specs.Functional.{longest};
+    ghost use Rattle.owl_text.specs.Limit.{most_bytes};
 
     ghost Value = { List ℕ };
 
     ghost view = { λ d. d.text };
 
-    ghost invariant = { λ d. byte_size d.text ≤ longest };
+    ghost invariant = { λ d. byte_size d.text ≤ most_bytes };
 }
 
 impl Draft {
@@ -55,11 +52,11 @@ impl Draft {
     }
 
     /// Whether so many bytes more are within the limit.
-    #[tactic(auto, using(crate::proofs::Sizes::size_is))]
+    #[tactic(auto, using(owl_text::specs::Utf8Laws::size_is))]
     fn has_room(&self, bytes: usize) -> bool
-        ensures { IsTrue result ↔ (size self.now + bytes ≤ longest) }
+        ensures { IsTrue result ↔ (size self.now + bytes ≤ most_bytes) }
     {
-        bytes <= MOST_BYTES - self.text.as_str().len()
+        bytes as u64 <= MOST_BYTES - self.text.as_str().len() as u64
     }
 
     /// Adds these characters.
@@ -84,7 +81,7 @@ impl Draft {
     }
 
     /// Adds a character.
-    #[tactic(auto, using(crate::proofs::Sizes::size_append))]
+    #[tactic(auto, using(owl_text::specs::Utf8Laws::size_append))]
     pub fn push(&mut self, c: char) -> Result<(), WriteFault>
         ensures ok { OnOk result (self.new ≡ self.old ++ c ∷ []) }
         ensures too_long { IsErrOf result WriteFault.TooLong → IsTooLong (self.old ++ c ∷ []) }
@@ -99,7 +96,7 @@ impl Draft {
     /// The text.
     pub fn into_text(self) -> Text
         ensures text { result ≡ self }
-        ensures within { size self ≤ longest }
+        ensures within { size self ≤ most_bytes }
     {
         let Draft { alloc: _, text } = self;
         text

@@ -8,7 +8,7 @@ ghost use Rattle.owl_text.specs.Names.{IsPrefixName};
 ghost use Rattle.owl_doc.specs.Documents.{ontology_of};
 ghost use Rattle.owl_doc.specs.Heads.{StandsBeside, head_of, name_of};
 ghost use Rattle.fss_write.specs.Parts.{HaveIris, IsTooLong};
-ghost use Rattle.fss_write.specs.Text.{full_iri, header_line, import_line, item_line, item_text, lines_of, name_text, prefix_line, version_text, with_prefix, written_prefixes};
+ghost use Rattle.fss_write.specs.Text.{full_iri, header_line, import_line, item_line, lines_of, name_text, prefix_line, version_text, with_prefix, written_prefixes, written_text};
 ghost use Rattle.fss_write.specs.declared.fault.WriteFault.{WriteFault};
 
 use crate::draft::Draft;
@@ -46,7 +46,7 @@ fn set_iri(prefixes: &mut Prefixes, name: &str, iri: Iri) -> Result<(), NoMemory
 
 impl Draft {
     /// Adds the lines of a document, of which the names are abbreviated by these prefixes.
-    #[tactic(auto, using(crate::proofs::Sizes::size_append))]
+    #[tactic(auto, using(owl_text::specs::Utf8Laws::size_append))]
     pub fn add_document(&mut self, prefixes: &Prefixes, doc: &Doc) -> Result<(), WriteFault>
         ensures ok { OnOk result (self.new ≡ self.old ++ lines_of prefixes.now (ontology_of doc.now)) }
         ensures too_long { IsErrOf result WriteFault.TooLong → IsTooLong (self.old ++ lines_of prefixes.now (ontology_of doc.now)) }
@@ -73,7 +73,7 @@ impl Draft {
         Ok(())
     }
 
-    #[tactic(auto, using(crate::proofs::Sizes::size_append))]
+    #[tactic(auto, using(owl_text::specs::Utf8Laws::size_append))]
     fn add_prefix(&mut self, name: &str, iri: &Iri) -> Result<(), WriteFault>
         ensures ok { OnOk result (self.new ≡ self.old ++ (codes "Prefix(" ++ (chars name.now ++ (codes ":=" ++ (full_iri iri.now ++ codes ")\n"))))) }
         ensures too_long { IsErrOf result WriteFault.TooLong → IsTooLong (self.old ++ (codes "Prefix(" ++ (chars name.now ++ (codes ":=" ++ (full_iri iri.now ++ codes ")\n"))))) }
@@ -89,7 +89,7 @@ impl Draft {
     }
 
     /// Adds the line with the name of the ontology.
-    #[tactic(auto, using(crate::proofs::Sizes::size_append))]
+    #[tactic(auto, using(owl_text::specs::Utf8Laws::size_append))]
     fn add_header(&mut self, head: &Head) -> Result<(), WriteFault>
         ensures ok { OnOk result (self.new ≡ self.old ++ header_line (head_of head.now).name) }
         ensures too_long { IsErrOf result WriteFault.TooLong → IsTooLong (self.old ++ header_line (head_of head.now).name) }
@@ -102,7 +102,7 @@ impl Draft {
         self.add_ascii("\n")
     }
 
-    #[tactic(auto, using(crate::proofs::Sizes::size_append))]
+    #[tactic(auto, using(owl_text::specs::Utf8Laws::size_append))]
     fn add_version(&mut self, version: &Option<Iri>) -> Result<(), WriteFault>
         ensures ok { OnOk result (self.new ≡ self.old ++ version_text version.now) }
         ensures too_long { IsErrOf result WriteFault.TooLong → IsTooLong (self.old ++ version_text version.now) }
@@ -127,7 +127,7 @@ impl Draft {
         Ok(())
     }
 
-    #[tactic(auto, using(crate::proofs::Sizes::size_append))]
+    #[tactic(auto, using(owl_text::specs::Utf8Laws::size_append))]
     fn add_import(&mut self, iri: &Iri) -> Result<(), WriteFault>
         ensures ok { OnOk result (self.new ≡ self.old ++ import_line iri.now) }
         ensures too_long { IsErrOf result WriteFault.TooLong → IsTooLong (self.old ++ import_line iri.now) }
@@ -154,7 +154,7 @@ impl Draft {
         Ok(())
     }
 
-    #[tactic(auto, using(crate::proofs::Sizes::size_append))]
+    #[tactic(auto, using(owl_text::specs::Utf8Laws::size_append))]
     fn add_line(&mut self, arena: &Arena, prefixes: &Prefixes, id: ExprId) -> Result<(), WriteFault>
         requires { id < length arena.now.trees }
         ensures ok { OnOk result (self.new ≡ self.old ++ item_line prefixes.now (tree_at arena.now.trees id)) }

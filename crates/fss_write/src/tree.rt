@@ -3,11 +3,10 @@
 ghost use Rattle.std.specs.Prelude.{◌≡◌, ◌<◌, ◌++◌, codes, IfOk, IsErrOf, OnOk, length};
 ghost use Rattle.std.specs.Str.{chars};
 ghost use Rattle.owl_arena.specs.Held.{tree_at};
-ghost use Rattle.owl_doc.specs.Spelling.{is_bare, is_group};
 ghost use Rattle.owl_tree.specs.Rows.{row_of};
 ghost use Rattle.owl_tree.specs.Tags.{keyword_of};
 ghost use Rattle.fss_write.specs.Parts.{IsTooLong, behind, has_parts, kids_parts_at, node_parts_at, node_text_at, only_behind, parts_at, repeated, spacing};
-ghost use Rattle.fss_write.specs.Text.{atom_text, bracketed, item_text, leaf_text, node_name};
+ghost use Rattle.fss_write.specs.Text.{atom_text, bracketed, leaf_text, node_name, written_text};
 ghost use Rattle.fss_write.specs.declared.fault.WriteFault.{WriteFault};
 
 use crate::draft::Draft;
@@ -16,25 +15,11 @@ use owl_arena::{Arena, ExprId};
 use owl_atom::Prefixes;
 use owl_tree::{Atom, Rest, Row, Tag};
 
-/// Whether the parts of a node with this tag stand without a keyword and without brackets.
-fn is_bare(tag: Tag) -> bool
-    ensures { result ≡ is_bare tag }
-{
-    tag == Tag::Notes || tag == Tag::FacetPair
-}
-
-/// Whether the parts of a node with this tag stand in brackets without a keyword.
-fn is_group(tag: Tag) -> bool
-    ensures { result ≡ is_group tag }
-{
-    tag == Tag::ObjectKeys || tag == Tag::DataKeys
-}
-
 /// What stands before the bracket of a node.
 fn node_name(tag: Tag) -> &'static str
     ensures { chars result.now ≡ node_name tag }
 {
-    if is_group(tag) { "" } else { tag.keyword() }
+    if tag.is_group() { "" } else { tag.keyword() }
 }
 
 /// The only member of a set of which two members have to be written.
@@ -73,7 +58,7 @@ impl Draft {
     }
 
     /// Adds a leaf that stands in a node with the tag `within`.
-    #[tactic(auto, using(crate::proofs::Sizes::size_append))]
+    #[tactic(auto, using(owl_text::specs::Utf8Laws::size_append))]
     fn add_leaf(
         &mut self,
         prefixes: &Prefixes,
@@ -92,7 +77,7 @@ impl Draft {
     }
 
     /// Adds an entity of a declaration, in the brackets of its keyword.
-    #[tactic(auto, using(crate::proofs::Sizes::size_append))]
+    #[tactic(auto, using(owl_text::specs::Utf8Laws::size_append))]
     fn add_entity(&mut self, prefixes: &Prefixes, tag: Tag, atom: &Atom) -> Result<(), WriteFault>
         ensures ok { OnOk result (self.new ≡ self.old ++ bracketed (keyword_of tag) (atom_text prefixes.now atom.now)) }
         ensures too_long { IsErrOf result WriteFault.TooLong → IsTooLong (self.old ++ bracketed (keyword_of tag) (atom_text prefixes.now atom.now)) }
@@ -111,15 +96,15 @@ impl Draft {
         id: ExprId,
     ) -> Result<(), WriteFault>
         requires { id < length arena.now.trees }
-        ensures ok { OnOk result (self.new ≡ self.old ++ item_text prefixes.now (tree_at arena.now.trees id)) }
-        ensures too_long { IsErrOf result WriteFault.TooLong → IsTooLong (self.old ++ item_text prefixes.now (tree_at arena.now.trees id)) }
+        ensures ok { OnOk result (self.new ≡ self.old ++ written_text prefixes.now (tree_at arena.now.trees id)) }
+        ensures too_long { IsErrOf result WriteFault.TooLong → IsTooLong (self.old ++ written_text prefixes.now (tree_at arena.now.trees id)) }
     {
         self.add_parts(arena, prefixes, arena.tag(id), false, id)?;
         Ok(())
     }
 
     /// Adds what stands before the kids of a node.
-    #[tactic(auto, using(crate::proofs::Sizes::size_append))]
+    #[tactic(auto, using(owl_text::specs::Utf8Laws::size_append))]
     fn open_node(&mut self, tag: Tag) -> Result<(), WriteFault>
         ensures ok { OnOk result (self.new ≡ self.old ++ (node_name tag ++ codes "(")) }
         ensures too_long { IsErrOf result WriteFault.TooLong → IsTooLong (self.old ++ (node_name tag ++ codes "(")) }
@@ -131,7 +116,7 @@ impl Draft {
     /// Adds the parts of a tree that stands in a node with the tag `within`, behind some part or behind none, and tells
     /// whether some part stands there now.
     #[cycle(tree)]
-    #[tactic(auto, using(crate::proofs::Sizes::size_append))]
+    #[tactic(auto, using(owl_text::specs::Utf8Laws::size_append))]
     fn add_parts(
         &mut self,
         arena: &Arena,
@@ -158,7 +143,7 @@ impl Draft {
 
     /// The same of a node.
     #[cycle(tree)]
-    #[tactic(auto, using(crate::proofs::Sizes::size_append))]
+    #[tactic(auto, using(owl_text::specs::Utf8Laws::size_append))]
     fn add_node_parts(
         &mut self,
         arena: &Arena,
@@ -171,7 +156,7 @@ impl Draft {
         ensures ok { OnOk result (self.new ≡ self.old ++ behind after_part (node_parts_at prefixes.now arena.now.trees id)) }
         ensures too_long { IsErrOf result WriteFault.TooLong → IsTooLong (self.old ++ behind after_part (node_parts_at prefixes.now arena.now.trees id)) }
     {
-        if is_bare(arena.tag(id)) {
+        if arena.tag(id).is_bare() {
             return self.add_kids(arena, prefixes, after_part, id);
         }
         self.add_space(after_part)?;
@@ -181,7 +166,7 @@ impl Draft {
 
     /// Adds a node with its brackets.
     #[cycle(tree)]
-    #[tactic(auto, using(crate::proofs::Sizes::size_append))]
+    #[tactic(auto, using(owl_text::specs::Utf8Laws::size_append))]
     fn add_node(&mut self, arena: &Arena, prefixes: &Prefixes, id: ExprId) -> Result<(), WriteFault>
         requires { id < length arena.now.trees }
         ensures ok { OnOk result (self.new ≡ self.old ++ node_text_at prefixes.now arena.now.trees id) }

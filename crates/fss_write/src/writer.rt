@@ -2,9 +2,10 @@
 
 ghost use Rattle.std.specs.Prelude.{◌≡◌, ◌<◌, ◌≤◌, length, IfOk, IsErrOf};
 ghost use Rattle.std.specs.Str.{encode_utf8_all};
+ghost use Rattle.owl_text.specs.Limit.{most_bytes};
 ghost use Rattle.owl_arena.specs.Held.{tree_at};
 ghost use Rattle.owl_doc.specs.Documents.{ontology_of};
-ghost use Rattle.owl_doc.specs.Functional.{Reads, longest};
+ghost use Rattle.owl_doc.specs.Functional.{ReadsFunctional};
 ghost use Rattle.fss_write.specs.Text.{axiom_text, declared_prefixes, text_of};
 ghost use Rattle.fss_write.specs.declared.fault.WriteFault.{WriteFault};
 
@@ -23,9 +24,9 @@ use std::alloc::Global;
 /// `TooLong` exactly where it has more than 2^27 bytes, and `Memory` where memory runs out.
 pub fn write(alloc: Global, doc: &Doc) -> Result<Text, WriteFault>
     ensures text { IfOk result (λ text. text ≡ text_of doc.now.prefixes (ontology_of doc.now)) }
-    ensures within { IfOk result (λ text. length (encode_utf8_all text) ≤ longest) }
-    ensures too_long { IsErrOf result WriteFault.TooLong → longest < length (encode_utf8_all (text_of doc.now.prefixes (ontology_of doc.now))) }
-    ensures reads_back { IfOk result (λ text. Reads (encode_utf8_all text) (declared_prefixes doc.now.prefixes) (ontology_of doc.now)) }
+    ensures within { IfOk result (λ text. length (encode_utf8_all text) ≤ most_bytes) }
+    ensures too_long { IsErrOf result WriteFault.TooLong → most_bytes < length (encode_utf8_all (text_of doc.now.prefixes (ontology_of doc.now))) }
+    ensures reads_back { IfOk result (λ text. ReadsFunctional (encode_utf8_all text) (declared_prefixes doc.now.prefixes) (ontology_of doc.now)) }
 {
     // What is known of every document and of every arena.
     doc.arena().distinct();
@@ -45,8 +46,8 @@ pub fn write(alloc: Global, doc: &Doc) -> Result<Text, WriteFault>
 pub fn axiom_text(alloc: Global, doc: &Doc, id: ExprId) -> Result<Text, WriteFault>
     requires { id < length doc.now.arena.trees }
     ensures text { IfOk result (λ text. text ≡ axiom_text (tree_at doc.now.arena.trees id)) }
-    ensures within { IfOk result (λ text. length (encode_utf8_all text) ≤ longest) }
-    ensures too_long { IsErrOf result WriteFault.TooLong → longest < length (encode_utf8_all (axiom_text (tree_at doc.now.arena.trees id))) }
+    ensures within { IfOk result (λ text. length (encode_utf8_all text) ≤ most_bytes) }
+    ensures too_long { IsErrOf result WriteFault.TooLong → most_bytes < length (encode_utf8_all (axiom_text (tree_at doc.now.arena.trees id))) }
 {
     let mut draft = Draft::new(alloc);
     draft.add_item(doc.arena(), &Prefixes::empty(alloc), id)?;

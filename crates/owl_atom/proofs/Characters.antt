@@ -1,23 +1,13 @@
 -- What tests of a text tell of its characters.
-use Rattle.std.proofs.Common.{◌≡◌, ℕ, ◌<◌, ◌+◌, ◌↔◌, Bool, true, false, not, List, [], ◌∷◌, ◌++◌, refl, sym, ap, ◌∙◌, subst, take, drop, length, length-drop, take-append-drop, arith}
+use Rattle.std.proofs.Common.{◌≡◌, ℕ, ◌<◌, ◌+◌, Bool, true, false, not, List, [], ◌∷◌, ◌++◌, refl, sym, ap, ◌∙◌, subst, take, drop, length, length-drop, take-append-drop, arith}
 use Rattle.std.specs.Prelude.{◌==◌}
 use Rattle.std.specs.Char.{len_utf8}
-use Rattle.std.specs.List.{list_all}
 use Rattle.std.specs.Str.{IsUtf8, NoCharPasses, IsCharBoundary, NonePass, chars, encode_utf8_all}
 use Rattle.std.specs.Str.Pattern.{HasCharAt}
-use Rattle.std.proofs.lemmas.Bool.{both_ways, eqb-true, and_parts, and_from, not_from_false}
+use Rattle.std.proofs.lemmas.Bool.{both_ways, eqb-true, not_from_false}
 use Rattle.std.proofs.lemmas.Str.{chars-append, chars-nil, chars_past_char, encodes-chars, encodes_same, IsCharBoundary-before_ascii, IsUtf8-take, IsUtf8-drop}
 use Rattle.std.proofs.lemmas.Str.Pattern.{drop_at_char}
 use Rattle.owl_text.specs.Iri.{AllAre}
-
--- the test of all characters, and the fact
-pub all_are : (test : ℕ → Bool) (cs : List ℕ) → (list_all test cs ≡ true) ↔ AllAre test cs
-all_are test [] = (λ _. tt, λ _. refl)
-all_are test (c ∷ cs) =
-    let rest = all_are test cs in (
-      λ h. let both = and_parts (test c) (list_all test cs) h in (both.0, rest.0 both.1),
-      λ h. and_from (test c) (list_all test cs) h.0 (rest.1 h.1),
-    )
 
 -- no character passes the test
 abbrev pub NoneAre : (ℕ → Bool) → List ℕ → Type 0

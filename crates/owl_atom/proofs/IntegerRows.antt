@@ -6,13 +6,14 @@ use Rattle.std.specs.Str.{encode_utf8_all}
 use Rattle.std.proofs.lemmas.List.{get_or-map, length-map}
 use Rattle.std.proofs.lemmas.List.Elements.{All-contains, Contains-get_or}
 use Rattle.std.proofs.lemmas.List.Sums.{AllPass-from_list_all}
+use Rattle.owl_text.specs.Iri.{is_ascii}
+use Rattle.owl_text.specs.AsciiLaws.{from_bytes, from_characters}
 use Rattle.owl_atom.specs.declared.lexical.IntegerRow.{IntegerRow as RowOfName}
 use Rattle.owl_atom.specs.Datatypes.{IntegerRow, IsIntegerForm}
 use Rattle.owl_atom.specs.Tables.{FitsRows, range}
-use Rattle.owl_atom.proofs.AsciiTexts.{from_bytes, from_characters, is_ascii_text}
 
 abbrev pub is_ascii_row : RowOfName → Bool
-is_ascii_row row = is_ascii_text row.datatype.now
+is_ascii_row row = list_all is_ascii row.datatype.now
 
 -- the form is one of each integer datatype that has the name
 abbrev pub FitsRanges : List IntegerRow → List ℕ → List ℕ → Type 0

@@ -1,15 +1,15 @@
 -- Which texts are IRIs.
 use Rattle.std.proofs.Common.{◌≡◌, ℕ, ◌<◌, ◌↔◌, Bool, true, false, not, List, ◌∷◌, ◌++◌, Some, refl, sym, ap, ◌∙◌, subst, take, drop}
-use Rattle.std.specs.Prelude.{◌==◌, codes}
-use Rattle.std.specs.List.{list_all}
+use Rattle.std.specs.Prelude.{◌==◌}
 use Rattle.std.specs.Str.{IsUtf8, chars}
 use denote.Ref.{Bor}
 use Rattle.std.proofs.lemmas.Bool.{false_from_ne_true, eqb-true, not_from_false, both_ways}
 use Rattle.std.proofs.lemmas.Str.Pattern.{IsSplitOnceResult}
 use Rattle.owl_text.specs.Iri.{AllAre, IsIri, IsScheme, is_iri_character, is_scheme_character}
-use Rattle.owl_text.proofs.Schemes.{scheme_characters}
-use Rattle.owl_text.proofs.Spans.{AllAre-weaker, found, same_cut}
-use Rattle.owl_atom.proofs.Characters.{NoneAre, all_are, cut_at, front_utf8, none_of}
+use Rattle.owl_text.specs.IriLaws.{scheme_characters}
+use Rattle.owl_text.specs.AllAreLaws.{AllAre-weaker}
+use Rattle.owl_text.specs.CutLaws.{found, same_cut}
+use Rattle.owl_atom.proofs.Characters.{NoneAre, cut_at, front_utf8, none_of}
 
 -- a character that passes a test is not one that fails it
 pub another : (test : ℕ → Bool) (x c : ℕ) → test x ≡ false → test c ≡ true → not (c == x) ≡ true
@@ -40,8 +40,3 @@ first_cut c bs front back u h small = (
   cut_at c bs h.0 h.1 u h.2.1 small ∙ ap (λ x. chars x ++ c ∷ chars (drop h.1 bs)) (sym h.3) ∙ ap (λ x. chars front.now ++ c ∷ chars x) (sym h.4),
   subst (λ x. NoneAre (λ d. d == c) (chars x)) (sym h.3) (none_of (λ d. d == c) (take h.0 bs) (front_utf8 c bs h.0 h.1 u h.2.1 small) h.2.0),
 )
-
--- an IRI that is written out
-pub written_iri : (rest : List ℕ) → list_all is_iri_character rest ≡ true → IsIri (codes "http:" ++ rest)
-written_iri rest h =
-    record { scheme = codes "http"; rest = rest; parts = refl; named = (refl, (refl, (refl, (refl, tt)))); allowed = (all_are is_iri_character rest).0 h }

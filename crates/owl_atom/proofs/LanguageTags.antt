@@ -6,16 +6,16 @@ use Rattle.std.specs.Int.{is_in_range}
 use Rattle.std.specs.Char.{is_ascii_alphabetic, is_ascii_alphanumeric}
 use Rattle.std.specs.List.{AllByRecursion, after_first, list_all, onto_first, slice_split}
 use Rattle.std.specs.Str.{IsAscii, IsUtf8, chars}
-use Rattle.std.proofs.lemmas.Bool.{and_parts, and_from, cases_Bool, eqb-true, false≢true, leb-true, lt-ltb, ne_eqb, or_cases, or_left, or_right}
+use Rattle.std.proofs.lemmas.Bool.{and_parts, and_from, cases_Bool, eqb-true, false≢true, leb-true, lt-ltb, ne_eqb, or_cases}
 use Rattle.std.proofs.lemmas.List.Splits.{slice_split-cons_no, slice_split-cons_yes, slice_split_first}
 use Rattle.std.proofs.lemmas.Str.Pattern.{IsSplitOnceResult, split_once_first, split_parts}
 use Rattle.std.proofs.lemmas.Str.{chars-IsAscii, encodes-IsAscii, encodes-chars}
 use Rattle.owl_text.specs.Iri.{AllAre, is_ascii}
-use Rattle.owl_text.specs.Names.{AreSubtags, IsLanguageTag, IsRunOf}
-use Rattle.owl_text.proofs.Spans.{AllAre-weaker}
+use Rattle.owl_text.specs.Names.{AreSubtags, IsLanguageTag, IsRunOf, is_hyphen}
+use Rattle.owl_text.specs.AllAreLaws.{AllAre-weaker, all_are}
+use Rattle.owl_text.specs.LanguageTagLaws.{alphabetic_is_alphanumeric}
+use Rattle.owl_text.specs.AsciiLaws.{ascii_text}
 use Rattle.owl_atom.specs.Characters.{is_run_of}
-use Rattle.owl_atom.proofs.Characters.{all_are}
-use Rattle.owl_atom.proofs.Words.{ascii_text}
 
 -- a run that is not empty
 pub run_of_some : (test : ℕ → Bool) (xs : List ℕ) (b : Bool) → (length xs == 0) ≡ false → b ≡ list_all test xs → b ≡ is_run_of test xs
@@ -41,12 +41,6 @@ runs_are test (part ∷ parts) =
 below : (least most c : ℕ) → most < 128 → is_in_range least most c ≡ true → is_ascii c ≡ true
 below least most c small h = let most_is = leb-true c most (and_parts (nat_le least c) (nat_le c most) h).1 in lt-ltb c 128 (omega arith)
 
-letter_is_alphanumeric : (c : ℕ) → is_ascii_alphabetic c ≡ true → is_ascii_alphanumeric c ≡ true
-letter_is_alphanumeric c h = elim (or_cases (is_in_range 65 90 c) (is_in_range 97 122 c) h) [
-  | inl k ↦ or_left _ (is_in_range 97 122 c) (or_right (is_in_range 48 57 c) (is_in_range 65 90 c) k)
-  | inr k ↦ or_right (is_in_range 48 57 c || is_in_range 65 90 c) (is_in_range 97 122 c) k
-]
-
 alphanumeric_is_ascii : (c : ℕ) → is_ascii_alphanumeric c ≡ true → is_ascii c ≡ true
 alphanumeric_is_ascii c h = elim (or_cases (is_in_range 48 57 c || is_in_range 65 90 c) (is_in_range 97 122 c) h) [
   | inl k ↦ elim (or_cases (is_in_range 48 57 c) (is_in_range 65 90 c) k) [ inl m ↦ below 48 57 c (lit< tt) m | inr m ↦ below 65 90 c (lit< tt) m ]
@@ -64,10 +58,7 @@ runs_pass to weaker (part ∷ parts) h = (run_passes is_ascii_alphanumeric to we
 subtags_pass : (to : ℕ → Bool) → ((c : ℕ) → is_ascii_alphanumeric c ≡ true → to c ≡ true) → (parts : List (List ℕ)) → AreSubtags parts → AllByRecursion (AllAre to) parts
 subtags_pass to weaker [] h = absurd h
 subtags_pass to weaker (first ∷ others) h =
-    (run_passes is_ascii_alphabetic to (λ c k. weaker c (letter_is_alphanumeric c k)) first h.0, runs_pass to weaker others h.1)
-
-abbrev is_hyphen : ℕ → Bool
-is_hyphen c = c == 0x2D
+    (run_passes is_ascii_alphabetic to (λ c k. weaker c (alphabetic_is_alphanumeric c k)) first h.0, runs_pass to weaker others h.1)
 
 -- what holds of all parts holds of the list, where it holds of the hyphen
 onto_passes : (to : ℕ → Bool) (x : ℕ) (parts : List (List ℕ)) → AllByRecursion (AllAre to) (onto_first x parts) → (to x ≡ true) × AllByRecursion (AllAre to) parts

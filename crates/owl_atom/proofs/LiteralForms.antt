@@ -11,12 +11,12 @@ use Rattle.owl_atom.specs.declared.fault.LiteralFault.{LiteralFault}
 use Rattle.owl_atom.specs.declared.fault.LiteralFault.TheVariants.{BadLiteral}
 use Rattle.owl_text.specs.Iri.{AllAre}
 use Rattle.owl_text.specs.Names.{IsLanguageTag}
-use Rattle.owl_text.proofs.Spans.{SameCut, found}
-use Rattle.owl_atom.specs.Literals.{Denotes, DenotesTyped, FitsTag, LiteralParts, PlainForm, PlainParts, lang_string, of_datatype, plain_literal, string, with_tag}
+use Rattle.owl_text.specs.CutLaws.{SameCut, found}
+use Rattle.owl_text.specs.AsciiLaws.{ascii_chars}
+use Rattle.owl_atom.specs.Literals.{DenotesLiteral, DenotesTyped, FitsTag, LiteralParts, PlainForm, PlainParts, lang_string, of_datatype, plain_literal, string, with_tag}
 use Rattle.owl_atom.proofs.Characters.{NoneAre, back_utf8, cut_at, none_of}
 use Rattle.owl_atom.proofs.Iris.{another}
 use Rattle.owl_atom.proofs.LanguageTags.{tag_passes}
-use Rattle.owl_atom.proofs.Words.{own}
 
 -- lists that are cut at the last character that fails are cut alike
 same_last_cut : (p : ℕ → Bool) (xs ys : List ℕ) (c : ℕ) (a b : List ℕ) → AllAre p a → AllAre p b → p c ≡ false → xs ++ c ∷ a ≡ ys ++ c ∷ b → SameCut xs ys c c a b
@@ -65,7 +65,7 @@ one_typed form datatype a b (inl h) (inr k) = absurd (k.0 h.0)
 one_typed form datatype a b (inr h) (inl k) = absurd (h.0 k.0)
 one_typed form datatype a b (inr h) (inr k) = h.2 ∙ sym k.2
 
-pub one_untyped : (form : List ℕ) (tag : Option (List ℕ)) (a b : LiteralParts) → Denotes form None tag a → Denotes form None tag b → a ≡ b
+pub one_untyped : (form : List ℕ) (tag : Option (List ℕ)) (a b : LiteralParts) → DenotesLiteral form None tag a → DenotesLiteral form None tag b → a ≡ b
 one_untyped form None a b h k = h ∙ sym k
 one_untyped form (Some tag) a b h k = h ∙ sym k
 
@@ -80,13 +80,13 @@ pub string_has_no_tags : FitsTag None string
 string_has_no_tags = (apart string plain_literal refl refl, apart string lang_string refl refl)
 
 pub string_chars : chars string ≡ string
-string_chars = own string refl
+string_chars = ascii_chars string refl
 
 pub plain_literal_chars : chars plain_literal ≡ plain_literal
-plain_literal_chars = own plain_literal refl
+plain_literal_chars = ascii_chars plain_literal refl
 
 pub lang_string_chars : chars lang_string ≡ lang_string
-lang_string_chars = own lang_string refl
+lang_string_chars = ascii_chars lang_string refl
 
 -- where a form denotes something, and the call does not refuse it
 pub taken : {T : Type 0} (r : Result T LiteralFault) (D : LiteralParts → Type 0) (literal : LiteralParts) → D literal → (IsErrOf r BadLiteral → ⊥) → IsErrOf r BadLiteral ↔ ((other : LiteralParts) → D other → ⊥)
@@ -117,7 +117,7 @@ pub typed_plain : (form datatype : List ℕ) → datatype ≡ plain_literal → 
 typed_plain form datatype e literal = (λ f. inl (e, f), λ t. elim t [ inl x ↦ x.1 | inr x ↦ absurd (x.0 e) ])
 
 -- with a datatype there is no tag
-pub without_tag : (form datatype : List ℕ) (tag : Option (Bor (List ℕ))) → IsNone tag → (literal : LiteralParts) → DenotesTyped form datatype literal ↔ Denotes form (Some datatype) (option_map (λ t. chars t.now) tag) literal
+pub without_tag : (form datatype : List ℕ) (tag : Option (Bor (List ℕ))) → IsNone tag → (literal : LiteralParts) → DenotesTyped form datatype literal ↔ DenotesLiteral form (Some datatype) (option_map (λ t. chars t.now) tag) literal
 without_tag form datatype None h literal = (λ d. d, λ d. d)
 without_tag form datatype (Some tag) h literal = absurd (cc)
 
@@ -127,6 +127,6 @@ one_of_two (Some y) x p (inl h) e = absurd (cc)
 one_of_two (Some y) x p (inr h) e = h
 
 -- a form without a datatype denotes something
-pub without_datatype : (form : List ℕ) (tag : Option (List ℕ)) → (literal : LiteralParts) × Denotes form None tag literal
+pub without_datatype : (form : List ℕ) (tag : Option (List ℕ)) → (literal : LiteralParts) × DenotesLiteral form None tag literal
 without_datatype form None = (of_datatype form string, refl)
 without_datatype form (Some tag) = (with_tag form tag, refl)

@@ -1,18 +1,15 @@
 -- Local parts: how an IRI is cut behind the IRI of a prefix.
-use Rattle.std.proofs.Common.{◌≡◌, ℕ, ◌↔◌, true, false, List, [], ◌∷◌, ◌++◌, sym, ap, ◌∙◌, subst, arith}
+use Rattle.std.proofs.Common.{◌≡◌, ℕ, ◌↔◌, true, false, List, [], ◌∷◌, ◌++◌, sym, ap, ◌∙◌, subst}
 use Rattle.std.specs.Str.{IsUtf8, chars, encode_utf8_all}
 use Rattle.std.specs.Str.Pattern.{LacksTextAt}
-use Rattle.std.proofs.lemmas.Bool.Decides.{nat_tests}
 use Rattle.std.proofs.lemmas.List.{append_cancel_left}
 use Rattle.std.proofs.lemmas.Str.{chars-append, encodes-append}
 use Rattle.owl_text.specs.Iri.{AllAre}
-use Rattle.owl_atom.specs.Characters.{begins_with}
+use Rattle.owl_text.specs.Names.{begins_with}
 use Rattle.owl_atom.specs.declared.prefixes.Prefix.{Prefix}
 use Rattle.owl_atom.specs.Prefixes.{IsPlainLocal, is_plain_start, is_plain_character}
 use Rattle.owl_atom.specs.Places.{CutsNowhere}
-
-start_is_plain : (c : ℕ) → is_plain_start c ≡ true → is_plain_character c ≡ true
-start_is_plain c h = grind (arith, nat_tests)
+use Rattle.owl_atom.specs.PrefixLaws.{start_is_plain}
 
 pub plain_behind_start : (cs : List ℕ) → begins_with is_plain_start cs ≡ true → AllAre is_plain_character cs ↔ IsPlainLocal cs
 plain_behind_start [] h = absurd (cc)

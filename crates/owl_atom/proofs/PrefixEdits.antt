@@ -7,7 +7,7 @@ use Rattle.owl_text.specs.Names.{IsPrefixName}
 use Rattle.owl_atom.specs.declared.prefixes.Prefix.{Prefix}
 use Rattle.owl_atom.specs.Prefixes.{AreAscending, IsTable, prefix_in, is_declared, is_fixed, iri_of, fixed_prefixes, expansion}
 use Rattle.owl_atom.specs.Places.{IsPlaceOf, IsGapFor}
-use Rattle.owl_atom.proofs.PrefixTables.{AreNamed, IsFound, SetsOnly, absent, found, set_at, insert_at}
+use Rattle.owl_atom.specs.PrefixLaws.{AreNamed, IsFound, SetsOnly, absent, found, set_at, insert_at}
 
 -- the prefix that is read at the place of a name
 pub found_in : (slice held table : List Prefix) (name : List ℕ) (place : ℕ) (prefix : Prefix) → slice ≡ held → held ≡ table → IsPlaceOf slice name place → place < length slice → prefix ≡ get_or held place prefix → IsFound table name prefix

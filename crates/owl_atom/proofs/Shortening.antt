@@ -1,19 +1,18 @@
 -- The best of the prefixes that cut an IRI.
-use Rattle.std.proofs.Common.{◌≡◌, ◌<◌, ◌≤◌, ◌+◌, ◌⊎◌, ◌↔◌, inl, inr, ℕ, zero, suc, Bool, true, false, List, [], ◌∷◌, ◌++◌, length, Option, Some, None, IsNone, IfSome, refl, sym, ap, ◌∙◌, subst, length-append, arith}
+use Rattle.std.proofs.Common.{◌≡◌, ◌<◌, ◌≤◌, ◌+◌, ◌⊎◌, ◌↔◌, inl, inr, ℕ, Bool, true, false, List, [], ◌∷◌, ◌++◌, length, Option, Some, None, IsNone, IfSome, refl, sym, ap, ◌∙◌, subst, length-append, arith}
 use Rattle.std.specs.Prelude.{slice_get, Contains, if◌then◌else◌, nat_lt}
-use Rattle.std.specs.declared.cmp.Ordering.TheVariants.{Less}
 use Rattle.std.specs.Option.{option_map}
 use Rattle.std.specs.Char.{encode_utf8}
 use Rattle.std.specs.Str.{IsCharBoundary, encode_utf8_all}
 use Rattle.std.proofs.lemmas.Bool.{ltb-true, ltb-false, true≢false}
-use Rattle.std.proofs.lemmas.Option.{same_Some, slice_get-get_or, get_or_from_slice_get}
+use Rattle.std.proofs.lemmas.Option.{same_Some, get_or_from_slice_get}
 use Rattle.std.proofs.lemmas.Str.{length-le-encodes}
 use borrow.Author.Count.{below_more}
-use Rattle.owl_text.specs.Order.{text_cmp}
 use Rattle.owl_atom.specs.declared.prefixes.Prefix.{Prefix}
 use Rattle.owl_atom.specs.Prefixes.{AreAscending, IsBetter, Cuts, Shortens}
 use Rattle.owl_atom.specs.Places.{CutsAt, CutsNowhere, IsBestOf, IsBest, longer}
-use Rattle.owl_atom.proofs.PrefixTables.{ascends, found, stands}
+use Rattle.owl_atom.specs.PrefixLaws.{contained, earlier_better, found, stands}
+use Rattle.owl_atom.proofs.PrefixTables.{ascends}
 
 -- of two fronts of one text, the one with fewer bytes has fewer characters
 
@@ -52,16 +51,6 @@ longer_iri p q iri i j at_p at_q lt =
 no_longer_iri : (p q : Prefix) (iri : List ℕ) (i j : ℕ) → CutsAt p iri i → CutsAt q iri j → i ≤ j → length p.iri ≤ length q.iri
 no_longer_iri p q iri i j at_p at_q le =
     no_more p.iri q.iri at_p.local at_q.local (sym at_p.cuts.parts ∙ at_q.cuts.parts) (omega (arith, at_p.begins, at_q.begins))
-
-less_or_same : (m n : ℕ) → m ≤ n → (m < n) ⊎ (m ≡ n)
-less_or_same zero zero h = inr refl
-less_or_same zero (suc n) h = inl (omega arith)
-less_or_same (suc m) zero h = absurd (omega arith)
-less_or_same (suc m) (suc n) h = elim (less_or_same m n (omega arith)) as (λ _. (suc m < suc n) ⊎ (suc m ≡ suc n)) [ inl lt ↦ inl (omega arith) | inr e ↦ inr (ap suc e) ]
-
--- an earlier prefix that is no shorter is better
-pub earlier_better : (p q : Prefix) → length q.iri ≤ length p.iri → text_cmp p.name q.name ≡ Less → IsBetter p q
-earlier_better p q le less = elim (less_or_same (length q.iri) (length p.iri) le) as (λ _. IsBetter p q) [ inl lt ↦ inl lt | inr e ↦ inr (e, less) ]
 
 -- what was no better than the old best one is worse than a longer one
 worse : (new old other : Prefix) → length old.iri < length new.iri → (other ≡ old) ⊎ IsBetter old other → IsBetter new other
@@ -126,9 +115,6 @@ module _ (prefixes : List Prefix) (n : ℕ) (iri : List ℕ) (p : Prefix) (up : 
   one_more (Some (place, begin)) (Some other) cuts nowhere old = compared (nat_lt begin other) place begin other refl old cuts
 
 -- the best of all
-
-pub contained : (prefixes : List Prefix) (other : Prefix) (h : Contains prefixes other) → slice_get prefixes h.0 ≡ Some other
-contained prefixes other h = slice_get-get_or prefixes h.0 other h.1 ∙ ap Some h.2
 
 shortens : (prefixes : List Prefix) (iri : List ℕ) (place begin : ℕ) → AreAscending prefixes → IsBestOf prefixes (length prefixes) iri place begin → Shortens prefixes iri place begin
 shortens prefixes iri place begin up h = record {

@@ -2,10 +2,6 @@
 use Rattle.std.specs.Prelude.{ℕ, Bool, false, List, [], ◌∷◌}
 use Rattle.std.specs.List.{list_all}
 
-abbrev pub begins_with : (ℕ → Bool) → List ℕ → Bool
-begins_with test [] = false
-begins_with test (c ∷ cs) = test c
-
 -- one or more that pass
 abbrev pub is_run_of : (ℕ → Bool) → List ℕ → Bool
 is_run_of test [] = false

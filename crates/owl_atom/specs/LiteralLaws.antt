@@ -4,11 +4,10 @@ use Rattle.std.specs.Cmp.{IsEquivalence, IsPartialEquivalence, IsTotalOrder, bot
 use Rattle.std.specs.Cmp.Lexicographic.{options_equiv, options_total}
 use Rattle.std.specs.Option.{option_cmp, option_eq}
 use Rattle.std.specs.Ordering.{eq_by_cmp}
-use Rattle.std.specs.Str.{encode_utf8_all}
 use Rattle.std.proofs.Common.{refl}
-use Rattle.std.proofs.lemmas.Cmp.{and_equiv, nat_list_cmp_total, nat_list_eq_equiv, on_equiv, on_total, then_total}
+use Rattle.std.proofs.lemmas.Cmp.{and_equiv, nat_list_eq_equiv, on_equiv, on_total, then_total}
 use Rattle.owl_text.specs.Order.{text_cmp, text_eq}
-use Rattle.owl_text.specs.OrderLaws.{equal_ties}
+use Rattle.owl_text.specs.OrderLaws.{equal_ties, texts_total}
 use Rattle.owl_atom.specs.Literals.{LiteralParts, literal_cmp, literal_eq}
 
 pub equivalence : IsEquivalence literal_eq
@@ -18,9 +17,6 @@ equivalence =
 
 pub partial_equivalence : IsPartialEquivalence literal_eq
 partial_equivalence = partial_equiv_from_equiv equivalence
-
-pub texts_total : IsTotalOrder text_cmp
-texts_total = on_total encode_utf8_all nat_list_cmp_total
 
 pub total_order : IsTotalOrder literal_cmp
 total_order =

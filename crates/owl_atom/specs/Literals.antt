@@ -49,11 +49,11 @@ DenotesTyped form datatype literal =
     ⊎ ((datatype ≢ plain_literal) × (datatype ≢ lang_string) × (literal ≡ of_datatype form datatype))
 
 -- what a form denotes with its datatype or its tag; without both it is a string
-abbrev pub Denotes : List ℕ → Option (List ℕ) → Option (List ℕ) → LiteralParts → Type 0
-Denotes form None None literal = literal ≡ of_datatype form string
-Denotes form None (Some tag) literal = literal ≡ with_tag form tag
-Denotes form (Some datatype) None literal = DenotesTyped form datatype literal
-Denotes form (Some datatype) (Some tag) literal = ⊥
+abbrev pub DenotesLiteral : List ℕ → Option (List ℕ) → Option (List ℕ) → LiteralParts → Type 0
+DenotesLiteral form None None literal = literal ≡ of_datatype form string
+DenotesLiteral form None (Some tag) literal = literal ≡ with_tag form tag
+DenotesLiteral form (Some datatype) None literal = DenotesTyped form datatype literal
+DenotesLiteral form (Some datatype) (Some tag) literal = ⊥
 
 -- the datatype of a literal with this tag, or without one
 abbrev pub FitsTag : Option (List ℕ) → List ℕ → Type 0

@@ -1,11 +1,20 @@
 -- What the tables of the code say. Their texts are bytes.
-use Rattle.std.specs.Prelude.{◌≡◌, ◌&&◌, ℕ, Bool, List, Contains, nat_eq}
-use Rattle.std.specs.List.{list_any, starts_with}
+use Rattle.std.specs.Prelude.{◌≡◌, ◌&&◌, ℕ, Bool, List, Contains, map, nat_eq}
+use Rattle.std.specs.List.{list_all, list_any, starts_with}
 use Rattle.std.specs.Str.{bytes_eq}
 use denote.Ref.{Bor}
+use Rattle.owl_text.specs.Iri.{is_ascii}
 use Rattle.owl_atom.specs.declared.datatypes.DatatypeRow.{DatatypeRow}
 use Rattle.owl_atom.specs.declared.lexical.IntegerRow.{IntegerRow}
 use Rattle.owl_atom.specs.Datatypes.{IntegerRow as Range, IsIntegerForm}
+
+-- the texts of the names
+abbrev pub shown : List (Bor (List ℕ)) → List (List ℕ)
+shown names = map (λ name. name.now) names
+
+-- each number in them is that of a character of ASCII
+abbrev pub are_ascii : List (Bor (List ℕ)) → Bool
+are_ascii names = list_all (λ name. list_all is_ascii name.now) names
 
 -- the text is one of the names
 unfoldable pub is_name : List (Bor (List ℕ)) → List ℕ → Bool

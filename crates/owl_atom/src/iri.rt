@@ -4,8 +4,8 @@ ghost use Rattle.std.specs.Prelude.{◌≡◌, ◌↔◌, ◌++◌, IsTrue, IfOk
 ghost use Rattle.std.specs.Str.{chars, encode_utf8_all, all_scalars};
 ghost use Rattle.std.specs.Char.{is_ascii_alphabetic};
 ghost use Rattle.owl_text.specs.Iri.{AllAre, IsIri, IsScheme, is_iri_character};
-ghost use Rattle.owl_atom.specs.Characters.{begins_with};
 ghost use Rattle.owl_text.specs.Order.{text_eq};
+ghost use Rattle.owl_text.specs.Names.{begins_with};
 ghost use Rattle.std.specs.Cmp.Rules.{comparing};
 ghost use Rattle.std.proofs.Common.{rules};
 ghost use Rattle.owl_atom.specs.declared.fault.IriFault.{IriFault};

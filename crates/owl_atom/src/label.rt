@@ -4,9 +4,8 @@ ghost use Rattle.std.specs.Prelude.{◌≡◌, ◌↔◌, IsTrue, IfOk, IsErrOf,
 ghost use Rattle.std.specs.Str.{chars, encode_utf8_all, all_scalars};
 ghost use Rattle.std.specs.Cmp.Rules.{comparing};
 ghost use Rattle.std.proofs.Common.{rules};
-ghost use Rattle.owl_text.specs.Names.{IsLabel, ends_in_dot, is_label_start};
+ghost use Rattle.owl_text.specs.Names.{IsLabel, ends_in_dot, is_label_start, begins_with};
 ghost use Rattle.owl_text.specs.Order.{text_eq};
-ghost use Rattle.owl_atom.specs.Characters.{begins_with};
 ghost use Rattle.owl_atom.specs.declared.fault.LabelFault.{LabelFault};
 
 use crate::fault::LabelFault;

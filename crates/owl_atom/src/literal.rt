@@ -7,7 +7,7 @@ ghost use Rattle.std.specs.Ordering.{as_partial_cmp};
 ghost use Rattle.std.specs.Str.{chars, encode_utf8_all};
 ghost use Rattle.std.proofs.Common.{refl};
 ghost use Rattle.owl_text.specs.Names.{IsLanguageTag};
-ghost use Rattle.owl_atom.specs.Literals.{Denotes, DenotesTyped, FitsTag, IsLiteral, LiteralParts, PlainForm, PlainParts, lang_string, literal_cmp, literal_eq, of_datatype, plain_literal, string, with_tag};
+ghost use Rattle.owl_atom.specs.Literals.{DenotesLiteral, DenotesTyped, FitsTag, IsLiteral, LiteralParts, PlainForm, PlainParts, lang_string, literal_cmp, literal_eq, of_datatype, plain_literal, string, with_tag};
 ghost use Rattle.owl_atom.specs.LiteralLaws.{equivalence, only_equals_tie, partial_equivalence, total_order};
 ghost use Rattle.owl_atom.specs.declared.fault.LiteralFault.{LiteralFault};
 
@@ -62,11 +62,11 @@ impl Literal {
         requires apart { IsNone datatype ⊎ IsNone tag }
         requires tag { IfSome tag (λ tag. IsLanguageTag (chars tag.now)) }
         ensures ok { IfOk result (λ literal.
-            Denotes (chars lexical.now) datatype (option_map (λ tag. chars tag.now) tag.entry) literal) }
+            DenotesLiteral (chars lexical.now) datatype (option_map (λ tag. chars tag.now) tag.entry) literal) }
         ensures only { IfOk result (λ literal. (other : LiteralParts) →
-            Denotes (chars lexical.now) datatype (option_map (λ tag. chars tag.now) tag.entry) other → other ≡ literal) }
+            DenotesLiteral (chars lexical.now) datatype (option_map (λ tag. chars tag.now) tag.entry) other → other ≡ literal) }
         ensures bad { IsErrOf result LiteralFault.BadLiteral ↔ ((literal : LiteralParts) →
-            Denotes (chars lexical.now) datatype (option_map (λ tag. chars tag.now) tag.entry) literal → ⊥) }
+            DenotesLiteral (chars lexical.now) datatype (option_map (λ tag. chars tag.now) tag.entry) literal → ⊥) }
     {
         match datatype {
             Some(datatype) => of_form(alloc, lexical, datatype),
@@ -170,7 +170,7 @@ fn copy_of(alloc: Global, text: &Option<Text>) -> Result<Option<Text>, NoMemory>
 fn of_tag(alloc: Global, lexical: &str, tag: Option<&str>) -> Result<Literal, LiteralFault>
     requires { IfSome tag (λ tag. IsLanguageTag (chars tag.now)) }
     ensures ok { IfOk result (λ literal.
-        Denotes (chars lexical.now) None (option_map (λ tag. chars tag.now) tag.entry) literal) }
+        DenotesLiteral (chars lexical.now) None (option_map (λ tag. chars tag.now) tag.entry) literal) }
     ensures memory { IsErrOf result LiteralFault.BadLiteral → ⊥ }
 {
     match tag {

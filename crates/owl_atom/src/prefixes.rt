@@ -3,9 +3,8 @@
 ghost use Rattle.std.specs.Prelude.{◌≡◌, ◌≢◌, ◌↔◌, ◌<◌, ◌≤◌, ◌||◌, ◌&&◌, not, ℕ, List, [], ◌∷◌, ◌++◌, if◌then◌else◌, true, false, Bool, length, slice_get, insert, is_ok, IsTrue, IfOk, IfErr, IfSome, IsNone, IsErrOf, OnOk, OnErr, Some, None, Contains};
 ghost use Rattle.std.specs.Str.{chars, encode_utf8_all, IsCharBoundary};
 ghost use Rattle.owl_text.specs.Iri.{AllAre, IsIri, is_iri_character};
-ghost use Rattle.owl_text.specs.Names.{IsPrefixName};
+ghost use Rattle.owl_text.specs.Names.{IsPrefixName, begins_with};
 ghost use Rattle.owl_text.specs.Order.{text_cmp, text_eq};
-ghost use Rattle.owl_atom.specs.Characters.{begins_with};
 ghost use Rattle.owl_atom.specs.declared.fault.DeclareFault.{DeclareFault};
 ghost use Rattle.owl_atom.specs.declared.fault.ExpandFault.{ExpandFault};
 ghost use Rattle.owl_atom.specs.declared.prefixes.Prefix.{Prefix};

@@ -5,9 +5,8 @@ use Rattle.std.specs.Option.{option_eq}
 use Rattle.std.specs.Cmp.Lexicographic.{pointwise}
 use Rattle.std.proofs.lemmas.Slice.Eq.{bytes_eq-Decides, slice_eq-Decides}
 use Rattle.owl_doc.specs.declared.head.Head as held
-use Rattle.owl_doc.specs.Heads.{StandsBeside, head_of, name_of}
+use Rattle.owl_doc.specs.Heads.{StandsBeside, head_of, iri_in, name_of, version_in}
 use Rattle.owl_text.specs.Order.{text_eq}
-use Rattle.owl_tree.specs.Ontologies.{OntologyName}
 
 pub optional_texts_same : (a b : Option (List ℕ)) → Decides (option_eq text_eq a b) (a ≡ b)
 optional_texts_same None None = (λ h. refl, λ e. refl)
@@ -17,14 +16,6 @@ optional_texts_same (Some a) (Some b) = (λ h. ap Some ((bytes_eq-Decides a b).0
 
 pub texts_same : (texts others : List (List ℕ)) → Decides (pointwise text_eq texts others) (texts ≡ others)
 texts_same texts others = slice_eq-Decides bytes_eq-Decides texts others (pointwise text_eq texts others) refl
-
-abbrev iri_in : Option OntologyName → Option (List ℕ)
-iri_in None = None
-iri_in (Some name) = Some name.iri
-
-abbrev version_in : Option OntologyName → Option (List ℕ)
-version_in None = None
-version_in (Some name) = name.version
 
 -- the parts of a name are known from it
 names_same : (iri version other_iri other_version : Option (List ℕ)) → StandsBeside version iri → StandsBeside other_version other_iri → name_of iri version ≡ name_of other_iri other_version → (iri ≡ other_iri) × (version ≡ other_version)

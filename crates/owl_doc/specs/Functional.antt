@@ -1,11 +1,12 @@
 -- Documents in Functional-Style Syntax (Structural Specification, section 3.7).
-use Rattle.std.specs.Prelude.{◌≡◌, ◌≤◌, ◌^◌, ℕ, List, [], ◌∷◌, ◌++◌, length, map, codes, find, flat_map, Option, None, Some, IsTrue, true}
+use Rattle.std.specs.Prelude.{◌≡◌, ◌≤◌, ℕ, List, [], ◌∷◌, ◌++◌, length, map, codes, find, flat_map, Option, None, Some, IsTrue, true}
 use Rattle.std.specs.List.{AllByRecursion}
 use Rattle.owl_text.specs.declared.token.Placed.{Placed}
 use Rattle.owl_text.specs.declared.token.Token.{Token}
 use Rattle.owl_text.specs.declared.token.Token.TheVariants as token
 use Rattle.owl_text.specs.declared.token.Sign.TheVariants as sign
 use Rattle.owl_text.specs.Iri.{IsIri}
+use Rattle.owl_text.specs.Limit.{most_bytes}
 use Rattle.owl_text.specs.Names.{IsPrefixName}
 use Rattle.owl_text.specs.Order.{text_eq}
 use Rattle.owl_text.specs.Tokens.{Splits}
@@ -14,7 +15,7 @@ use Rattle.owl_atom.specs.declared.prefixes.Prefix.{Prefix}
 use Rattle.owl_atom.specs.Prefixes.{IsTable, fixed_prefixes, iri_of, is_fixed, prefix_in}
 use Rattle.owl_tree.specs.declared.atom.Atom.TheVariants.{Iri}
 use Rattle.owl_tree.specs.declared.tag.Tag.TheVariants as tag
-use Rattle.owl_tree.specs.Ontologies.{Head, IsHead, IsSameOntology, Ontology, OntologyName, ontology_weight}
+use Rattle.owl_tree.specs.Ontologies.{IsHead, IsSameOntology, Ontology, OntologyName, ontology_weight}
 use Rattle.owl_tree.specs.Tags.{is_axiom}
 use Rattle.owl_tree.specs.Trees.{Tree, depth, tag_of}
 use Rattle.owl_arena.specs.Shared.{deepest, heaviest}
@@ -119,14 +120,10 @@ pub record IsWithinLimits (o : Ontology) : Type 0 where
   pub axioms : AllByRecursion (λ t. depth t ≤ deepest) o.axioms
   pub weight : ontology_weight o ≤ heaviest
 
--- the most bytes of a document
-abbrev pub longest : ℕ
-longest = 2 ^ 27
-
 -- The bytes are a document with these prefixes that says this ontology, or an equivalent one.
-pub record Reads (bytes : List ℕ) (prefixes : List Prefix) (o : Ontology) : Type 0 where
+pub record ReadsFunctional (bytes : List ℕ) (prefixes : List Prefix) (o : Ontology) : Type 0 where
   pub placed : List Placed
-  pub few : length bytes ≤ longest
+  pub few : length bytes ≤ most_bytes
   pub splits : Splits bytes placed None
   pub spells : SpellsFunctional prefixes o (tokens_of placed)
   pub within : IsWithinLimits o

@@ -9,6 +9,15 @@ abbrev pub name_of : Option (List ℕ) → Option (List ℕ) → Option Ontology
 name_of None version = None
 name_of (Some iri) version = Some (record { iri = iri; version = version })
 
+-- the parts of a name
+abbrev pub iri_in : Option OntologyName → Option (List ℕ)
+iri_in None = None
+iri_in (Some name) = Some name.iri
+
+abbrev pub version_in : Option OntologyName → Option (List ℕ)
+version_in None = None
+version_in (Some name) = name.version
+
 abbrev pub head_of : held.Head → Head
 head_of h = record { name = name_of h.iri h.version; imports = h.imports.items }
 

@@ -1,23 +1,14 @@
 -- How trees are written in Functional-Style Syntax (Structural Specification, sections 5 to 10): by the row of their tag.
-use Rattle.std.specs.Prelude.{◌≡◌, ◌≤◌, ◌+◌, ℕ, Bool, ◌||◌, if◌then◌else◌, List, [], ◌∷◌, length}
+use Rattle.std.specs.Prelude.{◌≡◌, ◌≤◌, ◌+◌, ℕ, if◌then◌else◌, List, ◌∷◌, length}
 use Rattle.owl_tree.specs.declared.tag.Tag.{Tag}
 use Rattle.owl_tree.specs.declared.tag.Tag.TheVariants as tag
-use Rattle.owl_tree.specs.declared.row.Rest.{Rest}
 use Rattle.owl_tree.specs.declared.row.Rest.TheVariants.{Nothing, Optional, AtLeast, SomeThen, Set}
-use Rattle.owl_tree.specs.Rows.{Row, Leaf, Node, is_tag, row_of}
+use Rattle.owl_tree.specs.Rows.{Row, Leaf, Node, is_bare, is_group, is_tag, row_of}
 use Rattle.owl_tree.specs.Shape.{IsShaped}
 use Rattle.owl_tree.specs.Tags.{keyword_of}
 use Rattle.owl_tree.specs.Trees.{Tree, Kids, leaf, node, no_kids, kid, list_of}
 use Rattle.owl_doc.specs.declared.term.Term.{Term}
 use Rattle.owl_doc.specs.declared.term.Term.TheVariants.{Keyword, Opening, Closing, Atom}
-
--- annotations of an axiom, and a facet with its value: their parts stand without a keyword and without brackets
-abbrev pub is_bare : Tag → Bool
-is_bare t = is_tag tag.Notes t || is_tag tag.FacetPair t
-
--- the two groups of a HasKey stand in brackets without a keyword
-abbrev pub is_group : Tag → Bool
-is_group t = is_tag tag.ObjectKeys t || is_tag tag.DataKeys t
 
 -- what stands before the parts of a node
 abbrev pub opened : Tag → List Term → List Term

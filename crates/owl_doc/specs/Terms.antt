@@ -7,7 +7,7 @@ use Rattle.owl_text.specs.declared.token.Token.{Token}
 use Rattle.owl_text.specs.declared.token.Token.TheVariants as token
 use Rattle.owl_text.specs.declared.token.Sign.TheVariants as sign
 use Rattle.owl_atom.specs.declared.prefixes.Prefix.{Prefix}
-use Rattle.owl_atom.specs.Literals.{Denotes, LiteralParts}
+use Rattle.owl_atom.specs.Literals.{DenotesLiteral, LiteralParts}
 use Rattle.owl_atom.specs.Prefixes.{expansion}
 use Rattle.owl_tree.specs.declared.atom.Atom.{Atom}
 use Rattle.owl_tree.specs.declared.atom.Atom.TheVariants.{Iri, Label, Literal, Number}
@@ -27,9 +27,9 @@ iri_of_token prefixes (token.Sign mark) = None
 
 -- The tokens are a literal and then the rest: a string alone, one with its language tag, or one with its datatype.
 pub data BeginsLiteral (prefixes : List Prefix) (tokens : List Token) (literal : LiteralParts) (rest : List Token) : Type 0 where
-  plain : (form : List ℕ) → tokens ≡ token.Str form ∷ rest → Denotes form None None literal → BeginsLiteral prefixes tokens literal rest
-  tagged : (form tag : List ℕ) → tokens ≡ token.Str form ∷ token.At tag ∷ rest → Denotes form None (Some tag) literal → BeginsLiteral prefixes tokens literal rest
-  typed : (form datatype : List ℕ) (name : Token) → tokens ≡ token.Str form ∷ token.Sign sign.Carets ∷ name ∷ rest → iri_of_token prefixes name ≡ Some datatype → Denotes form (Some datatype) None literal → BeginsLiteral prefixes tokens literal rest
+  plain : (form : List ℕ) → tokens ≡ token.Str form ∷ rest → DenotesLiteral form None None literal → BeginsLiteral prefixes tokens literal rest
+  tagged : (form tag : List ℕ) → tokens ≡ token.Str form ∷ token.At tag ∷ rest → DenotesLiteral form None (Some tag) literal → BeginsLiteral prefixes tokens literal rest
+  typed : (form datatype : List ℕ) (name : Token) → tokens ≡ token.Str form ∷ token.Sign sign.Carets ∷ name ∷ rest → iri_of_token prefixes name ≡ Some datatype → DenotesLiteral form (Some datatype) None literal → BeginsLiteral prefixes tokens literal rest
 
 -- The tokens are what is written for the atom, and then the rest.
 abbrev pub BeginsAtom : List Prefix → List Token → Atom → List Token → Type 0

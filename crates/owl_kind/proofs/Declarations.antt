@@ -12,13 +12,13 @@ use Rattle.std.proofs.lemmas.Map.Lookups.{CmpEqualImpliesEq, exact_bytes}
 use Rattle.std.proofs.lemmas.Map.Views.{All-values-insert_entry, btree_map_get_iff, tells_apart}
 use Rattle.std.proofs.lemmas.Str.{encodes_same}
 use Rattle.owl_text.specs.Order.{text_cmp}
+use Rattle.owl_text.specs.OrderLaws.{texts_total}
 use Rattle.owl_kind.specs.declared.kind.Kind.{Kind}
 use Rattle.owl_kind.specs.declared.kind.Kind.TheVariants.{Class, Datatype, ObjectProperty, DataProperty, AnnotationProperty, Individual}
 use Rattle.owl_kind.specs.declared.marks.Marks.{Marks}
 use Rattle.owl_kind.specs.Kinds.{Declared, HasKind, IsDeclared, is_built_in}
 use Rattle.owl_kind.specs.Marks.{Entry, HasMark, IsTable, all_kinds, declared_as, declared_by, is_marked, is_of, marked, no_marks}
 use Rattle.owl_list.specs.AscendingLaws.{in_head, in_none}
-use Rattle.owl_atom.specs.LiteralLaws.{texts_total}
 use Rattle.owl_kind.proofs.Found.{from_joined, joined_from, only}
 
 -- texts that tie are one

@@ -1,4 +1,3 @@
-pub mod AsciiNames
 pub mod Found
 pub mod Declarations
 pub mod Clashes

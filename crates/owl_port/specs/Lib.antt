@@ -1,3 +1,4 @@
 pub mod MemShelf
 pub mod MemSink
 pub mod Outside
+pub mod ByNameLaws

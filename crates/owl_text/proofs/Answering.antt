@@ -1,12 +1,10 @@
 -- What steps answer.
-use Rattle.std.proofs.Common.{Result, Ok, Err, IfOk, IfErr, ◌≡◌, ◌≢◌, ℕ, ◌+◌, true, false, Option, Some, List, [], ◌∷◌, ◌++◌, length, refl, sym, ap, ◌∙◌, subst, arith}
+use Rattle.std.proofs.Common.{Result, Ok, Err, IfOk, IfErr, ◌≡◌, ◌≢◌, ℕ, ◌+◌, true, false, Option, Some, List, [], ◌∷◌, ◌++◌, refl, sym, ap, ◌∙◌, subst, arith}
 use Rattle.std.specs.Result.{IsErr, IsErrAnd}
 use Rattle.std.specs.Prelude.{◌==◌}
-use Rattle.std.specs.Char.{encode_utf8, len_utf8, is_ascii_digit}
-use Rattle.std.specs.Str.{encode_utf8_all}
+use Rattle.std.specs.Char.{len_utf8, is_ascii_digit}
 use Rattle.std.proofs.lemmas.Bool.{both_ways, cond-true, cond-false, false_from_ne_true, or_from, or_left, ne_eqb}
-use Rattle.std.proofs.lemmas.List.{append-nil, length-append}
-use Rattle.std.proofs.lemmas.Str.{length-encode}
+use Rattle.std.proofs.lemmas.List.{append-nil}
 use Rattle.owl_text.specs.Iri.{is_among}
 use Rattle.owl_text.specs.Names.{is_base, is_start, in_ranges, start_ranges}
 use Rattle.owl_text.specs.Utf8.{size}
@@ -22,14 +20,12 @@ use Rattle.owl_text.specs.declared.token.Placed.{Placed}
 use Rattle.owl_text.specs.declared.mode.Mode.{Mode}
 use Rattle.owl_text.specs.declared.mode.Mode.TheVariants.{Between, Comment}
 use Rattle.owl_text.specs.declared.mode.State.{State}
-use Rattle.owl_text.proofs.Leads.{Lead, mark, lead, fits, other_fits, no_other, token_marks}
-use Rattle.owl_text.proofs.LongestTokens.{sign_longest}
-use Rattle.owl_text.proofs.Moving.{size-append, placed, holding, moves_holds, moves_space, moves_comment, moves_line, moves_ends, moves_behind, BeginsNothing, fails_none, fails_behind, starts_none, starts_behind, fails_starts}
-use Rattle.owl_text.proofs.Spans.{both}
-
-pub size_bytes : (cs : List ℕ) → length (encode_utf8_all cs) ≡ size cs
-size_bytes [] = refl
-size_bytes (c ∷ cs) = omega (arith, length-append (encode_utf8 c) (encode_utf8_all cs), length-encode c, size_bytes cs)
+use Rattle.owl_text.specs.LeadLaws.{Lead, mark, lead, fits, other_fits}
+use Rattle.owl_text.specs.LongestTokenLaws.{sign_longest}
+use Rattle.owl_text.specs.Utf8Laws.{size_append}
+use Rattle.owl_text.specs.CutLaws.{both}
+use Rattle.owl_text.proofs.Leads.{no_other, token_marks}
+use Rattle.owl_text.proofs.Moving.{placed, holding, moves_holds, moves_space, moves_comment, moves_line, moves_ends, moves_behind, BeginsNothing, fails_none, fails_behind, starts_none, starts_behind, fails_starts}
 
 -- a new state, seen so
 abbrev pub now_at : Mode → ℕ → State
@@ -46,11 +42,11 @@ advances old c before after mode at h e f w n m =
     }
 
 pub holds : (at : ℕ) (h : List ℕ) (c : ℕ) (before : List Placed) (mode : Mode) → h ++ c ∷ [] ≡ held_of mode → is_fresh mode ≡ false → IsWell mode → Advances (holding at h) c before before (now_at mode at)
-holds at h c before mode e f w = advances (holding at h) c before before mode at (h ++ c ∷ []) e f w (omega (arith, size-append h (c ∷ []))) (moves_holds at h c before)
+holds at h c before mode e f w = advances (holding at h) c before before mode at (h ++ c ∷ []) e f w (omega (arith, size_append h (c ∷ []))) (moves_holds at h c before)
 
 pub ends_token : (t : Token) (s : List ℕ) (at : ℕ) (h : List ℕ) (c : ℕ) (before after : List Placed) (place : ℕ) → h ++ c ∷ [] ≡ s → Spells t s → ((rest : List ℕ) → IsLongest s rest) → at + size s ≡ place → after ≡ before ++ placed t at ∷ [] → Advances (holding at h) c before after (now_at Between place)
 ends_token t s at h c before after place e k l n added =
-    let width : size h + len_utf8 c ≡ size s = (omega (arith, size-append h (c ∷ []))) ∙ ap size e in
+    let width : size h + len_utf8 c ≡ size s = (omega (arith, size_append h (c ∷ []))) ∙ ap size e in
     advances (holding at h) c before after Between place [] refl refl tt (omega arith) (subst (λ (x : ℕ). Moves (holding at h) c before after (holding x [])) n (moves_ends t s at h c before after e k l added))
 
 pub memory_answer : (old : Seen) (c : ℕ) (before : List Placed) (fault : LexFault) → fault ≡ Memory → Answers old c before before (Err fault)
@@ -132,7 +128,7 @@ pub answers_pending : (t : Token) (s p : List ℕ) (at c : ℕ) (before mid afte
 answers_pending t s p at c before mid after (Ok new) k l added a = record {
   moves = moves_behind t s p at c before mid after (seen new) k l added a.moves;
   well = a.well;
-  next = a.next ∙ omega (arith, size-append s p);
+  next = a.next ∙ omega (arith, size_append s p);
   old_now = a.old_now;
 }
 answers_pending t s p at c before mid after (Err fault) k l added a =

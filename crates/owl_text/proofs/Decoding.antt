@@ -6,6 +6,7 @@ use Rattle.std.proofs.lemmas.Bool.{cases_lt, and_from}
 use Rattle.std.proofs.lemmas.List.{append_assoc, length-append}
 use Rattle.std.proofs.lemmas.Str.{len_utf8_bounds, length-encode, encode_ascii, encode_same}
 use Rattle.std.proofs.Math.Utf8.{low_scalar}
+use Rattle.owl_text.specs.Utf8Laws.{no_bytes}
 use Rattle.owl_text.specs.Utf8.{BeginsNoCharacter, Decodes}
 use Rattle.owl_text.specs.Feeding.{IsLead, least_second, last_second}
 use Rattle.owl_text.proofs.OneWay.{head_scalar, tail_scalars}
@@ -85,7 +86,7 @@ second a (b ∷ rest) h k = elim (within b (least_second a) (last_second a)) [
 
 decide : (bytes : List ℕ) → Decided bytes
 unfolding Decided
-decide [] = inl (λ c rest s e. let n = length-encode c in let b = len_utf8_bounds c in let l : 0 ≡ length (encode_utf8 c) + length rest = ap (λ (x : List ℕ). length x) e ∙ length-append (encode_utf8 c) rest in let b0 = b.0 in omega arith)
+decide [] = inl no_bytes
 decide (a ∷ rest) = elim (cases_lt a 128) [
   | inl h ↦ inr (whole_here a (a ∷ []) rest (low_scalar a (omega arith)) (encode_ascii a h))
   | inr h ↦ elim (within a 194 244) [
@@ -93,17 +94,6 @@ decide (a ∷ rest) = elim (cases_lt a 128) [
     | inr x ↦ second a rest x.0 x.1
   ]
 ]
-
-empty_none : (c : ℕ) (rest : List ℕ) → [] ≡ encode_utf8 c ++ rest → ⊥
-empty_none c rest e =
-    let n = length-encode c in
-    let b = len_utf8_bounds c in
-    let b0 = b.0 in
-    let l : 0 ≡ length (encode_utf8 c) + length rest = ap (λ (x : List ℕ). length x) e ∙ length-append (encode_utf8 c) rest in
-    omega arith
-
-pub no_bytes : BeginsNoCharacter []
-no_bytes c rest s e = empty_none c rest e
 
 -- any bytes
 pub record IsDecoded (bytes : List ℕ) : Type 0 where

@@ -4,10 +4,10 @@ use Rattle.std.specs.Result.{IsErr, IsErrAnd}
 use Rattle.std.specs.Char.{is_ascii_alphabetic, is_ascii_digit, is_ascii_hexdigit}
 use Rattle.std.proofs.lemmas.List.{append-nil}
 use Rattle.owl_text.specs.Iri.{IsIri, IsScheme, is_iri_character, is_scheme_character}
-use Rattle.owl_text.specs.Names.{IsRunOf, is_label_start}
+use Rattle.owl_text.specs.Names.{IsRunOf, is_label_start, begins_with}
 use Rattle.owl_text.specs.Utf8.{size}
 use Rattle.owl_text.specs.Tokens.{IsLongest, Spells}
-use Rattle.owl_text.specs.States.{Seen, LastAnswers, GivesLast, IsWell, IsTagBefore, IsNameSoFar, name_held, tag_fits, seen, next_of, begins_with}
+use Rattle.owl_text.specs.States.{Seen, LastAnswers, GivesLast, IsWell, IsTagBefore, IsNameSoFar, name_held, seen, next_of}
 use Rattle.owl_text.specs.declared.fault.LexFault.{LexFault}
 use Rattle.owl_text.specs.declared.fault.LexFault.TheVariants.{BadToken, Memory}
 use Rattle.owl_text.specs.declared.token.Token.TheVariants.{At, Blank, Int, Name, Word}
@@ -15,24 +15,27 @@ use Rattle.owl_text.specs.declared.token.Placed.{Placed}
 use Rattle.owl_text.specs.declared.mode.Mode.{Mode}
 use Rattle.owl_text.specs.declared.mode.Mode.TheVariants.{InWord, InLabel}
 use Rattle.owl_text.specs.declared.mode.NameSoFar.{NameSoFar}
-use Rattle.owl_text.proofs.LongestNames.{word_is_longest, name_goes_on}
-use Rattle.owl_text.proofs.LongestTokens.{int_longest, tag_from_fits, word_longest, name_longest, tag_longest, iri_characters}
-use Rattle.owl_text.proofs.Schemes.{scheme_characters}
-use Rattle.owl_text.proofs.Moving.{size-append, placed, holding, BeginsNothing}
+use Rattle.owl_text.specs.Subtags.{tag_fits}
+use Rattle.owl_text.specs.LongestNameLaws.{word_is_longest, name_goes_on}
+use Rattle.owl_text.specs.LongestTokenLaws.{int_longest, word_longest, name_longest, tag_longest}
+use Rattle.owl_text.specs.LanguageTagLaws.{tag_from_fits}
+use Rattle.owl_text.specs.IriLaws.{iri_characters, scheme_characters}
+use Rattle.owl_text.specs.Utf8Laws.{size_append}
+use Rattle.owl_text.specs.AllAreLaws.{AllAre-weaker}
+use Rattle.owl_text.proofs.Moving.{placed, holding, BeginsNothing}
 use Rattle.owl_text.proofs.Answering.{now_at, nothing_at}
 use Rattle.owl_text.proofs.InIris.{nothing_unclosed, nothing_string, never_end, never_escape, flat}
 use Rattle.owl_text.proofs.InTags.{nothing_caret, nothing_tag, nothing_hyphen, hyphen_longest}
 use Rattle.owl_text.proofs.InWords.{no_dots, dots_pass, dots_longest, pending_nothing, label_longest}
 use Rattle.owl_text.proofs.InNames.{name_spelled, name_whole, written_stops, percent_stops, escape_stops, hex_room, one_room, no_name, name_at}
 use Rattle.owl_text.proofs.Lasting.{token_last, bad_last, pending_last, behind_last, memory_last}
-use Rattle.owl_text.proofs.Spans.{AllAre-weaker}
 
 -- words
 
 pub word_dots : (w ds : List ℕ) (named : Bool) (at place pending : ℕ) (before after : List Placed) (fault : LexFault) → IsWell (InWord w ds named) → at + size (w ++ ds) ≡ place → pending ≡ size ds → 0 < pending → GivesLast (Word w) at (place - pending) before after fault → LastAnswers (holding at (w ++ ds)) before after (Err fault)
 word_dots w ds named at place pending before after fault h here e s g =
     let some : 0 < size ds = omega arith in
-    pending_last (Word w) w ds at (place - pending) before after fault (h.0, refl) (subst (λ (x : List ℕ). IsLongest w x) (append-nil ds) (dots_longest w ds [] h.0 h.1 some refl)) (subst BeginsNothing (append-nil ds) (pending_nothing ds [] h.1 (inl some))) (omega (arith, size-append w ds)) g
+    pending_last (Word w) w ds at (place - pending) before after fault (h.0, refl) (subst (λ (x : List ℕ). IsLongest w x) (append-nil ds) (dots_longest w ds [] h.0 h.1 some refl)) (subst BeginsNothing (append-nil ds) (pending_nothing ds [] h.1 (inl some))) (omega (arith, size_append w ds)) g
 
 without : (h ds : List ℕ) (at pending : ℕ) (before after : List Placed) (r : Result (Unit {0}) LexFault) → pending ≡ size ds → pending ≤ 0 → LastAnswers (holding at h) before after r → LastAnswers (holding at (h ++ ds)) before after r
 without h ds at pending before after r e n a =
@@ -47,7 +50,7 @@ word_end w ds named at pending before after r h e n ok err = without w ds at pen
 pub label_dots : (l ds : List ℕ) (at place pending : ℕ) (before after : List Placed) (fault : LexFault) → IsWell (InLabel l ds) → at + size ((95 ∷ 58 ∷ l) ++ ds) ≡ place → pending ≡ size ds → 0 < pending → GivesLast (Blank l) at (place - pending) before after fault → LastAnswers (holding at ((95 ∷ 58 ∷ l) ++ ds)) before after (Err fault)
 label_dots l ds at place pending before after fault h here e s g =
     let some : 0 < size ds = omega arith in
-    pending_last (Blank l) (95 ∷ 58 ∷ l) ds at (place - pending) before after fault (h.0, refl) (label_longest l ds h.0 (ap name_goes_on (sym (append-nil ds)) ∙ dots_pass ds [] h.1)) (subst BeginsNothing (append-nil ds) (pending_nothing ds [] h.1 (inl some))) (omega (arith, size-append (95 ∷ 58 ∷ l) ds)) g
+    pending_last (Blank l) (95 ∷ 58 ∷ l) ds at (place - pending) before after fault (h.0, refl) (label_longest l ds h.0 (ap name_goes_on (sym (append-nil ds)) ∙ dots_pass ds [] h.1)) (subst BeginsNothing (append-nil ds) (pending_nothing ds [] h.1 (inl some))) (omega (arith, size_append (95 ∷ 58 ∷ l) ds)) g
 
 pub label_end : (l ds : List ℕ) (at pending : ℕ) (before after : List Placed) (r : Result (Unit {0}) LexFault) → IsWell (InLabel l ds) → pending ≡ size ds → pending ≤ 0 → OnOk r (after ≡ before ++ placed (Blank l) at ∷ []) → IfErr r (λ fault. (fault ≡ Memory) × (after ≡ before)) → LastAnswers (holding at ((95 ∷ 58 ∷ l) ++ ds)) before after r
 label_end l ds at pending before after r h e n ok err = without (95 ∷ 58 ∷ l) ds at pending before after r e n (token_last (Blank l) (95 ∷ 58 ∷ l) at before after r (h.0, refl) (label_longest l [] h.0 refl) ok err)
@@ -61,7 +64,7 @@ pub name_dots : (name : NameSoFar) (ds : List ℕ) (at place pending : ℕ) (bef
 name_dots name ds at place pending before after fault h here e s g =
     let some : 0 < size ds = omega arith in
     let longest = name_whole name ds (ds ++ []) h (written_stops name.written ds [] h.2 h.3 refl refl) in
-    subst (λ (x : List ℕ). LastAnswers (holding at (name_held name ++ x)) before after (Err fault)) (append-nil ds) (name_pends name ds [] at (place - pending) before after fault h longest (inl some) (omega (arith, size-append (name_held name) ds)) g)
+    subst (λ (x : List ℕ). LastAnswers (holding at (name_held name ++ x)) before after (Err fault)) (append-nil ds) (name_pends name ds [] at (place - pending) before after fault h longest (inl some) (omega (arith, size_append (name_held name) ds)) g)
 
 pub name_end : (name : NameSoFar) (ds : List ℕ) (at pending : ℕ) (before after : List Placed) (r : Result (Unit {0}) LexFault) → IsNameSoFar name ds → pending ≡ size ds → pending ≤ 0 → OnOk r (after ≡ before ++ placed (Name name.prefix name.local) at ∷ []) → IfErr r (λ fault. (fault ≡ Memory) × (after ≡ before)) → LastAnswers (holding at (name_held name ++ ds)) before after r
 name_end name ds at pending before after r h e n ok err = without (name_held name) ds at pending before after r e n (token_last (Name name.prefix name.local) (name_held name) at before after r (name_spelled name ds h) (name_longest name.prefix name.local (name_held name) [] (name_spelled name ds h) refl) ok err)
@@ -93,7 +96,7 @@ pub tag_end : (test : ℕ → Bool) (cs : List ℕ) (at : ℕ) (before after : L
 tag_end test cs at before after r h ok err = token_last (At cs) (64 ∷ cs) at before after r (tag_from_fits cs h.0, refl) (tag_longest cs (64 ∷ cs) [] (tag_from_fits cs h.0, refl) refl) ok err
 
 pub hyphen_end : (cs : List ℕ) (at place : ℕ) (before after : List Placed) (fault : LexFault) → tag_fits is_ascii_alphabetic false cs ≡ true → at + size ((64 ∷ cs) ++ 45 ∷ []) ≡ place → GivesLast (At cs) at (place - 1) before after fault → LastAnswers (holding at ((64 ∷ cs) ++ 45 ∷ [])) before after (Err fault)
-hyphen_end cs at place before after fault h here g = pending_last (At cs) (64 ∷ cs) (45 ∷ []) at (place - 1) before after fault (tag_from_fits cs h, refl) (hyphen_longest cs [] h refl) (nothing_hyphen []) (omega (arith, size-append (64 ∷ cs) (45 ∷ []))) g
+hyphen_end cs at place before after fault h here g = pending_last (At cs) (64 ∷ cs) (45 ∷ []) at (place - 1) before after fault (tag_from_fits cs h, refl) (hyphen_longest cs [] h refl) (nothing_hyphen []) (omega (arith, size_append (64 ∷ cs) (45 ∷ []))) g
 
 scheme_is_iri : (c : ℕ) → is_scheme_character c ≡ true → is_iri_character c ≡ true
 scheme_is_iri c h = (iri_characters (97 ∷ c ∷ 58 ∷ []) (record { scheme = 97 ∷ c ∷ []; rest = []; parts = refl; named = (refl, (h, tt)); allowed = tt })).1.0

@@ -15,13 +15,15 @@ use Rattle.owl_text.specs.declared.token.Token.TheVariants.{Iri, Str}
 use Rattle.owl_text.specs.declared.token.Placed.{Placed}
 use Rattle.owl_text.specs.declared.mode.Mode.TheVariants.{Between, InScheme, InIri, InStr, InEscape}
 use Rattle.owl_text.specs.declared.mode.State.{State}
-use Rattle.owl_text.proofs.Leads.{other_fits, only_iri, only_str}
-use Rattle.owl_text.proofs.LongestTokens.{iri_longest, str_longest, iri_characters}
-use Rattle.owl_text.proofs.Schemes.{scheme_characters}
-use Rattle.owl_text.proofs.Spelled.{quote_first, same_character, escaped_is, unescaped_is}
-use Rattle.owl_text.proofs.Moving.{size-append, placed, holding, BeginsNothing, fails_none}
+use Rattle.owl_text.specs.LeadLaws.{other_fits, only_iri, only_str}
+use Rattle.owl_text.specs.LongestTokenLaws.{iri_longest, str_longest}
+use Rattle.owl_text.specs.IriLaws.{iri_characters, scheme_characters}
+use Rattle.owl_text.specs.SpellingLaws.{quote_first, same_character, escaped_is, unescaped_is}
+use Rattle.owl_text.specs.Utf8Laws.{size_append}
+use Rattle.owl_text.specs.CutLaws.{both, heads, found, same_cut}
+use Rattle.owl_text.specs.AllAreLaws.{AllAre-append}
+use Rattle.owl_text.proofs.Moving.{placed, holding, BeginsNothing, fails_none}
 use Rattle.owl_text.proofs.Answering.{now_at, holds, whole_answer, fails_answer}
-use Rattle.owl_text.proofs.Spans.{both, heads, found, same_cut, AllAre-append}
 
 -- where no token begins, whatever follows
 pub bad_answer : (at : ℕ) (h : List ℕ) (c : ℕ) (items : List Placed) → ((more : List ℕ) → BeginsNothing (h ++ c ∷ more)) → Answers (holding at h) c items items (Err (BadToken at))
@@ -86,7 +88,7 @@ iri_more cs new at c items e h k = holds at (60 ∷ cs) c items (InIri new) (sym
 
 -- where the last character of a token stands
 pub end_of : (at place : ℕ) (h s : List ℕ) (c n : ℕ) → at + size h ≡ place → c ≡ n → len_utf8 n ≡ 1 → h ++ n ∷ [] ≡ s → at + size s ≡ place + 1
-end_of at place h s c n here e one whole = omega (arith, ap size whole, size-append h (n ∷ []))
+end_of at place h s c n here e one whole = omega (arith, ap size whole, size_append h (n ∷ []))
 
 pub iri_ends : (cs : List ℕ) (at c place : ℕ) (before after : List Placed) (r : Result State LexFault) → IsIri cs → at + size (60 ∷ cs) ≡ place → c ≡ 62 → IfOk r (λ state. (state ≡ now_at Between (place + 1)) × (after ≡ before ++ placed (Iri cs) at ∷ [])) → IfErr r (λ fault. (fault ≡ Memory) × (after ≡ before)) → Answers (holding at (60 ∷ cs)) c before after r
 iri_ends cs at c place before after r i here e ok err =

@@ -8,10 +8,10 @@ use Rattle.std.proofs.lemmas.Bool.Decides.{nat_tests}
 use Rattle.std.proofs.lemmas.List.{append_assoc, append-nil}
 use Rattle.std.proofs.lemmas.Str.{len_utf8_ascii}
 use Rattle.owl_text.specs.Iri.{AllAre}
-use Rattle.owl_text.specs.Names.{IsNameFrom, IsPrefixName, SpellsLocal, AreLocalPieces, Piece, plain, percent, escaped, piece_spelling, piece_text, IsPieceOf, ends_in_plain_dot, is_base, is_start, is_local_start, is_local_inner, is_escapable, is_label_start}
+use Rattle.owl_text.specs.Names.{IsNameFrom, IsPrefixName, SpellsLocal, AreLocalPieces, Piece, plain, percent, escaped, piece_spelling, piece_text, IsPieceOf, ends_in_plain_dot, is_base, is_start, is_local_start, is_local_inner, is_escapable, is_label_start, begins_with, is_dot}
 use Rattle.owl_text.specs.Utf8.{size}
 use Rattle.owl_text.specs.Tokens.{IsLongest, Spells}
-use Rattle.owl_text.specs.States.{Advances, Answers, GivesLast, StandsBefore, IsNameSoFar, begins_with, is_dot, name_held, takes_plain}
+use Rattle.owl_text.specs.States.{Advances, Answers, GivesLast, StandsBefore, IsNameSoFar, name_held, takes_plain}
 use Rattle.owl_text.specs.declared.fault.LexFault.{LexFault}
 use Rattle.owl_text.specs.declared.token.Token.TheVariants.{Name, Word}
 use Rattle.owl_text.specs.declared.token.Placed.{Placed}
@@ -19,12 +19,13 @@ use Rattle.owl_text.specs.declared.mode.NameSoFar.{NameSoFar}
 use Rattle.owl_text.specs.declared.mode.Mode.{Mode}
 use Rattle.owl_text.specs.declared.mode.Mode.TheVariants.{InName, InPercent, InHex, InNameEscape}
 use Rattle.owl_text.specs.declared.mode.State.{State}
-use Rattle.owl_text.proofs.LongestNames.{local_goes_on, local_starts, written_goes_on, escape_begins, two_hex, name_is_longest, ends_in_plain_dot-append, word_is_longest}
-use Rattle.owl_text.proofs.LongestTokens.{no_escape}
-use Rattle.owl_text.proofs.Moving.{size-append, placed, holding, BeginsNothing}
+use Rattle.owl_text.specs.LongestNameLaws.{local_goes_on, local_starts, written_goes_on, escape_begins, two_hex, name_is_longest, ends_in_plain_dot-append, word_is_longest}
+use Rattle.owl_text.specs.LongestTokenLaws.{no_escape}
+use Rattle.owl_text.specs.Utf8Laws.{size_append}
+use Rattle.owl_text.specs.CutLaws.{both}
+use Rattle.owl_text.proofs.Moving.{placed, holding, BeginsNothing}
 use Rattle.owl_text.proofs.Answering.{now_at, holds, last_answer, nothing_at, answers_pending}
 use Rattle.owl_text.proofs.InWords.{dot_is, no_dot, dots-push, no_dots, pending_nothing}
-use Rattle.owl_text.proofs.Spans.{both}
 
 -- local parts
 
@@ -210,7 +211,7 @@ name_fails name ds q at end c before after fault h n b e g =
 
 pub percent_fails : (name : NameSoFar) (ds : List ℕ) (at c place pending : ℕ) (before after : List Placed) (fault : LexFault) → IsNameSoFar name ds → at + size (name_held name ++ (ds ++ 37 ∷ [])) ≡ place → pending ≡ size ds → is_ascii_hexdigit c ≡ false → GivesLast (Name name.prefix name.local) at (place - 1 - pending) before after fault → Answers (holding at (name_held name ++ (ds ++ 37 ∷ []))) c before after (Err fault)
 percent_fails name ds at c place pending before after fault h here e k g =
-    name_fails name ds (37 ∷ []) at (place - 1 - pending) c before after fault h (λ more. percent_stops (c ∷ more) (two_hex_first c more k)) (λ more. inr (nothing_at 37 (c ∷ more) refl refl refl refl)) (omega (arith, size-append (name_held name) (ds ++ 37 ∷ []), size-append ds (37 ∷ []))) g
+    name_fails name ds (37 ∷ []) at (place - 1 - pending) c before after fault h (λ more. percent_stops (c ∷ more) (two_hex_first c more k)) (λ more. inr (nothing_at 37 (c ∷ more) refl refl refl refl)) (omega (arith, size_append (name_held name) (ds ++ 37 ∷ []), size_append ds (37 ∷ []))) g
 
 hex_size : (c : ℕ) → is_ascii_hexdigit c ≡ true → len_utf8 c ≡ 1
 hex_size c h = len_utf8_ascii c (low c h)
@@ -219,10 +220,10 @@ hex_size c h = len_utf8_ascii c (low c h)
     low c h = grind (arith, nat_tests)
 
 pub hex_room : (name : NameSoFar) (ds : List ℕ) (at digit place : ℕ) → is_ascii_hexdigit digit ≡ true → at + size (name_held name ++ (ds ++ 37 ∷ digit ∷ [])) ≡ place → at + size (name_held name) + size ds + 2 ≡ place
-hex_room name ds at digit place h here = omega (arith, size-append (name_held name) (ds ++ 37 ∷ digit ∷ []), size-append ds (37 ∷ digit ∷ []), hex_size digit h)
+hex_room name ds at digit place h here = omega (arith, size_append (name_held name) (ds ++ 37 ∷ digit ∷ []), size_append ds (37 ∷ digit ∷ []), hex_size digit h)
 
 pub one_room : (name : NameSoFar) (ds : List ℕ) (at n place : ℕ) → len_utf8 n ≡ 1 → at + size (name_held name ++ (ds ++ n ∷ [])) ≡ place → at + size (name_held name) + size ds + 1 ≡ place
-one_room name ds at n place h here = omega (arith, size-append (name_held name) (ds ++ n ∷ []), size-append ds (n ∷ []))
+one_room name ds at n place h here = omega (arith, size_append (name_held name) (ds ++ n ∷ []), size_append ds (n ∷ []))
 
 pub hex_fails : (name : NameSoFar) (ds : List ℕ) (digit at c place pending : ℕ) (before after : List Placed) (fault : LexFault) → IsNameSoFar name ds → is_ascii_hexdigit digit ≡ true → at + size (name_held name ++ (ds ++ 37 ∷ digit ∷ [])) ≡ place → pending ≡ size ds → is_ascii_hexdigit c ≡ false → GivesLast (Name name.prefix name.local) at (place - 2 - pending) before after fault → Answers (holding at (name_held name ++ (ds ++ 37 ∷ digit ∷ []))) c before after (Err fault)
 hex_fails name ds digit at c place pending before after fault h d here e k g =
@@ -249,7 +250,7 @@ dots_stop (x ∷ w) (d ∷ ds) c more h s n p b = local_dots (d ∷ ds) (c ∷ m
 pub dots_fail : (name : NameSoFar) (ds : List ℕ) (at c place pending : ℕ) (before after : List Placed) (fault : LexFault) → IsNameSoFar name ds → at + size (name_held name ++ ds) ≡ place → pending ≡ size ds → 0 < pending → takes_plain name.written c ≡ false → c ≢ 37 → c ≢ 92 → GivesLast (Name name.prefix name.local) at (place - pending) before after fault → Answers (holding at (name_held name ++ ds)) c before after (Err fault)
 dots_fail name ds at c place pending before after fault h here e s n p b g =
     let some : 0 < size ds = omega arith in
-    last_answer (Name name.prefix name.local) (name_held name) ds at (place - pending) c before after fault (name_spelled name ds h) (λ more. name_whole name ds (ds ++ c ∷ more) h (dots_stop name.written ds c more h.2 h.3 n p b)) (λ more. pending_nothing ds (c ∷ more) h.2 (inl some)) (omega (arith, size-append (name_held name) ds)) g
+    last_answer (Name name.prefix name.local) (name_held name) ds at (place - pending) c before after fault (name_spelled name ds h) (λ more. name_whole name ds (ds ++ c ∷ more) h (dots_stop name.written ds c more h.2 h.3 n p b)) (λ more. pending_nothing ds (c ∷ more) h.2 (inl some)) (omega (arith, size_append (name_held name) ds)) g
 
 pub name_stands : (name : NameSoFar) (ds : List ℕ) (at c place pending : ℕ) → IsNameSoFar name ds → at + size (name_held name ++ ds) ≡ place → pending ≡ size ds → pending ≤ 0 → takes_plain name.written c ≡ false → c ≢ 37 → c ≢ 92 → StandsBefore (Name name.prefix name.local) (name_held name ++ ds) at c place
 name_stands name ds at c place pending h here e s n p b =

@@ -4,10 +4,10 @@ use Rattle.std.specs.Prelude.{◌==◌}
 use Rattle.std.specs.Char.{is_ascii_alphabetic, is_ascii_alphanumeric, is_ascii_digit}
 use Rattle.std.proofs.lemmas.Bool.{both_ways, cases_Bool, and_parts, and_from, cond-true, cond-false, false_from_ne_true, eqb-true, ne_eqb}
 use Rattle.std.proofs.lemmas.List.{append_assoc}
-use Rattle.owl_text.specs.Names.{IsRunOf}
+use Rattle.owl_text.specs.Names.{IsRunOf, is_hyphen, begins_with}
 use Rattle.owl_text.specs.Utf8.{size}
 use Rattle.owl_text.specs.Tokens.{IsLongest, Spells}
-use Rattle.owl_text.specs.States.{Advances, Answers, GivesLast, StandsBefore, IsTagBefore, tag_fits, test_behind, is_hyphen, begins_with}
+use Rattle.owl_text.specs.States.{Advances, Answers, GivesLast, StandsBefore, IsTagBefore}
 use Rattle.owl_text.specs.declared.fault.LexFault.{LexFault}
 use Rattle.owl_text.specs.declared.fault.LexFault.TheVariants.{BadToken, Memory}
 use Rattle.owl_text.specs.declared.token.Token.{Token}
@@ -16,12 +16,16 @@ use Rattle.owl_text.specs.declared.token.Sign.TheVariants.{Carets}
 use Rattle.owl_text.specs.declared.token.Placed.{Placed}
 use Rattle.owl_text.specs.declared.mode.Mode.TheVariants.{Between, Hyphen, InDigits, InTag, InSubtag}
 use Rattle.owl_text.specs.declared.mode.State.{State}
-use Rattle.owl_text.proofs.Leads.{other_fits, only_sign, only_at}
-use Rattle.owl_text.proofs.LongestTokens.{sign_longest, int_longest, tag_is_longest, tag_from_fits, tag_to_fits, alphabetic_is_alphanumeric}
-use Rattle.owl_text.proofs.Moving.{size-append, placed, holding, BeginsNothing}
+use Rattle.owl_text.specs.Subtags.{tag_fits, test_behind}
+use Rattle.owl_text.specs.LeadLaws.{other_fits, only_sign, only_at}
+use Rattle.owl_text.specs.LongestTokenLaws.{sign_longest, int_longest, tag_is_longest}
+use Rattle.owl_text.specs.LanguageTagLaws.{tag_from_fits, tag_to_fits, alphabetic_is_alphanumeric}
+use Rattle.owl_text.specs.Utf8Laws.{size_append}
+use Rattle.owl_text.specs.CutLaws.{both}
+use Rattle.owl_text.specs.AllAreLaws.{AllAre-append}
+use Rattle.owl_text.proofs.Moving.{placed, holding, BeginsNothing}
 use Rattle.owl_text.proofs.Answering.{now_at, holds, whole_answer, last_answer, nothing_at}
 use Rattle.owl_text.proofs.InIris.{bad_answer, end_of}
-use Rattle.owl_text.proofs.Spans.{both, AllAre-append}
 
 -- carets
 
@@ -160,4 +164,4 @@ nothing_hyphen rest = nothing_at 45 rest refl refl refl refl
 
 pub hyphen_fails : (cs : List ℕ) (at c place : ℕ) (before after : List Placed) (fault : LexFault) → tag_fits is_ascii_alphabetic false cs ≡ true → at + size ((64 ∷ cs) ++ 45 ∷ []) ≡ place → is_ascii_alphanumeric c ≡ false → GivesLast (At cs) at (place - 1) before after fault → Answers (holding at ((64 ∷ cs) ++ 45 ∷ [])) c before after (Err fault)
 hyphen_fails cs at c place before after fault h here n g =
-    last_answer (At cs) (64 ∷ cs) (45 ∷ []) at (place - 1) c before after fault (tag_from_fits cs h, refl) (λ more. hyphen_longest cs (c ∷ more) h n) (λ more. nothing_hyphen (c ∷ more)) (omega (arith, size-append (64 ∷ cs) (45 ∷ []))) g
+    last_answer (At cs) (64 ∷ cs) (45 ∷ []) at (place - 1) c before after fault (tag_from_fits cs h, refl) (λ more. hyphen_longest cs (c ∷ more) h n) (λ more. nothing_hyphen (c ∷ more)) (omega (arith, size_append (64 ∷ cs) (45 ∷ []))) g

@@ -5,19 +5,22 @@ use Rattle.std.proofs.lemmas.Bool.{both_ways, cond-true, cond-false, false_from_
 use Rattle.std.proofs.lemmas.List.{append_assoc, append-nil}
 use Rattle.std.specs.Str.{chars}
 use Rattle.owl_text.specs.Iri.{AllAre}
-use Rattle.owl_text.specs.Names.{IsNameFrom, IsLabel, is_base, is_start, is_part, is_inner, is_label_start}
+use Rattle.owl_text.specs.Names.{IsNameFrom, IsLabel, is_base, is_start, is_part, is_inner, is_label_start, begins_with, is_dot}
 use Rattle.owl_text.specs.Utf8.{size}
 use Rattle.owl_text.specs.Tokens.{IsLongest}
-use Rattle.owl_text.specs.States.{Advances, Answers, GivesLast, StandsBefore, IsWell, begins_with, is_dot}
+use Rattle.owl_text.specs.States.{Advances, Answers, GivesLast, StandsBefore, IsWell}
 use Rattle.owl_text.specs.declared.fault.LexFault.{LexFault}
 use Rattle.owl_text.specs.declared.token.Token.TheVariants.{Word, Blank}
 use Rattle.owl_text.specs.declared.token.Placed.{Placed}
 use Rattle.owl_text.specs.declared.mode.Mode.TheVariants.{InWord, BlankStart, InLabel}
 use Rattle.owl_text.specs.declared.mode.State.{State}
-use Rattle.owl_text.proofs.LongestNames.{name_goes_on, WordStops, word_is_longest, blank_is_longest, ends_in_dot-append}
-use Rattle.owl_text.proofs.Moving.{size-append, some_size, holding, BeginsNothing}
+use Rattle.owl_text.specs.LongestNameLaws.{name_goes_on, WordStops, word_is_longest, blank_is_longest}
+use Rattle.owl_text.specs.NameLaws.{ends_in_dot-append}
+use Rattle.owl_text.specs.Utf8Laws.{size_append}
+use Rattle.owl_text.specs.CutLaws.{both}
+use Rattle.owl_text.specs.AllAreLaws.{AllAre-append, AllAre-weaker}
+use Rattle.owl_text.proofs.Moving.{some_size, holding, BeginsNothing}
 use Rattle.owl_text.proofs.Answering.{now_at, holds, last_answer, nothing_at}
-use Rattle.owl_text.proofs.Spans.{both, AllAre-append, AllAre-weaker}
 
 -- dots
 
@@ -101,7 +104,7 @@ dots_longest w ds rest h k s n = word_is_longest w w (ds ++ rest) (h, refl) (dot
 pub word_fails : (w ds : List ℕ) (named : Bool) (at c place pending : ℕ) (before after : List Placed) (fault : LexFault) → IsWell (InWord w ds named) → at + size (w ++ ds) ≡ place → pending ≡ size ds → 0 < pending → c ≢ 46 → is_part c ≡ false → GivesLast (Word w) at (place - pending) before after fault → Answers (holding at (w ++ ds)) c before after (Err fault)
 word_fails w ds named at c place pending before after fault h here e s d p g =
     let some : 0 < size ds = omega arith in
-    last_answer (Word w) w ds at (place - pending) c before after fault (h.0, refl) (λ more. dots_longest w ds (c ∷ more) h.0 h.1 some (not_on c more d p)) (λ more. pending_nothing ds (c ∷ more) h.1 (inl some)) (omega (arith, size-append w ds)) g
+    last_answer (Word w) w ds at (place - pending) c before after fault (h.0, refl) (λ more. dots_longest w ds (c ∷ more) h.0 h.1 some (not_on c more d p)) (λ more. pending_nothing ds (c ∷ more) h.1 (inl some)) (omega (arith, size_append w ds)) g
 
 -- at a character that is no colon, or behind a word that becomes neither a name nor a blank node
 pub word_stands : (w : List ℕ) (at c place : ℕ) → IsNameFrom is_start w → at + size w ≡ place → is_inner c ≡ false → (c ≢ 58) ⊎ ((begins_with is_base w ≡ false) × (w ≢ 95 ∷ [])) → StandsBefore (Word w) w at c place
@@ -141,7 +144,7 @@ label_longest l rest h n = blank_is_longest l (95 ∷ 58 ∷ l) rest (h, refl) n
 pub label_fails : (l ds : List ℕ) (at c place pending : ℕ) (before after : List Placed) (fault : LexFault) → IsWell (InLabel l ds) → at + size ((95 ∷ 58 ∷ l) ++ ds) ≡ place → pending ≡ size ds → 0 < pending → c ≢ 46 → is_part c ≡ false → GivesLast (Blank l) at (place - pending) before after fault → Answers (holding at ((95 ∷ 58 ∷ l) ++ ds)) c before after (Err fault)
 label_fails l ds at c place pending before after fault h here e s d p g =
     let some : 0 < size ds = omega arith in
-    last_answer (Blank l) (95 ∷ 58 ∷ l) ds at (place - pending) c before after fault (h.0, refl) (λ more. label_longest l (ds ++ c ∷ more) h.0 (dots_pass ds (c ∷ more) h.1 ∙ not_on c more d p)) (λ more. pending_nothing ds (c ∷ more) h.1 (inl some)) (omega (arith, size-append (95 ∷ 58 ∷ l) ds)) g
+    last_answer (Blank l) (95 ∷ 58 ∷ l) ds at (place - pending) c before after fault (h.0, refl) (λ more. label_longest l (ds ++ c ∷ more) h.0 (dots_pass ds (c ∷ more) h.1 ∙ not_on c more d p)) (λ more. pending_nothing ds (c ∷ more) h.1 (inl some)) (omega (arith, size_append (95 ∷ 58 ∷ l) ds)) g
 
 pub label_stands : (l ds : List ℕ) (at c place pending : ℕ) → IsWell (InLabel l ds) → at + size ((95 ∷ 58 ∷ l) ++ ds) ≡ place → pending ≡ size ds → pending ≤ 0 → c ≢ 46 → is_part c ≡ false → StandsBefore (Blank l) ((95 ∷ 58 ∷ l) ++ ds) at c place
 label_stands l ds at c place pending h here e s d p =

@@ -8,8 +8,9 @@ use Rattle.owl_text.specs.declared.fault.LexFault.{LexFault}
 use Rattle.owl_text.specs.declared.fault.LexFault.TheVariants.{BadToken, BadUtf8, Memory}
 use Rattle.owl_text.specs.declared.token.Token.{Token}
 use Rattle.owl_text.specs.declared.token.Placed.{Placed}
+use Rattle.owl_text.specs.Utf8Laws.{size_append}
 use Rattle.owl_text.proofs.OneWay.{same_splits_from}
-use Rattle.owl_text.proofs.Moving.{size-append, spelled_size, placed, holding, token_first, splits_token, spelled_token, BeginsNothing, ends_bad}
+use Rattle.owl_text.proofs.Moving.{spelled_size, placed, holding, token_first, splits_token, spelled_token, BeginsNothing, ends_bad}
 
 -- nothing is begun, or a comment is
 pub last_none : (at : ℕ) (items : List Placed) → Lasts (holding at []) items items
@@ -109,11 +110,11 @@ behind_last t s p at before mid after (Ok x) h l added a = record {
   given = placed t at ∷ a.given;
   added = a.added ∙ ap (λ (x : List Placed). x ++ a.given) added ∙ append_assoc before (placed t at ∷ []) a.given;
   comes = λ tail e k.
-      let next : at + size (s ++ p) ≡ (at + size s) + size p = omega (arith, size-append s p) in
+      let next : at + size (s ++ p) ≡ (at + size s) + size p = omega (arith, size_append s p) in
       let rest = a.comes tail e (subst (λ (x : ℕ). Stops x [] tail e) next k) in
       subst (λ (x : List ℕ). SplitsFrom at x tail (placed t at ∷ a.given) e) (sym (append_assoc s p [])) (splits_token t s at (p ++ []) tail a.given e h (subst (λ (x : List ℕ). IsLongest s x) (sym (append-nil p)) l) rest);
   tokens = (spelled_token t s h, a.tokens);
-  few = omega (arith, a.few, size-append s p, spelled_size t s h);
+  few = omega (arith, a.few, size_append s p, spelled_size t s h);
 }
 behind_last t s p at before mid after (Err fault) h l added a =
     let longest = subst (λ (x : List ℕ). IsLongest s x) (sym (append-nil p)) l in (

@@ -1,12 +1,8 @@
 pub mod Characters
 pub mod NameCharacters
-pub mod Schemes
-pub mod Spans
 pub mod Leads
 pub mod Spelled
 pub mod OneWay
-pub mod LongestNames
-pub mod LongestTokens
 pub mod Utf8Bytes
 pub mod Moving
 pub mod Answering

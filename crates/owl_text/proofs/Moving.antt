@@ -6,23 +6,20 @@ use Rattle.std.proofs.lemmas.Bool.{and_from}
 use Rattle.std.proofs.lemmas.List.{append_assoc, append-nil}
 use Rattle.std.proofs.lemmas.Str.{len_utf8_bounds}
 use Rattle.owl_text.specs.Utf8.{size}
-use Rattle.owl_text.specs.Tokens.{IsGap, IsLongest, IsToken, Spells, SplitsFrom, Begins, BeginsNoToken, Stops, is_space, is_line_end, is_comment_start}
+use Rattle.owl_text.specs.Tokens.{IsGap, IsLongest, IsToken, Spells, SplitsFrom, BeginsToken, BeginsNoToken, Stops, is_space, is_line_end, is_comment_start}
 use Rattle.owl_text.specs.States.{Seen, Comes, CutsBehind, Moves, Starts, Fails}
 use Rattle.owl_text.specs.declared.fault.LexFault.{LexFault}
 use Rattle.owl_text.specs.declared.fault.LexFault.TheVariants.{BadToken}
 use Rattle.owl_text.specs.declared.token.Token.{Token}
 use Rattle.owl_text.specs.declared.token.Token.TheVariants.{Iri, Name, Blank, Str, At, Word, Int, Sign}
 use Rattle.owl_text.specs.declared.token.Placed.{Placed}
-use Rattle.owl_text.proofs.Leads.{spelled_lead}
+use Rattle.owl_text.specs.LeadLaws.{spelled_lead}
+use Rattle.owl_text.specs.CutLaws.{both}
+use Rattle.owl_text.specs.Utf8Laws.{scalars_behind, size_append}
 use Rattle.owl_text.proofs.NameCharacters.{local_fits}
 use Rattle.owl_text.proofs.OneWay.{BeginsNoGap, same_begins, begins_ends, same_splits_from, head_scalar, tail_scalars, comment_is, token_no_gap}
-use Rattle.owl_text.proofs.Spans.{both}
 
 -- sizes and scalars
-
-pub size-append : (xs ys : List ℕ) → size (xs ++ ys) ≡ size xs + size ys
-size-append [] ys = omega arith
-size-append (x ∷ xs) ys = let e = size-append xs ys in omega arith
 
 pub some_size : (c : ℕ) (cs : List ℕ) → 1 ≤ size (c ∷ cs)
 some_size c cs = let b = len_utf8_bounds c in omega arith
@@ -33,10 +30,6 @@ spelled_size t s h = let l = spelled_lead t s h in subst (λ (x : List ℕ). 1 �
 pub scalars-append : (xs ys : List ℕ) → all_scalars xs ≡ true → all_scalars ys ≡ true → all_scalars (xs ++ ys) ≡ true
 scalars-append [] ys h k = k
 scalars-append (x ∷ xs) ys h k = and_from _ _ (head_scalar x xs h) (scalars-append xs ys (tail_scalars x xs h) k)
-
-pub scalars_back : (xs ys : List ℕ) → all_scalars (xs ++ ys) ≡ true → all_scalars ys ≡ true
-scalars_back [] ys h = h
-scalars_back (x ∷ xs) ys h = scalars_back xs ys (tail_scalars x (xs ++ ys) h)
 
 pub one_scalar : (c : ℕ) → IsScalar c → all_scalars (c ∷ []) ≡ true
 one_scalar c h = and_from _ _ h refl
@@ -61,7 +54,7 @@ pub record StandsFirst (first : Placed) (next : ℕ) (rest tail : List ℕ) (tok
   pub is : tokens ≡ first ∷ others
   pub splits : SplitsFrom next rest tail others ending
 
-begins_token : (t : Token) (s : List ℕ) (at : ℕ) (rest : List ℕ) → Spells t s → IsLongest s rest → Begins at (s ++ rest) (placed t at) (at + size s) rest
+begins_token : (t : Token) (s : List ℕ) (at : ℕ) (rest : List ℕ) → Spells t s → IsLongest s rest → BeginsToken at (s ++ rest) (placed t at) (at + size s) rest
 begins_token t s at rest h l = record { gap = []; spelling = s; parts = refl; is_gap = tt; at = omega arith; token = h; longest = l; ends = refl }
 
 pub token_first : (t : Token) (s : List ℕ) (at : ℕ) (rest tail : List ℕ) (tokens : List Placed) (e : Option LexFault) → Spells t s → IsLongest s rest → SplitsFrom at (s ++ rest) tail tokens e → StandsFirst (placed t at) (at + size s) rest tail tokens e
@@ -190,7 +183,7 @@ moves_holds at h c before = record {
   all = λ more tail tokens e k. (tokens, refl, subst (λ (x : List ℕ). SplitsFrom at x tail tokens e) (sym (append_assoc h (c ∷ []) more)) k);
   only = λ more tail rest e k. subst (λ (x : List ℕ). SplitsFrom at x tail rest e) (append_assoc h (c ∷ []) more) k;
   tokens = tt;
-  few = omega (arith, size-append h (c ∷ []));
+  few = omega (arith, size_append h (c ∷ []));
   scalars = λ s k. scalars-append h (c ∷ []) s (one_scalar c k);
 }
 
@@ -244,8 +237,8 @@ moves_behind t s p at c before mid after new k l added m =
           (rest.0, first.is ∙ ap (λ (y : List Placed). placed t at ∷ y) rest.1, rest.2);
       only = λ more tail rest en x. subst (λ (y : List ℕ). SplitsFrom at y tail (placed t at ∷ (m.given ++ rest)) en) (sym (seam more)) (splits_token t s at (p ++ c ∷ more) tail (m.given ++ rest) en k (l more) (m.only more tail rest en x));
       tokens = (spelled_token t s k, m.tokens);
-      few = omega (arith, m.few, size-append s p, spelled_size t s k);
-      scalars = λ x y. m.scalars (scalars_back s p x) y;
+      few = omega (arith, m.few, size_append s p, spelled_size t s k);
+      scalars = λ x y. m.scalars (scalars_behind s p x) y;
     }
 
 -- faults

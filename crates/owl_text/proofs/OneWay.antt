@@ -8,14 +8,15 @@ use Rattle.std.proofs.lemmas.Str.{encode_same}
 use Rattle.std.proofs.lemmas.List.{append_assoc}
 use Rattle.owl_text.specs.Iri.{is_among}
 use Rattle.owl_text.specs.Utf8.{BeginsNoCharacter, Decodes, size}
-use Rattle.owl_text.specs.Tokens.{Spells, IsGap, IsComment, is_space, is_line_end, is_comment_start, Begins, Stops, Ends, SplitsFrom, SplitsAt, Splits, mark_size, behind_mark}
+use Rattle.owl_text.specs.Tokens.{Spells, IsGap, IsComment, is_space, is_line_end, is_comment_start, BeginsToken, Stops, Ends, SplitsFrom, SplitsAt, Splits, mark_size, behind_mark}
 use Rattle.owl_text.specs.Lexing.{Begun, Continues, SplitsBehind}
 use Rattle.owl_text.specs.declared.fault.LexFault.{LexFault}
 use Rattle.owl_text.specs.declared.token.Token.{Token}
 use Rattle.owl_text.specs.declared.token.Placed.{Placed}
-use Rattle.owl_text.proofs.Leads.{spelled_lead, lead, fits, no_other}
+use Rattle.owl_text.specs.LeadLaws.{spelled_lead, lead, fits}
+use Rattle.owl_text.specs.CutLaws.{both, same_seam}
+use Rattle.owl_text.proofs.Leads.{no_other}
 use Rattle.owl_text.proofs.Spelled.{same_spelled}
-use Rattle.owl_text.proofs.Spans.{both, same_seam}
 
 -- characters
 
@@ -149,7 +150,7 @@ pub record SameBegins (p q : Placed) (m n : ℕ) (r s : List ℕ) : Type 0 where
   pub next : m ≡ n
   pub rest : r ≡ s
 
-pub same_begins : (place : ℕ) (cs : List ℕ) (p q : Placed) (m n : ℕ) (r s : List ℕ) → Begins place cs p m r → Begins place cs q n s → SameBegins p q m n r s
+pub same_begins : (place : ℕ) (cs : List ℕ) (p q : Placed) (m n : ℕ) (r s : List ℕ) → BeginsToken place cs p m r → BeginsToken place cs q n s → SameBegins p q m n r s
 same_begins place cs p q m n r s a b =
     let gap = same_gap a.gap b.gap (a.spelling ++ r) (b.spelling ++ s) a.is_gap b.is_gap (token_no_gap p.token a.spelling r a.token) (token_no_gap q.token b.spelling s b.token) (sym a.parts ∙ b.parts) in
     let seam = same_seam a.spelling b.spelling r s (b.longest p.token a.spelling r a.token (sym gap.rest)) (a.longest q.token b.spelling s b.token gap.rest) gap.rest in
@@ -185,7 +186,7 @@ token_stops place [] tail e token spelling more h k s =
 token_stops place (c ∷ cs) [] e token spelling more h k s = s.2 token spelling more h k
 token_stops place (c ∷ cs) (b ∷ tail) e token spelling more h k s = s.2 token spelling more h k
 
-pub begins_ends : (place : ℕ) (cs tail : List ℕ) (e : Option LexFault) (p : Placed) (n : ℕ) (r : List ℕ) → Begins place cs p n r → Ends place cs tail e → ⊥
+pub begins_ends : (place : ℕ) (cs tail : List ℕ) (e : Option LexFault) (p : Placed) (n : ℕ) (r : List ℕ) → BeginsToken place cs p n r → Ends place cs tail e → ⊥
 begins_ends place cs tail e p n r a h =
     let gap = same_gap h.gap a.gap h.rest (a.spelling ++ r) h.is_gap a.is_gap (stops_no_gap _ h.rest tail e h.stops) (token_no_gap p.token a.spelling r a.token) (sym h.parts ∙ a.parts) in
     token_stops (place + size h.gap) h.rest tail e p.token a.spelling r a.token gap.rest h.stops

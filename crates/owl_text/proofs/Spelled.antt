@@ -1,139 +1,20 @@
 -- What is written is the spelling of one token at most.
-use Rattle.std.proofs.Common.{◌≡◌, inl, inr, ℕ, Bool, true, false, ◌||◌, List, [], ◌∷◌, ◌++◌, refl, sym, ap, ◌∙◌, subst}
-use Rattle.std.specs.Prelude.{codes, flat_map, ◌==◌}
+use Rattle.std.proofs.Common.{◌≡◌, inl, inr, ℕ, true, List, [], ◌∷◌, ◌++◌, refl, sym, ap, ◌∙◌, subst}
+use Rattle.std.specs.Prelude.{codes, flat_map}
 use Rattle.std.specs.List.{AllByRecursion}
-use Rattle.std.proofs.lemmas.Bool.{cases_Bool, cond-true, cond-false, or_left}
-use Rattle.std.proofs.lemmas.List.{append_assoc, append_cancel_right}
-use Rattle.owl_text.specs.Iri.{AllAre, is_among}
-use Rattle.owl_text.specs.Names.{in_ranges, start_ranges, part_ranges, is_base, is_start, is_part, is_inner, IsNameFrom, IsPrefixName, Piece, plain, percent, escaped, piece_spelling, piece_text, IsPieceOf, is_local_start, is_local_inner, AreLocalPieces, SpellsLocal}
-use Rattle.owl_text.specs.Tokens.{Spells, character_spelling, is_escaped}
+use Rattle.std.proofs.lemmas.List.{append_cancel_right}
+use Rattle.owl_text.specs.Names.{is_start, is_inner, IsNameFrom, IsPrefixName, Piece, plain, percent, escaped, piece_spelling, piece_text, IsPieceOf, SpellsLocal}
+use Rattle.owl_text.specs.Tokens.{Spells, character_spelling}
 use Rattle.owl_text.specs.declared.token.Token.{Token}
 use Rattle.owl_text.specs.declared.token.Token.TheVariants.{Iri, Name, Blank, Str, At, Word, Int, Sign}
 use Rattle.owl_text.specs.declared.token.Sign.{Sign as Mark}
 use Rattle.owl_text.specs.declared.token.Sign.TheVariants.{Open, Close, Equals, Carets}
-use Rattle.owl_text.proofs.Leads.{Lead, lead, lead_digit, lead_letter, fits, spelled_lead, only_iri, only_str, only_at, only_int, only_sign, only_name, name_or_word, blank_or_word}
-use Rattle.owl_text.proofs.Spans.{both, heads, found, same_cut}
-
--- names
-
-pub base_is_inner : (c : ℕ) → is_base c ≡ true → is_inner c ≡ true
-base_is_inner c h = or_left (is_part c) (is_among (codes ".") c) (or_left (is_start c) (in_ranges part_ranges c) (or_left (is_base c) (in_ranges start_ranges c) h))
-
-pub start_is_inner : (c : ℕ) → is_start c ≡ true → is_inner c ≡ true
-start_is_inner c h = or_left (is_part c) (is_among (codes ".") c) (or_left (is_start c) (in_ranges part_ranges c) h)
-
-pub name_inner : (test : ℕ → Bool) → ((c : ℕ) → test c ≡ true → is_inner c ≡ true) → (cs : List ℕ) → IsNameFrom test cs → AllAre is_inner cs
-name_inner test f [] h = absurd h
-name_inner test f (c ∷ cs) h = (f c h.0, h.1)
-
-pub prefix_inner : (prefix : List ℕ) → IsPrefixName prefix → AllAre is_inner prefix
-prefix_inner [] h = tt
-prefix_inner (c ∷ cs) h = name_inner is_base base_is_inner (c ∷ cs) h
-
-pub word_inner : (word : List ℕ) → IsNameFrom is_start word → AllAre is_inner word
-word_inner word h = name_inner is_start start_is_inner word h
-
--- strings
-
-pub escaped_is : (c : ℕ) → is_escaped c ≡ true → character_spelling c ≡ 92 ∷ c ∷ []
-escaped_is c h = cond-true (is_escaped c) (92 ∷ c ∷ []) (c ∷ []) h
-
-pub unescaped_is : (c : ℕ) → is_escaped c ≡ false → character_spelling c ≡ c ∷ []
-unescaped_is c h = cond-false (is_escaped c) (92 ∷ c ∷ []) (c ∷ []) h
-
-pub record SameText (xs ys a b : List ℕ) : Type 0 where
-  pub front : xs ≡ ys
-  pub rest : a ≡ b
-
--- a string's text ends at its quote
-pub quote_first : (y : ℕ) (ys a b : List ℕ) → 34 ∷ a ≡ character_spelling y ++ ys → ⊥
-quote_first y ys a b e = elim (cases_Bool (is_escaped y)) [
-  | inl h ↦ heads (λ n. n == 34) 34 92 a (y ∷ ys) refl refl (e ∙ ap (λ (x : List ℕ). x ++ ys) (escaped_is y h))
-  | inr h ↦
-      let same : 34 ∷ a ≡ y ∷ ys = e ∙ ap (λ (x : List ℕ). x ++ ys) (unescaped_is y h) in
-      both is_escaped 34 y (cc) refl h
-]
-
-pub record SameFirst (x y : ℕ) (xs ys : List ℕ) : Type 0 where
-  pub first : x ≡ y
-  pub rest : xs ≡ ys
-
-pub same_character : (x y : ℕ) (xs ys : List ℕ) → character_spelling x ++ xs ≡ character_spelling y ++ ys → SameFirst x y xs ys
-same_character x y xs ys e = elim (cases_Bool (is_escaped x)) [
-  | inl h ↦ elim (cases_Bool (is_escaped y)) [
-    | inl k ↦
-        let same : 92 ∷ x ∷ xs ≡ 92 ∷ y ∷ ys = sym (ap (λ (z : List ℕ). z ++ xs) (escaped_is x h)) ∙ e ∙ ap (λ (z : List ℕ). z ++ ys) (escaped_is y k) in
-        record { first = cc; rest = cc }
-    | inr k ↦
-        let same : 92 ∷ x ∷ xs ≡ y ∷ ys = sym (ap (λ (z : List ℕ). z ++ xs) (escaped_is x h)) ∙ e ∙ ap (λ (z : List ℕ). z ++ ys) (unescaped_is y k) in
-        absurd (both is_escaped 92 y (cc) refl k)
-  ]
-  | inr h ↦ elim (cases_Bool (is_escaped y)) [
-    | inl k ↦
-        let same : x ∷ xs ≡ 92 ∷ y ∷ ys = sym (ap (λ (z : List ℕ). z ++ xs) (unescaped_is x h)) ∙ e ∙ ap (λ (z : List ℕ). z ++ ys) (escaped_is y k) in
-        absurd (both is_escaped 92 x (cc) refl h)
-    | inr k ↦
-        let same : x ∷ xs ≡ y ∷ ys = sym (ap (λ (z : List ℕ). z ++ xs) (unescaped_is x h)) ∙ e ∙ ap (λ (z : List ℕ). z ++ ys) (unescaped_is y k) in
-        record { first = cc; rest = cc }
-  ]
-]
-
-pub same_text : (xs ys a b : List ℕ) → flat_map character_spelling xs ++ 34 ∷ a ≡ flat_map character_spelling ys ++ 34 ∷ b → SameText xs ys a b
-same_text [] [] a b e = record { front = refl; rest = cc }
-same_text [] (y ∷ ys) a b e = absurd (quote_first y (flat_map character_spelling ys ++ 34 ∷ b) a [] (e ∙ append_assoc (character_spelling y) _ _))
-same_text (x ∷ xs) [] a b e = absurd (quote_first x (flat_map character_spelling xs ++ 34 ∷ a) b [] (sym e ∙ append_assoc (character_spelling x) _ _))
-same_text (x ∷ xs) (y ∷ ys) a b e =
-    let first = same_character x y (flat_map character_spelling xs ++ 34 ∷ a) (flat_map character_spelling ys ++ 34 ∷ b) (sym (append_assoc (character_spelling x) _ _) ∙ e ∙ append_assoc (character_spelling y) _ _) in
-    let others = same_text xs ys a b first.rest in
-    let e1 : x ≡ y = first.first in
-    let e2 : xs ≡ ys = others.front in
-    record { front = cc; rest = others.rest }
+use Rattle.owl_text.specs.LeadLaws.{Lead, lead, lead_digit, lead_letter, fits, spelled_lead, only_iri, only_str, only_at, only_int, only_sign, only_name, name_or_word, blank_or_word}
+use Rattle.owl_text.specs.CutLaws.{found, same_cut}
+use Rattle.owl_text.specs.NameLaws.{word_inner, prefix_inner}
+use Rattle.owl_text.specs.SpellingLaws.{same_piece, local_pieces_plain, same_text, is_plain}
 
 -- local parts
-
--- a character that stands for itself
-abbrev pub is_plain : ℕ → Bool
-is_plain c = is_local_start c || is_local_inner c
-
-pub start_is_plain : (c : ℕ) → is_local_start c ≡ true → is_plain c ≡ true
-start_is_plain c h = ap (λ b. b || is_local_inner c) h
-
-pub inner_is_plain : (c : ℕ) → is_local_inner c ≡ true → is_plain c ≡ true
-inner_is_plain c h = elim (cases_Bool (is_local_start c)) [
-  | inl k ↦ start_is_plain c k
-  | inr k ↦ ap (λ b. b || is_local_inner c) k ∙ h
-]
-
-pub piece_weaker : (p q : ℕ → Bool) → ((c : ℕ) → p c ≡ true → q c ≡ true) → (piece : Piece) → IsPieceOf p piece → IsPieceOf q piece
-piece_weaker p q f (plain c) h = f c h
-piece_weaker p q f (percent a b) h = h
-piece_weaker p q f (escaped c) h = h
-
-pub pieces_weaker : (p q : ℕ → Bool) → ((c : ℕ) → p c ≡ true → q c ≡ true) → (pieces : List Piece) → AllByRecursion (IsPieceOf p) pieces → AllByRecursion (IsPieceOf q) pieces
-pieces_weaker p q f [] h = tt
-pieces_weaker p q f (piece ∷ pieces) h = (piece_weaker p q f piece h.0, pieces_weaker p q f pieces h.1)
-
-pub local_pieces_plain : (pieces : List Piece) → AreLocalPieces pieces → AllByRecursion (IsPieceOf is_plain) pieces
-local_pieces_plain [] h = tt
-local_pieces_plain (piece ∷ pieces) h = (piece_weaker is_local_start is_plain start_is_plain piece h.0, pieces_weaker is_local_inner is_plain inner_is_plain pieces h.1)
-
-pub record SamePiece (x y : Piece) (xs ys : List ℕ) : Type 0 where
-  pub first : x ≡ y
-  pub rest : xs ≡ ys
-
-pub same_piece : (x y : Piece) (xs ys : List ℕ) → IsPieceOf is_plain x → IsPieceOf is_plain y → piece_spelling x ++ xs ≡ piece_spelling y ++ ys → SamePiece x y xs ys
-same_piece (plain c) (plain d) xs ys h k e = let f : c ≡ d = cc in record { first = ap plain f; rest = cc }
-same_piece (plain c) (percent a b) xs ys h k e = absurd (both is_plain c 37 (cc) h refl)
-same_piece (plain c) (escaped d) xs ys h k e = absurd (both is_plain c 92 (cc) h refl)
-same_piece (percent a b) (plain d) xs ys h k e = absurd (both is_plain d 37 (cc) k refl)
-same_piece (percent a b) (percent c d) xs ys h k e =
-    let f : a ≡ c = cc in
-    let g : b ≡ d = cc in
-    record { first = ap (λ x. percent x b) f ∙ ap (λ x. percent c x) g; rest = cc }
-same_piece (percent a b) (escaped d) xs ys h k e = absurd (heads (λ n. n == 37) 37 92 (a ∷ b ∷ xs) (d ∷ ys) refl refl e)
-same_piece (escaped c) (plain d) xs ys h k e = absurd (both is_plain d 92 (cc) k refl)
-same_piece (escaped c) (percent a b) xs ys h k e = absurd (heads (λ n. n == 92) 92 37 (c ∷ xs) (a ∷ b ∷ ys) refl refl e)
-same_piece (escaped c) (escaped d) xs ys h k e = let f : c ≡ d = cc in record { first = ap escaped f; rest = cc }
 
 -- a piece is not empty
 piece_some : (x : Piece) (xs : List ℕ) → [] ≡ piece_spelling x ++ xs → ⊥

@@ -14,11 +14,11 @@ use Rattle.owl_text.specs.declared.fault.LexFault.{LexFault}
 use Rattle.owl_text.specs.declared.fault.LexFault.TheVariants.{BadUtf8}
 use Rattle.owl_text.specs.declared.mode.State.{State}
 use Rattle.owl_text.specs.declared.token.Placed.{Placed}
-use Rattle.owl_text.proofs.Answering.{size_bytes}
+use Rattle.owl_text.specs.Utf8Laws.{no_bytes, size_is}
 use Rattle.owl_text.proofs.Moving.{one_scalar}
 use Rattle.owl_text.proofs.OneWay.{same_continues, same_decoded}
 use Rattle.owl_text.proofs.Utf8Bytes.{unfinished_is_none}
-use Rattle.owl_text.proofs.Decoding.{decode, no_bytes, decodes_behind, decodes_front}
+use Rattle.owl_text.proofs.Decoding.{decode, decodes_behind, decodes_front}
 
 -- the bytes behind characters that are held
 pub record Cut (at : ℕ) (hs : List ℕ) (fresh : Bool) (bytes : List ℕ) (tokens : List Placed) (ending : Option LexFault) : Type 0 where
@@ -120,7 +120,7 @@ count_bytes : (us : List ℕ) (b c : ℕ) → encode_utf8 c ≡ us ++ b ∷ [] �
 count_bytes us b c e = omega (arith, length-append us (b ∷ []), ap (λ (x : List ℕ). length x) e, length-encode c)
 
 held_bytes : (hs us : List ℕ) → length (encode_utf8_all hs ++ us) ≡ size hs + length us
-held_bytes hs us = omega (arith, length-append (encode_utf8_all hs) us, size_bytes hs)
+held_bytes hs us = omega (arith, length-append (encode_utf8_all hs) us, size_is hs)
 
 -- the feed behind a whole character
 abbrev pub cleared : ℕ → Feeding

@@ -6,6 +6,20 @@ use Rattle.std.specs.Int.{is_in_range}
 use Rattle.std.specs.List.{AllByRecursion, list_any, slice_split}
 use Rattle.owl_text.specs.Iri.{AllAre, is_among}
 
+-- the first character passes the test
+abbrev pub begins_with : (ℕ → Bool) → List ℕ → Bool
+begins_with test [] = false
+begins_with test (c ∷ cs) = test c
+
+abbrev pub is_dot : ℕ → Bool
+is_dot c = is_among (codes ".") c
+
+abbrev pub is_colon : ℕ → Bool
+is_colon c = is_among (codes ":") c
+
+abbrev pub is_hyphen : ℕ → Bool
+is_hyphen c = c == 0x2D
+
 -- a character lies in one of the ranges
 abbrev pub in_ranges : List (ℕ × ℕ) → ℕ → Bool
 in_ranges ranges c = list_any (λ range. is_in_range range.0 range.1 c) ranges

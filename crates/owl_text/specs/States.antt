@@ -1,9 +1,9 @@
 -- What the states of a lexer hold, in characters, and what one more character makes of them.
-use Rattle.std.specs.Prelude.{◌≡◌, ◌≢◌, Result, Ok, Err, ℕ, ◌+◌, ◌<◌, ◌≤◌, Bool, true, false, Option, Some, List, [], ◌∷◌, ◌++◌, length, codes, flat_map, ◌==◌, ◌&&◌, if◌then◌else◌}
+use Rattle.std.specs.Prelude.{◌≡◌, ◌≢◌, Result, Ok, Err, ℕ, ◌+◌, ◌<◌, ◌≤◌, Bool, true, false, Option, Some, List, [], ◌∷◌, ◌++◌, length, codes, flat_map}
 use Rattle.std.specs.Char.{IsScalar, len_utf8, is_ascii_alphabetic, is_ascii_alphanumeric, is_ascii_digit, is_ascii_hexdigit}
 use Rattle.std.specs.Str.{all_scalars}
-use Rattle.owl_text.specs.Iri.{AllAre, IsIri, IsScheme, is_among}
-use Rattle.owl_text.specs.Names.{IsLabel, IsNameFrom, IsPrefixName, IsRunOf, SpellsLocal, is_base, is_local_inner, is_local_start, is_start}
+use Rattle.owl_text.specs.Iri.{AllAre, IsIri, IsScheme}
+use Rattle.owl_text.specs.Names.{IsLabel, IsNameFrom, IsPrefixName, IsRunOf, SpellsLocal, is_base, is_local_inner, is_local_start, is_start, is_dot, begins_with}
 use Rattle.owl_text.specs.Utf8.{size}
 use Rattle.owl_text.specs.Tokens.{IsLongest, Spells, SplitsFrom, Stops, behind_mark, character_spelling, mark_size}
 use Rattle.owl_text.specs.Lexing.{AreTokens}
@@ -15,32 +15,7 @@ use Rattle.owl_text.specs.declared.mode.NameSoFar.{NameSoFar}
 use Rattle.owl_text.specs.declared.mode.Mode.{Mode}
 use Rattle.owl_text.specs.declared.mode.Mode.TheVariants.{Fresh, Between, Comment, Opened, InScheme, InIri, InStr, InEscape, Caret, InDigits, AtSign, InTag, InSubtag, Hyphen, InWord, BlankStart, InLabel, InName, InPercent, InHex, InNameEscape}
 use Rattle.owl_text.specs.declared.mode.State.{State}
-
--- the first character passes the test
-abbrev pub begins_with : (ℕ → Bool) → List ℕ → Bool
-begins_with test [] = false
-begins_with test (c ∷ cs) = test c
-
-abbrev pub is_dot : ℕ → Bool
-is_dot c = is_among (codes ".") c
-
-abbrev pub is_colon : ℕ → Bool
-is_colon c = is_among (codes ":") c
-
-abbrev pub is_hyphen : ℕ → Bool
-is_hyphen c = c == 0x2D
-
--- Language tags by one character after another: those of the first subtag pass the test, and a hyphen may stand behind
--- some.
-abbrev pub tag_fits : (ℕ → Bool) → Bool → List ℕ → Bool
-tag_fits test some [] = some
-tag_fits test some (c ∷ cs) =
-    if is_hyphen c then (some && tag_fits is_ascii_alphanumeric false cs) else (test c && tag_fits test true cs)
-
--- the test for characters behind a front of a tag
-abbrev pub test_behind : (ℕ → Bool) → List ℕ → ℕ → Bool
-test_behind test [] = test
-test_behind test (c ∷ cs) = if is_hyphen c then test_behind is_ascii_alphanumeric cs else test_behind test cs
+use Rattle.owl_text.specs.Subtags.{tag_fits, test_behind}
 
 -- a language tag, behind which these characters may follow
 abbrev pub IsTagBefore : (ℕ → Bool) → List ℕ → Type 0

@@ -81,7 +81,7 @@ abbrev mutual
 
 -- The characters, of which the first one stands at this byte, begin with a gap, this token and then the rest, which
 -- stands at the byte next.
-pub record Begins (place : ℕ) (cs : List ℕ) (first : Placed) (next : ℕ) (rest : List ℕ) : Type 0 where
+pub record BeginsToken (place : ℕ) (cs : List ℕ) (first : Placed) (next : ℕ) (rest : List ℕ) : Type 0 where
   pub gap : List ℕ
   pub spelling : List ℕ
   pub parts : cs ≡ gap ++ (spelling ++ rest)
@@ -112,7 +112,7 @@ pub record Ends (place : ℕ) (cs tail : List ℕ) (ending : Option LexFault) : 
 abbrev pub SplitsFrom : ℕ → List ℕ → List ℕ → List Placed → Option LexFault → Type 0
 SplitsFrom place cs tail [] ending = Ends place cs tail ending
 SplitsFrom place cs tail (first ∷ others) ending =
-    (next : ℕ) × (rest : List ℕ) × Begins place cs first next rest × SplitsFrom next rest tail others ending
+    (next : ℕ) × (rest : List ℕ) × BeginsToken place cs first next rest × SplitsFrom next rest tail others ending
 
 -- The bytes, of which the first one stands at this place, are these tokens, up to their end or to a fault.
 pub record SplitsAt (place : ℕ) (bytes : List ℕ) (tokens : List Placed) (ending : Option LexFault) : Type 0 where

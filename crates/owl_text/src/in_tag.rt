@@ -3,8 +3,9 @@
 ghost use Rattle.std.specs.Prelude.{◌≡◌, true, false, ◌+◌, ◌^◌, ◌<◌};
 ghost use Rattle.std.specs.Char.{is_ascii_alphabetic, is_ascii_alphanumeric, is_ascii_digit};
 ghost use Rattle.owl_text.specs.Names.{IsRunOf};
-ghost use Rattle.owl_text.specs.States.{Answers, IsTagBefore, next_of, seen, tag_fits};
+ghost use Rattle.owl_text.specs.States.{Answers, IsTagBefore, next_of, seen};
 ghost use Rattle.owl_text.specs.declared.mode.Mode.TheVariants.{AtSign, Caret, Hyphen, InDigits, InSubtag, InTag};
+ghost use Rattle.owl_text.specs.Subtags.{tag_fits};
 
 use crate::begin::{behind, give_last, give_whole, text_of};
 use crate::fault::LexFault;

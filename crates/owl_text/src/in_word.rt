@@ -1,8 +1,8 @@
 //! Words and labels.
 
 ghost use Rattle.std.specs.Prelude.{◌≡◌, ◌≢◌, true, false, ◌+◌, ◌^◌, ◌<◌, [], ◌∷◌, ◌++◌, IfOk};
-ghost use Rattle.owl_text.specs.Names.{IsNameFrom, is_base, is_inner, is_start};
-ghost use Rattle.owl_text.specs.States.{Answers, IsWell, begins_with, next_of, seen};
+ghost use Rattle.owl_text.specs.Names.{IsNameFrom, is_base, is_inner, is_start, begins_with};
+ghost use Rattle.owl_text.specs.States.{Answers, IsWell, next_of, seen};
 ghost use Rattle.owl_text.specs.Utf8.{size};
 ghost use Rattle.owl_text.specs.declared.mode.Mode.TheVariants.{BlankStart, InLabel, InWord};
 

@@ -1,13 +1,14 @@
 -- What is answered for documents is what is asked.
 use Rattle.std.proofs.Common.{Result, Ok, Err, IfOk, IfErr, ◌≡◌, ◌≢◌, ◌⊎◌, inl, inr, ◌<◌, ◌≤◌, ℕ, IsTrue, Bool, Option, None, Some, List, [], ◌∷◌, ◌++◌, length, refl, sym, ◌∙◌, subst, arith}
 use Rattle.std.specs.Result.{IsErrAnd}
+use Rattle.owl_text.specs.Limit.{most_bytes}
 use Rattle.owl_port.specs.Outside.{Rose, SameElsewhere}
-use Rattle.owl_atom.specs.declared.prefixes.Prefix.{Prefix}
-use Rattle.owl_tree.specs.Ontologies.{Ontology}
-use Rattle.owl_doc.specs.Functional.{Reads, longest}
-use Rattle.std.proofs.lemmas.List.{length-append}
 use Rattle.owl_port.specs.declared.whole.ReadFault as port
 use Rattle.owl_port.specs.declared.whole.ReadFault.TheVariants as pf
+use Rattle.std.proofs.lemmas.List.{length-append}
+use Rattle.owl_atom.specs.declared.prefixes.Prefix.{Prefix}
+use Rattle.owl_tree.specs.Ontologies.{Ontology}
+use Rattle.owl_doc.specs.Functional.{ReadsFunctional}
 use Rattle.fss_read.specs.declared.fault.ReadFault as read
 use Rattle.fss_read.specs.declared.fault.ReadFault.TheVariants as rf
 use Rattle.fss_write.specs.Text.{declared_prefixes}
@@ -30,24 +31,24 @@ from_both (Err y) P Q R f p q = tt
 pub says_only : (there : Option (List ℕ)) (bytes : List ℕ) (prefixes : List Prefix) (o : Ontology) → there ≡ Some bytes → IsOnlyReading bytes prefixes o → SaysOnly there prefixes o
 says_only there bytes prefixes o e r = record {
   says = record { bytes = bytes; are = e; reads = r.reads };
-  only = λ others p s. r.only others p (subst (λ (x : List ℕ). Reads x others p) (same s.bytes s.are) s.reads);
+  only = λ others p s. r.only others p (subst (λ (x : List ℕ). ReadsFunctional x others p) (same s.bytes s.are) s.reads);
 }
   where
     same : (others : List ℕ) → there ≡ Some others → others ≡ bytes
     same others f = cc
 
 -- what a shelf refuses
-pub shelf_trouble : {T : Type 0} (r : Result T Trouble) (fault : port.ReadFault) (name : List ℕ) (there : Option (List ℕ)) → IsErrAnd r (λ y. y ≡ of_shelf fault) → (fault ≡ pf.TooLong → (taken : List ℕ) × (rest : List ℕ) × (there ≡ Some (taken ++ rest)) × (longest < length taken)) → IfErr r (IsTroubleOf name there)
+pub shelf_trouble : {T : Type 0} (r : Result T Trouble) (fault : port.ReadFault) (name : List ℕ) (there : Option (List ℕ)) → IsErrAnd r (λ y. y ≡ of_shelf fault) → (fault ≡ pf.TooLong → (taken : List ℕ) × (rest : List ℕ) × (there ≡ Some (taken ++ rest)) × (most_bytes < length taken)) → IfErr r (IsTroubleOf name there)
 shelf_trouble (Ok x) fault name there e f = tt
 shelf_trouble (Err y) pf.Failed name there e f = subst (IsTroubleOf name there) (sym e) tt
 shelf_trouble (Err y) pf.TooLong name there e f =
     let h = f refl in
-    let long : longest < length (h.0 ++ h.1) = let parts = length-append h.0 h.1 in let front = h.3 in omega arith in
+    let long : most_bytes < length (h.0 ++ h.1) = let parts = length-append h.0 h.1 in let front = h.3 in omega arith in
     subst (IsTroubleOf name there) (sym e) (too_long (h.0 ++ h.1) h.2 long refl)
 shelf_trouble (Err y) pf.Memory name there e f = subst (IsTroubleOf name there) (sym e) tt
 
 -- what a reader refuses
-pub reader_trouble : {T : Type 0} (r : Result T Trouble) (fault : read.ReadFault) (name bytes : List ℕ) (there : Option (List ℕ)) → there ≡ Some bytes → length bytes ≤ longest → IsErrAnd r (λ y. y ≡ of_reader fault) → (fault ≢ rf.Memory → IsNoDocument bytes) → fault ≢ rf.TooLong → IfErr r (IsTroubleOf name there)
+pub reader_trouble : {T : Type 0} (r : Result T Trouble) (fault : read.ReadFault) (name bytes : List ℕ) (there : Option (List ℕ)) → there ≡ Some bytes → length bytes ≤ most_bytes → IsErrAnd r (λ y. y ≡ of_reader fault) → (fault ≢ rf.Memory → IsNoDocument bytes) → fault ≢ rf.TooLong → IfErr r (IsTroubleOf name there)
 reader_trouble (Ok x) fault name bytes there e w f n s = tt
 reader_trouble (Err y) (rf.Refused item at reason) name bytes there e w f n s = subst (IsTroubleOf name there) (sym f) (unreadable bytes e w (n (λ g. cc)) (has_defect item at reason refl))
 reader_trouble (Err y) rf.TooLong name bytes there e w f n s = absurd (s refl)
@@ -92,7 +93,7 @@ module _ (request : Request) (name : List ℕ) (s : Shelves) (among : IsAmong (n
 
 -- What is answered where the one document is read.
 module _ (name : List ℕ) (s : Shelves) (prefixes : List Prefix) (o : Ontology) (says : IsTrue s.tells → SaysOnly (s.old name) prefixes o) (ended : IsTrue s.tells → s.new name ≡ Some []) where
-  pub answered_translation : (outcome : Outcome) → outcome ≡ settled name o.head.imports (translation Fss prefixes o) → (IsSuccess outcome.status → Reads outcome.text (declared_prefixes prefixes) o) → IsAnswered (translates Fss name) s outcome
+  pub answered_translation : (outcome : Outcome) → outcome ≡ settled name o.head.imports (translation Fss prefixes o) → (IsSuccess outcome.status → ReadsFunctional outcome.text (declared_prefixes prefixes) o) → IsAnswered (translates Fss name) s outcome
   answered_translation outcome e back = record {
     judged = λ tells h. subst (λ (x : Outcome). IsTheOutcome (BecomesOf (translation Fss) name (s.old name)) x) (sym e) (settled_the (translation Fss) name (s.old name) prefixes o translation_of_form (says tells));
     back = λ tells h. record { prefixes = prefixes; ontology = o; says = (says tells).says; back = back h };

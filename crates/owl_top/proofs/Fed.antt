@@ -4,7 +4,7 @@ use Rattle.std.specs.Result.{IsErrAnd}
 use Rattle.std.proofs.lemmas.List.{append_assoc, append-nil}
 use Rattle.owl_atom.specs.declared.prefixes.Prefix.{Prefix}
 use Rattle.owl_tree.specs.Ontologies.{IsSameOntology, Ontology}
-use Rattle.owl_doc.specs.Functional.{Reads}
+use Rattle.owl_doc.specs.Functional.{ReadsFunctional}
 use Rattle.fss_read.specs.Reading.{Awaits, EndsInNone, Leads, Reading, Refuses, Starts}
 use Rattle.owl_top.specs.Outcome.{IsNoDocument}
 use Rattle.owl_top.specs.Answers.{IsLed, IsOnlyReading}
@@ -30,12 +30,12 @@ led_to_refusal first last bytes rest piece behind e f r = λ more prefixes o a.
     r (behind ++ more) prefixes o (subst (λ (x : List ℕ). Awaits last x prefixes o) (ap (λ (x : List ℕ). x ++ more) e ∙ append_assoc piece behind more) (f.all more prefixes o a))
 
 module _ (first : Reading) (bytes : List ℕ) (starts : Starts first) where
-  awaited : (prefixes : List Prefix) (o : Ontology) → Reads bytes prefixes o → Awaits first (bytes ++ []) prefixes o
-  awaited prefixes o r = starts.all (bytes ++ []) prefixes o (subst (λ (x : List ℕ). Reads x prefixes o) (sym (append-nil bytes)) r)
+  awaited : (prefixes : List Prefix) (o : Ontology) → ReadsFunctional bytes prefixes o → Awaits first (bytes ++ []) prefixes o
+  awaited prefixes o r = starts.all (bytes ++ []) prefixes o (subst (λ (x : List ℕ). ReadsFunctional x prefixes o) (sym (append-nil bytes)) r)
 
   pub only_reading : (last : Reading) → Leads first bytes last → (prefixes : List Prefix) (o : Ontology) → Awaits last [] prefixes o → ((others : List Prefix) (p : Ontology) → Awaits last [] others p → (others ≡ prefixes) × IsSameOntology p o) → IsOnlyReading bytes prefixes o
   only_reading last l prefixes o a f = record {
-    reads = subst (λ (x : List ℕ). Reads x prefixes o) (append-nil bytes) (starts.only (bytes ++ []) prefixes o (l.only [] prefixes o a));
+    reads = subst (λ (x : List ℕ). ReadsFunctional x prefixes o) (append-nil bytes) (starts.only (bytes ++ []) prefixes o (l.only [] prefixes o a));
     only = λ others p r. f others p (l.all [] others p (awaited others p r));
   }
 

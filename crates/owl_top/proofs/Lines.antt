@@ -1,6 +1,6 @@
 -- The lines of the note.
 use Rattle.std.proofs.Common.{◌≡◌, ℕ, Bool, true, false, List, [], ◌∷◌, length, nat_le, if◌then◌else◌, refl, ap, ◌∙◌}
-use Rattle.owl_doc.specs.Functional.{longest}
+use Rattle.owl_text.specs.Limit.{most_bytes}
 use Rattle.owl_top.specs.Commands.{IsAmong, Request, translates, shows, compares, names_of}
 use Rattle.owl_top.specs.Outcome.{IsRefusal, IsRefusalLine, LineFor, Outcome, SuccessLine, has_defect, of_imports, of_length, of_no_memory, of_output, of_read_fault, of_reader, of_refusal, of_success, of_write_fault, too_deep, too_heavy, too_large, too_long_output}
 use Rattle.owl_top.specs.Answers.{IsProper, settled, trouble_outcome}
@@ -24,7 +24,7 @@ module _ (request : Request) (IsCause : List ℕ → Type 0) (name : List ℕ) (
   limited_line wanted false s = of_refusal name among (of_output refl refl)
 
   pub settled_line : (wanted : Outcome) (imports : List (List ℕ)) → SuccessLine request wanted.status wanted.line → LineFor request IsCause (settled name imports wanted).status (settled name imports wanted).line
-  settled_line wanted [] s = limited_line wanted (nat_le (length wanted.text) longest) s
+  settled_line wanted [] s = limited_line wanted (nat_le (length wanted.text) most_bytes) s
   settled_line wanted (iri ∷ iris) s = of_refusal name among (of_imports refl refl)
 
   pub trouble_line : (trouble : Trouble) → (trouble ≡ t.ReadFailed → IsCause name) → LineFor request IsCause (trouble_outcome name trouble).status (trouble_outcome name trouble).line
@@ -67,5 +67,5 @@ limited_proper wanted true h = h
 limited_proper wanted false h = record { found = tt; no_text = refl }
 
 pub settled_proper : (name : List ℕ) (wanted : Outcome) (imports : List (List ℕ)) → IsProper wanted → IsProper (settled name imports wanted)
-settled_proper name wanted [] h = limited_proper wanted (nat_le (length wanted.text) longest) h
+settled_proper name wanted [] h = limited_proper wanted (nat_le (length wanted.text) most_bytes) h
 settled_proper name wanted (iri ∷ iris) h = record { found = tt; no_text = refl }

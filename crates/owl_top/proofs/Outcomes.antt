@@ -4,6 +4,7 @@ use Rattle.std.specs.List.{sum_by}
 use Rattle.std.specs.Str.{encode_utf8_all}
 use Rattle.std.proofs.lemmas.Bool.{le-leb, leb-true}
 use Rattle.std.proofs.lemmas.Bool.Decides.{nat_tests}
+use Rattle.owl_text.specs.Limit.{most_bytes}
 use Rattle.owl_list.specs.Ascending.{ascending}
 use Rattle.owl_atom.specs.declared.prefixes.Prefix.{Prefix}
 use Rattle.owl_tree.specs.Ontologies.{IsSameOntology, Ontology, canonical_ontology}
@@ -11,11 +12,11 @@ use Rattle.owl_tree.specs.OntologyLaws.{same_ontology_is_equal_form, same_ontolo
 use Rattle.owl_tree.specs.Order.{tree_cmp}
 use Rattle.owl_tree.specs.Trees.{kids_of, weight}
 use Rattle.owl_doc.specs.Counts.{subtrees_of}
-use Rattle.owl_doc.specs.Functional.{Reads, longest}
+use Rattle.owl_doc.specs.Functional.{ReadsFunctional}
 use Rattle.fss_write.specs.Text.{text_of}
 use Rattle.owl_top.specs.Commands.{Asks, HasNoCommand, Request, translates, shows, compares, words_of}
 use Rattle.owl_top.specs.Summary.{count_line, name_lines}
-use Rattle.owl_top.specs.Outcome.{AreOneOutcome, Becomes, BecomesOf, BecomesOfBoth, IsOutcome, IsTheOutcome, IsUnread, Outcome, Says, agree, agreement, differ, difference, done_line, first_not_read, has_imports, no_command, not_built, not_read, of_request, passes_limit, refused, second_not_read, shown, succeeds, too_long, too_long_output, translation, unreadable}
+use Rattle.owl_top.specs.Outcome.{AreOneOutcome, Becomes, BecomesOf, BecomesOfBoth, IsOutcome, IsTheOutcome, IsUnread, Outcome, SaysOntology, agree, agreement, differ, difference, done_line, first_not_read, has_imports, no_command, not_built, not_read, of_request, passes_limit, refused, second_not_read, shown, succeeds, too_long, too_long_output, translation, unreadable}
 use Rattle.owl_top.specs.Answers.{ComparesWith, SaysOnly, limited, settled}
 use Rattle.owl_top.specs.Answers as a
 use Rattle.owl_top.specs.declared.command.Target.TheVariants.{Fss}
@@ -28,13 +29,13 @@ same_length : (there : Option (List ℕ)) (bytes others : List ℕ) → there �
 same_length there bytes others e f = ap (λ (x : List ℕ). length x) (same_bytes there bytes others e f)
 
 -- what says something is read
-pub is_read : (name : List ℕ) (there : Option (List ℕ)) (outcome : Outcome) (prefixes : List Prefix) (o : Ontology) → IsUnread name there outcome → Says there prefixes o → ⊥
+pub is_read : (name : List ℕ) (there : Option (List ℕ)) (outcome : Outcome) (prefixes : List Prefix) (o : Ontology) → IsUnread name there outcome → SaysOntology there prefixes o → ⊥
 is_read name there outcome prefixes o (too_long bytes are long e) s =
     let same = same_length there bytes s.bytes are s.are in
     let few = s.reads.few in
     absurd (omega arith)
 is_read name there outcome prefixes o (unreadable bytes are short none r) s =
-    none prefixes o (subst (λ (x : List ℕ). Reads x prefixes o) (same_bytes there s.bytes bytes s.are are) s.reads)
+    none prefixes o (subst (λ (x : List ℕ). ReadsFunctional x prefixes o) (same_bytes there s.bytes bytes s.are are) s.reads)
 
 unread_alike : (name : List ℕ) (there : Option (List ℕ)) (one other : Outcome) → IsUnread name there one → IsUnread name there other → AreOneOutcome one other
 unread_alike name there one other (too_long bytes are long e) (too_long others be far f) = inl (e ∙ sym f)
@@ -94,24 +95,24 @@ pub without_any : (name : List ℕ) (wanted : Outcome) (imports : List (List ℕ
 without_any name wanted [] e = refl
 without_any name wanted (iri ∷ iris) e = absurd (cc)
 
-pub beyond : (wanted : Outcome) → longest < length wanted.text → limited wanted ≡ too_long_output
-beyond wanted l = ap (λ (b : Bool). if b then wanted else too_long_output) (no_fit (length wanted.text) longest l)
+pub beyond : (wanted : Outcome) → most_bytes < length wanted.text → limited wanted ≡ too_long_output
+beyond wanted l = ap (λ (b : Bool). if b then wanted else too_long_output) (no_fit (length wanted.text) most_bytes l)
   where
     no_fit : (a b : ℕ) → b < a → nat_le a b ≡ false
     no_fit a b l = grind (arith, nat_tests)
 
-pub within : (wanted : Outcome) → length wanted.text ≤ longest → limited wanted ≡ wanted
-within wanted l = ap (λ (b : Bool). if b then wanted else too_long_output) (le-leb (length wanted.text) longest l)
+pub within : (wanted : Outcome) → length wanted.text ≤ most_bytes → limited wanted ≡ wanted
+within wanted l = ap (λ (b : Bool). if b then wanted else too_long_output) (le-leb (length wanted.text) most_bytes l)
 
 -- a document's ontology is its own canonical form
-pub translation_fits : (prefixes : List Prefix) (o : Ontology) (text : List ℕ) → canonical_ontology o ≡ o → text ≡ text_of prefixes o → length (encode_utf8_all text) ≤ longest → limited (translation Fss prefixes o) ≡ translation Fss prefixes o
+pub translation_fits : (prefixes : List Prefix) (o : Ontology) (text : List ℕ) → canonical_ontology o ≡ o → text ≡ text_of prefixes o → length (encode_utf8_all text) ≤ most_bytes → limited (translation Fss prefixes o) ≡ translation Fss prefixes o
 translation_fits prefixes o text e f l =
     let same : text ≡ text_of prefixes (canonical_ontology o) = f ∙ ap (text_of prefixes) (sym e) in
-    within (translation Fss prefixes o) (subst (λ (x : List ℕ). length (encode_utf8_all x) ≤ longest) same l)
+    within (translation Fss prefixes o) (subst (λ (x : List ℕ). length (encode_utf8_all x) ≤ most_bytes) same l)
 
-pub translation_passes : (prefixes : List Prefix) (o : Ontology) → canonical_ontology o ≡ o → longest < length (encode_utf8_all (text_of prefixes o)) → limited (translation Fss prefixes o) ≡ too_long_output
+pub translation_passes : (prefixes : List Prefix) (o : Ontology) → canonical_ontology o ≡ o → most_bytes < length (encode_utf8_all (text_of prefixes o)) → limited (translation Fss prefixes o) ≡ too_long_output
 translation_passes prefixes o e l =
-    beyond (translation Fss prefixes o) (subst (λ (x : Ontology). longest < length (encode_utf8_all (text_of prefixes x))) (sym e) l)
+    beyond (translation Fss prefixes o) (subst (λ (x : Ontology). most_bytes < length (encode_utf8_all (text_of prefixes x))) (sym e) l)
 
 some_are : (iri : List ℕ) (iris : List (List ℕ)) → iri ∷ iris ≡ [] → ⊥
 some_are iri iris e = cc
@@ -128,12 +129,12 @@ module _ (wanted : List Prefix → Ontology → Outcome) (name : List ℕ) (ther
   unread_the outcome u = record { is = not_read u; only = λ other b. unread_only outcome other u b }
 
   module _ (prefixes : List Prefix) (o : Ontology) where
-    by_limit : (says : Says there prefixes o) (none : o.head.imports ≡ []) (fits : Bool) → nat_le (length (wanted prefixes o).text) longest ≡ fits → BecomesOf wanted name there (if fits then wanted prefixes o else too_long_output)
-    by_limit says none true e = succeeds prefixes o says none (fits_in (length (wanted prefixes o).text) longest e) refl
-    by_limit says none false e = passes_limit prefixes o says none (passes (length (wanted prefixes o).text) longest e) refl
+    by_limit : (says : SaysOntology there prefixes o) (none : o.head.imports ≡ []) (fits : Bool) → nat_le (length (wanted prefixes o).text) most_bytes ≡ fits → BecomesOf wanted name there (if fits then wanted prefixes o else too_long_output)
+    by_limit says none true e = succeeds prefixes o says none (fits_in (length (wanted prefixes o).text) most_bytes e) refl
+    by_limit says none false e = passes_limit prefixes o says none (passes (length (wanted prefixes o).text) most_bytes e) refl
 
-    by_imports : (says : Says there prefixes o) (imports : List (List ℕ)) → o.head.imports ≡ imports → BecomesOf wanted name there (settled name imports (wanted prefixes o))
-    by_imports says [] e = by_limit says e (nat_le (length (wanted prefixes o).text) longest) refl
+    by_imports : (says : SaysOntology there prefixes o) (imports : List (List ℕ)) → o.head.imports ≡ imports → BecomesOf wanted name there (settled name imports (wanted prefixes o))
+    by_imports says [] e = by_limit says e (nat_le (length (wanted prefixes o).text) most_bytes) refl
     by_imports says (iri ∷ iris) e = has_imports prefixes o says (λ f. let g = sym e ∙ f in absurd (some_are iri iris g)) refl
 
     settled_only : IsOfForm wanted → SaysOnly there prefixes o → (other : Outcome) → BecomesOf wanted name there other → settled name o.head.imports (wanted prefixes o) ≡ other
@@ -144,11 +145,11 @@ module _ (wanted : List Prefix → Ontology → Outcome) (name : List ℕ) (ther
     settled_only form says other (passes_limit others p s n l e) =
         let only = says.only others p s in
         let moved = form prefixes others o p only.0 only.1 in
-        without_any name (wanted prefixes o) o.head.imports (no_imports p o (same_ontology_sym p o only.1) n) ∙ beyond (wanted prefixes o) (subst (λ (w : Outcome). longest < length w.text) moved l) ∙ sym e
+        without_any name (wanted prefixes o) o.head.imports (no_imports p o (same_ontology_sym p o only.1) n) ∙ beyond (wanted prefixes o) (subst (λ (w : Outcome). most_bytes < length w.text) moved l) ∙ sym e
     settled_only form says other (succeeds others p s n l e) =
         let only = says.only others p s in
         let moved = form prefixes others o p only.0 only.1 in
-        without_any name (wanted prefixes o) o.head.imports (no_imports p o (same_ontology_sym p o only.1) n) ∙ within (wanted prefixes o) (subst (λ (w : Outcome). length w.text ≤ longest) moved l) ∙ sym moved ∙ sym e
+        without_any name (wanted prefixes o) o.head.imports (no_imports p o (same_ontology_sym p o only.1) n) ∙ within (wanted prefixes o) (subst (λ (w : Outcome). length w.text ≤ most_bytes) moved l) ∙ sym moved ∙ sym e
 
     -- a document that is read
     pub settled_the : IsOfForm wanted → SaysOnly there prefixes o → IsTheOutcome (BecomesOf wanted name there) (settled name o.head.imports (wanted prefixes o))
@@ -181,11 +182,11 @@ module _ (first second : List ℕ) (there beside : Option (List ℕ)) where
     second_only own other u (differ q r s others p t k e) = absurd (is_read second beside own others p u t)
 
     module _ (others : List Prefix) (p : Ontology) (said : SaysOnly beside others p) where
-      same_both : (q : List Prefix) (r : Ontology) (t : List Prefix) (v : Ontology) → Says there q r → Says beside t v → IsSameOntology o p → IsSameOntology r v
+      same_both : (q : List Prefix) (r : Ontology) (t : List Prefix) (v : Ontology) → SaysOntology there q r → SaysOntology beside t v → IsSameOntology o p → IsSameOntology r v
       same_both q r t v s w k =
           same_ontology_trans r o v (says.only q r s).1 (same_ontology_trans o p v k (same_ontology_sym v p (said.only t v w).1))
 
-      same_back : (q : List Prefix) (r : Ontology) (t : List Prefix) (v : Ontology) → Says there q r → Says beside t v → IsSameOntology r v → IsSameOntology o p
+      same_back : (q : List Prefix) (r : Ontology) (t : List Prefix) (v : Ontology) → SaysOntology there q r → SaysOntology beside t v → IsSameOntology r v → IsSameOntology o p
       same_back q r t v s w k =
           same_ontology_trans o r p (same_ontology_sym r o (says.only q r s).1) (same_ontology_trans r v p k (said.only t v w).1)
 

@@ -2,17 +2,18 @@
 use Rattle.std.specs.Prelude.{◌≡◌, ◌++◌, ◌⊎◌, ℕ, Bool, List, [], ◌∷◌, Option, Some, IsTrue, length, nat_le, if◌then◌else◌, string_bytes, codes}
 use Rattle.std.specs.List.{AllByRecursion}
 use Rattle.std.specs.Str.{encode_utf8_all}
+use Rattle.owl_text.specs.Limit.{most_bytes}
 use Rattle.owl_port.specs.Outside.{Rose}
 use Rattle.owl_port.specs.declared.whole.ReadFault as port
 use Rattle.owl_port.specs.declared.whole.ReadFault.TheVariants as pf
 use Rattle.owl_atom.specs.declared.prefixes.Prefix.{Prefix}
 use Rattle.owl_tree.specs.Ontologies.{IsSameOntology, Ontology}
-use Rattle.owl_doc.specs.Functional.{Reads, longest}
+use Rattle.owl_doc.specs.Functional.{ReadsFunctional}
 use Rattle.fss_read.specs.Reading.{Awaits, Reading}
 use Rattle.fss_read.specs.declared.fault.ReadFault as read
 use Rattle.fss_read.specs.declared.fault.ReadFault.TheVariants as rf
 use Rattle.owl_top.specs.Commands.{IsAmong, Request, compares, names_of}
-use Rattle.owl_top.specs.Outcome.{Becomes, IsFaulty, IsFirstFaulty, IsFrontTaken, IsReadBack, IsSettled, IsSuccess, IsTheOutcome, IsUnread, LineFor, Outcome, Says, agreement, defect, difference, not_built, refused, too_long_document, too_long_output}
+use Rattle.owl_top.specs.Outcome.{Becomes, IsFaulty, IsFirstFaulty, IsFrontTaken, IsReadBack, IsSettled, IsSuccess, IsTheOutcome, IsUnread, LineFor, Outcome, SaysOntology, agreement, defect, difference, not_built, refused, too_long_document, too_long_output}
 use Rattle.owl_top.specs.declared.trouble.Trouble.{Trouble}
 use Rattle.owl_top.specs.declared.trouble.Trouble.TheVariants as t
 use Rattle.owl_top.specs.declared.answer.Answer.{Answer}
@@ -53,13 +54,13 @@ pub record IsLed (old new : Reading) (bytes rest : List ℕ) : Type 0 where
 
 -- The bytes are this document, and no other.
 pub record IsOnlyReading (bytes : List ℕ) (prefixes : List Prefix) (o : Ontology) : Type 0 where
-  pub reads : Reads bytes prefixes o
-  pub only : (others : List Prefix) (p : Ontology) → Reads bytes others p → (others ≡ prefixes) × IsSameOntology p o
+  pub reads : ReadsFunctional bytes prefixes o
+  pub only : (others : List Prefix) (p : Ontology) → ReadsFunctional bytes others p → (others ≡ prefixes) × IsSameOntology p o
 
 -- What is there says this, and nothing else.
 pub record SaysOnly (there : Option (List ℕ)) (prefixes : List Prefix) (o : Ontology) : Type 0 where
-  pub says : Says there prefixes o
-  pub only : (others : List Prefix) (p : Ontology) → Says there others p → (others ≡ prefixes) × IsSameOntology p o
+  pub says : SaysOntology there prefixes o
+  pub only : (others : List Prefix) (p : Ontology) → SaysOntology there others p → (others ≡ prefixes) × IsSameOntology p o
 
 -- a trouble that is neither a device's nor want of memory is the document's
 abbrev pub IsTroubleOf : List ℕ → Option (List ℕ) → Trouble → Type 0
@@ -73,7 +74,7 @@ IsTroubleOf name there t.Memory = Unit {0}
 
 -- a text that is too long is not written
 abbrev pub limited : Outcome → Outcome
-limited wanted = if nat_le (length wanted.text) longest then wanted else too_long_output
+limited wanted = if nat_le (length wanted.text) most_bytes then wanted else too_long_output
 
 -- what is answered for a document that reads: nothing is built for one with imports
 abbrev pub settled : List ℕ → List (List ℕ) → Outcome → Outcome

@@ -1,12 +1,13 @@
 -- What a run answers, for its words and the contents of its documents.
-use Rattle.std.specs.Prelude.{◌≡◌, ◌≢◌, ◌<◌, ◌≤◌, ◌^◌, ◌+◌, ◌⊎◌, ℕ, Option, Some, List, [], ◌∷◌, ◌++◌, length, take, codes}
+use Rattle.std.specs.Prelude.{◌≡◌, ◌≢◌, ◌<◌, ◌≤◌, ◌+◌, ◌⊎◌, ℕ, Option, Some, List, [], ◌∷◌, ◌++◌, length, take, codes}
 use Rattle.std.specs.Fmt.{decimal}
 use Rattle.std.specs.Str.{encode_utf8_all}
+use Rattle.owl_text.specs.Limit.{most_bytes}
 use Rattle.owl_port.specs.Outside.{before}
 use Rattle.owl_atom.specs.declared.prefixes.Prefix.{Prefix}
 use Rattle.owl_tree.specs.Ontologies.{IsSameOntology, Ontology, canonical_ontology}
 use Rattle.owl_doc.specs.Counts.{axiom_count}
-use Rattle.owl_doc.specs.Functional.{Reads, longest}
+use Rattle.owl_doc.specs.Functional.{ReadsFunctional}
 use Rattle.fss_read.specs.declared.fault.Reason.{Reason}
 use Rattle.fss_read.specs.declared.fault.Reason.TheVariants.{BadUtf8, BadToken, NotHere, UnknownPrefix, PrefixTwice, PrefixFixed, BadLiteral, EmptyKey}
 use Rattle.fss_write.specs.Text.{declared_prefixes, text_of}
@@ -78,34 +79,34 @@ pub data IsRefusal (name : List ℕ) (outcome : Outcome) : Type 0 where
   too_large : outcome ≡ refused Limit (codes "limit: Cardinality: " ++ (name ++ codes "\n")) → IsRefusal name outcome
 
 -- The document that is there says this ontology, and has these prefixes.
-pub record Says (there : Option (List ℕ)) (prefixes : List Prefix) (o : Ontology) : Type 0 where
+pub record SaysOntology (there : Option (List ℕ)) (prefixes : List Prefix) (o : Ontology) : Type 0 where
   pub bytes : List ℕ
   pub are : there ≡ Some bytes
-  pub reads : Reads bytes prefixes o
+  pub reads : ReadsFunctional bytes prefixes o
 
 -- The bytes are no document within the limits.
 abbrev pub IsNoDocument : List ℕ → Type 0
-IsNoDocument bytes = (prefixes : List Prefix) (o : Ontology) → Reads bytes prefixes o → ⊥
+IsNoDocument bytes = (prefixes : List Prefix) (o : Ontology) → ReadsFunctional bytes prefixes o → ⊥
 
 -- What is there is not read: it has too many bytes, or is no document.
 pub data IsUnread (name : List ℕ) (there : Option (List ℕ)) (outcome : Outcome) : Type 0 where
-  too_long : (bytes : List ℕ) → there ≡ Some bytes → longest < length bytes → outcome ≡ too_long_document name → IsUnread name there outcome
-  unreadable : (bytes : List ℕ) → there ≡ Some bytes → length bytes ≤ longest → IsNoDocument bytes → IsRefusal name outcome → IsUnread name there outcome
+  too_long : (bytes : List ℕ) → there ≡ Some bytes → most_bytes < length bytes → outcome ≡ too_long_document name → IsUnread name there outcome
+  unreadable : (bytes : List ℕ) → there ≡ Some bytes → length bytes ≤ most_bytes → IsNoDocument bytes → IsRefusal name outcome → IsUnread name there outcome
 
 -- What becomes of one document, where this is wanted of what it says: the first of its conditions that fails, or success.
 pub data BecomesOf (wanted : List Prefix → Ontology → Outcome) (name : List ℕ) (there : Option (List ℕ)) (outcome : Outcome) : Type 0 where
   not_read : IsUnread name there outcome → BecomesOf wanted name there outcome
-  has_imports : (prefixes : List Prefix) (o : Ontology) → Says there prefixes o → o.head.imports ≢ [] → outcome ≡ not_built name → BecomesOf wanted name there outcome
-  passes_limit : (prefixes : List Prefix) (o : Ontology) → Says there prefixes o → o.head.imports ≡ [] → longest < length (wanted prefixes o).text → outcome ≡ too_long_output → BecomesOf wanted name there outcome
-  succeeds : (prefixes : List Prefix) (o : Ontology) → Says there prefixes o → o.head.imports ≡ [] → length (wanted prefixes o).text ≤ longest → outcome ≡ wanted prefixes o → BecomesOf wanted name there outcome
+  has_imports : (prefixes : List Prefix) (o : Ontology) → SaysOntology there prefixes o → o.head.imports ≢ [] → outcome ≡ not_built name → BecomesOf wanted name there outcome
+  passes_limit : (prefixes : List Prefix) (o : Ontology) → SaysOntology there prefixes o → o.head.imports ≡ [] → most_bytes < length (wanted prefixes o).text → outcome ≡ too_long_output → BecomesOf wanted name there outcome
+  succeeds : (prefixes : List Prefix) (o : Ontology) → SaysOntology there prefixes o → o.head.imports ≡ [] → length (wanted prefixes o).text ≤ most_bytes → outcome ≡ wanted prefixes o → BecomesOf wanted name there outcome
 
 -- What becomes of two documents that are compared, the first of them looked at before the second. Imports are not asked
 -- for.
 pub data BecomesOfBoth (first second : List ℕ) (there beside : Option (List ℕ)) (outcome : Outcome) : Type 0 where
   first_not_read : IsUnread first there outcome → BecomesOfBoth first second there beside outcome
-  second_not_read : (prefixes : List Prefix) (o : Ontology) → Says there prefixes o → IsUnread second beside outcome → BecomesOfBoth first second there beside outcome
-  agree : (prefixes : List Prefix) (o : Ontology) → Says there prefixes o → (others : List Prefix) (p : Ontology) → Says beside others p → IsSameOntology o p → outcome ≡ agreement → BecomesOfBoth first second there beside outcome
-  differ : (prefixes : List Prefix) (o : Ontology) → Says there prefixes o → (others : List Prefix) (p : Ontology) → Says beside others p → (IsSameOntology o p → ⊥) → outcome ≡ difference → BecomesOfBoth first second there beside outcome
+  second_not_read : (prefixes : List Prefix) (o : Ontology) → SaysOntology there prefixes o → IsUnread second beside outcome → BecomesOfBoth first second there beside outcome
+  agree : (prefixes : List Prefix) (o : Ontology) → SaysOntology there prefixes o → (others : List Prefix) (p : Ontology) → SaysOntology beside others p → IsSameOntology o p → outcome ≡ agreement → BecomesOfBoth first second there beside outcome
+  differ : (prefixes : List Prefix) (o : Ontology) → SaysOntology there prefixes o → (others : List Prefix) (p : Ontology) → SaysOntology beside others p → (IsSameOntology o p → ⊥) → outcome ≡ difference → BecomesOfBoth first second there beside outcome
 
 -- What becomes of what is asked for, with these contents.
 abbrev pub Becomes : (List ℕ → Option (List ℕ)) → Request → Outcome → Type 0
@@ -129,7 +130,7 @@ pub record IsTheOutcome (IsOne : Outcome → Type 0) (outcome : Outcome) : Type 
 
 -- at most so many bytes of a document are taken, from its front
 abbrev pub IsFrontTaken : Option (List ℕ) → Option (List ℕ) → Type 0
-IsFrontTaken old new = (taken : List ℕ) × (length taken ≤ 2 ^ 27 + 1) × (old ≡ before taken new)
+IsFrontTaken old new = (taken : List ℕ) × (length taken ≤ most_bytes + 1) × (old ≡ before taken new)
 
 -- neither a device failed nor memory ran out
 abbrev pub IsSettled : Status → Type 0
@@ -202,7 +203,7 @@ IsFaulty Rises request name = IsAmong (names_of request) name × Rises name
 
 -- what is there says something
 abbrev pub IsRead : Option (List ℕ) → Type 0
-IsRead there = (prefixes : List Prefix) × (o : Ontology) × Says there prefixes o
+IsRead there = (prefixes : List Prefix) × (o : Ontology) × SaysOntology there prefixes o
 
 -- the name is one of these, and each document before it is read
 abbrev pub IsReached : (List ℕ → Option (List ℕ)) → List (List ℕ) → List ℕ → Type 0
@@ -217,8 +218,8 @@ IsFirstFaulty contents Rises request name = IsReached contents (names_of request
 pub record ReadsBack (there : Option (List ℕ)) (text : List ℕ) : Type 0 where
   pub prefixes : List Prefix
   pub ontology : Ontology
-  pub says : Says there prefixes ontology
-  pub back : Reads text (declared_prefixes prefixes) ontology
+  pub says : SaysOntology there prefixes ontology
+  pub back : ReadsFunctional text (declared_prefixes prefixes) ontology
 
 -- where a translation is asked for
 abbrev pub IsReadBack : (List ℕ → Option (List ℕ)) → Request → List ℕ → Type 0

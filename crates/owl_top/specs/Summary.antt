@@ -4,14 +4,7 @@ use Rattle.std.specs.Fmt.{decimal}
 use Rattle.std.specs.Str.{encode_utf8_all}
 use Rattle.owl_tree.specs.Ontologies.{Ontology, OntologyName, canonical_ontology, ontology_weight}
 use Rattle.owl_doc.specs.Counts.{axiom_count, distinct_count}
-
-abbrev pub iri_in : Option OntologyName → Option (List ℕ)
-iri_in None = None
-iri_in (Some name) = Some name.iri
-
-abbrev pub version_in : Option OntologyName → Option (List ℕ)
-version_in None = None
-version_in (Some name) = name.version
+use Rattle.owl_doc.specs.Heads.{iri_in, version_in}
 
 -- in full, if it is there
 abbrev pub iri_line : List ℕ → Option (List ℕ) → List ℕ

@@ -3,7 +3,7 @@
 ghost use Rattle.std.specs.Prelude.{◌≡◌, ◌≢◌, ◌↔◌, [], IsTrue, IfOk};
 ghost use Rattle.std.specs.Str.{encode_utf8_all};
 ghost use Rattle.owl_doc.specs.Documents.{ontology_of};
-ghost use Rattle.owl_doc.specs.Functional.{Reads};
+ghost use Rattle.owl_doc.specs.Functional.{ReadsFunctional};
 ghost use Rattle.fss_write.specs.Text.{declared_prefixes, text_of};
 ghost use Rattle.owl_top.specs.Outcome.{IsSuccess, not_built, shown, translation};
 ghost use Rattle.owl_top.specs.Answers.{IsComparison, limited, outcome_of, settled};
@@ -12,10 +12,9 @@ ghost use Rattle.owl_top.specs.declared.command.Target.TheVariants.{Fss};
 use crate::answer::{Answer, refused, said, told, too_long_output};
 use crate::status::Status;
 use crate::summary::summary;
-use fss_read::MOST_BYTES;
 use fss_write::{WriteFault, write};
 use owl_doc::Doc;
-use owl_text::{NoMemory, Text};
+use owl_text::{MOST_BYTES, NoMemory, Text};
 use std::alloc::Global;
 
 /// The answer for a document with imports.
@@ -52,7 +51,7 @@ fn translated(alloc: Global, doc: &Doc, text: Text) -> Result<Answer, NoMemory>
 /// The translation of a document without imports.
 fn written(alloc: Global, doc: &Doc) -> Result<Answer, NoMemory>
     ensures outcome { IfOk result (λ answer. outcome_of answer ≡ limited (translation Fss doc.now.prefixes (ontology_of doc.now))) }
-    ensures back { IfOk result (λ answer. IsSuccess answer.status → Reads (encode_utf8_all answer.text) (declared_prefixes doc.now.prefixes) (ontology_of doc.now)) }
+    ensures back { IfOk result (λ answer. IsSuccess answer.status → ReadsFunctional (encode_utf8_all answer.text) (declared_prefixes doc.now.prefixes) (ontology_of doc.now)) }
 {
     // What is known of every document.
     doc.notes();
@@ -67,7 +66,7 @@ fn written(alloc: Global, doc: &Doc) -> Result<Answer, NoMemory>
 pub fn translation(alloc: Global, name: &str, doc: &Doc) -> Result<Answer, NoMemory>
     ensures outcome { IfOk result (λ answer. outcome_of answer
         ≡ settled name.now doc.now.head.imports (translation Fss doc.now.prefixes (ontology_of doc.now))) }
-    ensures back { IfOk result (λ answer. IsSuccess answer.status → Reads (encode_utf8_all answer.text) (declared_prefixes doc.now.prefixes) (ontology_of doc.now)) }
+    ensures back { IfOk result (λ answer. IsSuccess answer.status → ReadsFunctional (encode_utf8_all answer.text) (declared_prefixes doc.now.prefixes) (ontology_of doc.now)) }
 {
     if has_imports(doc) {
         not_built(alloc, name)

@@ -1,6 +1,7 @@
 //! Reads the bytes of one document.
 
-ghost use Rattle.std.specs.Prelude.{◌≡◌, ◌≢◌, ◌+◌, ◌^◌, ◌≤◌, length, None, IfOk, IfErr, OnOk};
+ghost use Rattle.std.specs.Prelude.{◌≡◌, ◌≢◌, ◌+◌, ◌≤◌, length, None, IfOk, IfErr, OnOk};
+ghost use Rattle.owl_text.specs.Limit.{most_bytes};
 ghost use Rattle.owl_doc.specs.Documents.{ontology_of};
 ghost use Rattle.fss_read.specs.Reading.{Leads, Refuses, Starts};
 ghost use Rattle.fss_read.specs.declared.fault.ReadFault.TheVariants.{Memory};
@@ -30,7 +31,7 @@ fn start(alloc: Global) -> Result<Reader, ReadFault>
 /// Feeds a reader with all the bytes, piece by piece.
 fn feed_all(reader: &mut Reader, bytes: &[u8]) -> Result<(), ReadFault>
     requires open_yet { reader.old.refused ≡ None }
-    requires within { reader.old.fed + length bytes.now ≤ 2 ^ 27 }
+    requires within { reader.old.fed + length bytes.now ≤ most_bytes }
     ensures leads { OnOk result (Leads reader.old bytes.now reader.new) }
     ensures open_yet { OnOk result (reader.new.refused ≡ None) }
     ensures refusal { IfErr result (λ fault. fault ≢ ReadFault.Memory → Refuses reader.old bytes.now) }
@@ -47,7 +48,7 @@ fn feed_all(reader: &mut Reader, bytes: &[u8]) -> Result<(), ReadFault>
 
 /// The document that the bytes are. A refusal other than `Memory` comes exactly where they are none.
 pub fn read_document(alloc: Global, bytes: &[u8]) -> Result<Doc, ReadFault>
-    requires { length bytes.now ≤ 2 ^ 27 }
+    requires { length bytes.now ≤ most_bytes }
     ensures ok { IfOk result (λ doc. IsOnlyReading bytes.now doc.prefixes (ontology_of doc)) }
     ensures none { IfErr result (λ fault. fault ≢ ReadFault.Memory → IsNoDocument bytes.now) }
     ensures short { IfErr result (λ fault. fault ≢ ReadFault.TooLong) }

@@ -1,10 +1,10 @@
 -- The keywords of tags, and what tells tags apart.
-use Rattle.std.proofs.Common.{◌≡◌, ℕ, zero, suc, true, List, [], ◌∷◌, Option, Some, refl, sym, ap, ◌∙◌, arith}
+use Rattle.std.proofs.Common.{◌≡◌, ℕ, true, List, Option, Some, refl, sym, ap, ◌∙◌}
 use Rattle.std.specs.List.{find, list_all}
-use Rattle.std.specs.Str.{IsAscii, bytes_eq, chars}
+use Rattle.std.specs.Str.{IsUtf8, bytes_eq, chars, encode_utf8_all}
 use Rattle.std.specs.Prelude.{nat_le, ◌&&◌}
-use Rattle.std.proofs.lemmas.Bool.{and_parts, ltb-true}
-use Rattle.std.proofs.lemmas.Str.{chars-IsAscii}
+use Rattle.std.proofs.lemmas.Str.{encodes-chars}
+use Rattle.owl_text.specs.AsciiLaws.{ascii_bytes, ascii_chars}
 use Rattle.owl_text.specs.Iri.{is_ascii}
 use Rattle.owl_tree.specs.declared.tag.Tag.{Tag}
 use Rattle.owl_tree.specs.declared.tag.Tag.TheVariants as tag
@@ -15,22 +15,23 @@ unfolding keyword_of
 is_ascii_keyword tag.Class = refl
 is_ascii_keyword _ = refl
 
-ascii_text : (word : List ℕ) → list_all is_ascii word ≡ true → IsAscii word
-ascii_text [] h i = omega arith
-ascii_text (c ∷ cs) h zero = ltb-true c 128 (and_parts (is_ascii c) (list_all is_ascii cs) h).0
-ascii_text (c ∷ cs) h (suc i) = ascii_text cs (and_parts (is_ascii c) (list_all is_ascii cs) h).1 i
-
 -- its characters are its bytes
 pub own_characters : (t : Tag) (text : List ℕ) → text ≡ keyword_of t → chars text ≡ keyword_of t
-own_characters t text e = ap chars e ∙ chars-IsAscii (keyword_of t) (ascii_text (keyword_of t) (is_ascii_keyword t))
+own_characters t text e = ap chars e ∙ ascii_chars (keyword_of t) (is_ascii_keyword t)
 
-tag_of_keyword : List ℕ → List Tag → Option Tag
+abbrev pub tag_of_keyword : List ℕ → List Tag → Option Tag
 tag_of_keyword word tags = find (λ t. bytes_eq (keyword_of t) word) tags
 
 is_found : (t : Tag) → tag_of_keyword (keyword_of t) all_tags ≡ Some t
-unfolding all_tags keyword_of tag_of_keyword
+unfolding all_tags keyword_of
 is_found tag.Class = refl
 is_found _ = refl
+
+-- a text that is the keyword of a tag finds it
+pub is_named : (t : Tag) (word : List ℕ) → IsUtf8 word → keyword_of t ≡ chars word → tag_of_keyword word all_tags ≡ Some t
+is_named t word u e =
+    let same : word ≡ keyword_of t = sym (encodes-chars word u) ∙ ap encode_utf8_all (sym e) ∙ ascii_bytes (keyword_of t) (is_ascii_keyword t) in
+    ap (λ w. tag_of_keyword w all_tags) same ∙ is_found t
 
 -- no two tags have one keyword
 pub same_keyword : (t u : Tag) → keyword_of t ≡ keyword_of u → t ≡ u

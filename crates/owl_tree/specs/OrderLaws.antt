@@ -13,10 +13,10 @@ use Rattle.std.specs.List.{slice_get}
 use Rattle.std.proofs.lemmas.Cmp.{nat_cmp_total, on_total, then_total, tied_itself}
 use Rattle.std.proofs.lemmas.Str.{encodes_same}
 use Rattle.owl_text.specs.Order.{text_cmp}
-use Rattle.owl_text.specs.OrderLaws.{equal_ties}
+use Rattle.owl_text.specs.OrderLaws.{equal_ties, texts_total}
 use Rattle.owl_atom.specs.Literals.{LiteralParts, literal_cmp}
 use Rattle.owl_atom.specs.LiteralLaws as literals
-use Rattle.owl_atom.specs.LiteralLaws.{texts_total, total_order}
+use Rattle.owl_atom.specs.LiteralLaws.{total_order}
 use Rattle.owl_tree.specs.contracts.atom.Atom as atom
 use Rattle.owl_tree.specs.contracts.atom.AtomPartialEq.TheImpl as derived
 use Rattle.owl_tree.specs.declared.atom.Atom.{Atom}

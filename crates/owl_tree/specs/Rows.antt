@@ -111,6 +111,14 @@ is_from_to first last t = nat_le (number_of first) (number_of t) && nat_le (numb
 abbrev pub is_tag : Tag → Tag → Bool
 is_tag u t = nat_eq (number_of u) (number_of t)
 
+-- annotations of an axiom, and a facet with its value: their parts stand without a keyword and without brackets
+abbrev pub is_bare : Tag → Bool
+is_bare t = is_tag tag.Notes t || is_tag tag.FacetPair t
+
+-- the two groups of a HasKey stand in brackets without a keyword
+abbrev pub is_group : Tag → Bool
+is_group t = is_tag tag.ObjectKeys t || is_tag tag.DataKeys t
+
 -- a tree of the sort may have the tag
 unfoldable pub admits : Sort → Tag → Bool
 admits Notes t = is_tag tag.Notes t

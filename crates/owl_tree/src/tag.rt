@@ -1,12 +1,13 @@
 //! The tags of trees.
 
-ghost use Rattle.std.specs.Prelude.{◌≡◌, ◌≤◌, nat_le, ◌==◌, ◌&&◌};
+ghost use Rattle.std.specs.Prelude.{◌≡◌, ◌≤◌, nat_le, ◌==◌, ◌&&◌, IfSome, IsNone};
 ghost use Rattle.std.specs.Str.{chars};
 ghost use Rattle.std.specs.Cmp.Rules.{comparing, hashing};
 ghost use Rattle.std.specs.Cmp.{partial_order_from_own_ties, unsigned_tied};
 ghost use Rattle.std.specs.Hash as fed;
 ghost use Rattle.std.specs.Ordering.{as_partial_cmp, nat_cmp, on};
 ghost use Rattle.std.proofs.Common.{rules, sym};
+ghost use Rattle.owl_tree.specs.Rows.{is_bare, is_group};
 ghost use Rattle.owl_tree.specs.Tags.{is_axiom, keyword_of, number_of};
 
 use std::cmp::Ordering;
@@ -96,6 +97,87 @@ pub enum Tag {
     AnnotationPropertyDomain,
     AnnotationPropertyRange,
 }
+
+/// The tags in the order of their numbers.
+const TAGS: [Tag; 77] = [
+    Tag::Class,
+    Tag::Datatype,
+    Tag::ObjectProperty,
+    Tag::DataProperty,
+    Tag::AnnotationProperty,
+    Tag::NamedIndividual,
+    Tag::Anonymous,
+    Tag::PlainIri,
+    Tag::Literal,
+    Tag::Number,
+    Tag::Facet,
+    Tag::ObjectInverseOf,
+    Tag::ObjectPropertyChain,
+    Tag::ObjectIntersectionOf,
+    Tag::ObjectUnionOf,
+    Tag::ObjectComplementOf,
+    Tag::ObjectOneOf,
+    Tag::ObjectSomeValuesFrom,
+    Tag::ObjectAllValuesFrom,
+    Tag::ObjectHasValue,
+    Tag::ObjectHasSelf,
+    Tag::ObjectMinCardinality,
+    Tag::ObjectMaxCardinality,
+    Tag::ObjectExactCardinality,
+    Tag::DataSomeValuesFrom,
+    Tag::DataAllValuesFrom,
+    Tag::DataHasValue,
+    Tag::DataMinCardinality,
+    Tag::DataMaxCardinality,
+    Tag::DataExactCardinality,
+    Tag::DataIntersectionOf,
+    Tag::DataUnionOf,
+    Tag::DataComplementOf,
+    Tag::DataOneOf,
+    Tag::DatatypeRestriction,
+    Tag::FacetPair,
+    Tag::ObjectKeys,
+    Tag::DataKeys,
+    Tag::Annotation,
+    Tag::Notes,
+    Tag::Declaration,
+    Tag::SubClassOf,
+    Tag::EquivalentClasses,
+    Tag::DisjointClasses,
+    Tag::DisjointUnion,
+    Tag::SubObjectPropertyOf,
+    Tag::EquivalentObjectProperties,
+    Tag::DisjointObjectProperties,
+    Tag::InverseObjectProperties,
+    Tag::ObjectPropertyDomain,
+    Tag::ObjectPropertyRange,
+    Tag::FunctionalObjectProperty,
+    Tag::InverseFunctionalObjectProperty,
+    Tag::ReflexiveObjectProperty,
+    Tag::IrreflexiveObjectProperty,
+    Tag::SymmetricObjectProperty,
+    Tag::AsymmetricObjectProperty,
+    Tag::TransitiveObjectProperty,
+    Tag::SubDataPropertyOf,
+    Tag::EquivalentDataProperties,
+    Tag::DisjointDataProperties,
+    Tag::DataPropertyDomain,
+    Tag::DataPropertyRange,
+    Tag::FunctionalDataProperty,
+    Tag::DatatypeDefinition,
+    Tag::HasKey,
+    Tag::SameIndividual,
+    Tag::DifferentIndividuals,
+    Tag::ClassAssertion,
+    Tag::ObjectPropertyAssertion,
+    Tag::NegativeObjectPropertyAssertion,
+    Tag::DataPropertyAssertion,
+    Tag::NegativeDataPropertyAssertion,
+    Tag::AnnotationAssertion,
+    Tag::SubAnnotationPropertyOf,
+    Tag::AnnotationPropertyDomain,
+    Tag::AnnotationPropertyRange,
+];
 
 impl Tag {
     /// The number of the tag, from 1 to 77.
@@ -191,6 +273,31 @@ impl Tag {
             Tag::AnnotationPropertyDomain => "AnnotationPropertyDomain",
             Tag::AnnotationPropertyRange => "AnnotationPropertyRange",
         }
+    }
+
+    /// The tag with this name, if there is one.
+    pub fn named(word: &str) -> Option<Tag>
+        ensures some { IfSome result (λ tag. keyword_of tag ≡ chars word.now) }
+        ensures none { IsNone result → (tag : Tag) → keyword_of tag ≡ chars word.now → ⊥ }
+    {
+        TAGS.iter().copied().find(|tag| tag.keyword() == word)
+    }
+
+    /// Whether the parts of trees with this tag stand without a keyword and
+    /// without brackets in Functional-Style Syntax: annotations of an axiom,
+    /// and a facet with its value.
+    pub fn is_bare(self) -> bool
+        ensures { result ≡ is_bare self }
+    {
+        self == Tag::Notes || self == Tag::FacetPair
+    }
+
+    /// Whether the parts of trees with this tag stand in brackets without a
+    /// keyword in Functional-Style Syntax: the two groups of a HasKey.
+    pub fn is_group(self) -> bool
+        ensures { result ≡ is_group self }
+    {
+        self == Tag::ObjectKeys || self == Tag::DataKeys
     }
 
     /// Whether trees with this tag are axioms (Structural Specification,

@@ -25,8 +25,8 @@ use owl_doc::Builder;
 use owl_tree::{Atom, AtomSort, Sort, Tag};
 use std::alloc::Global;
 
-/// The most levels of a tree.
-pub const DEEPEST: usize = 128;
+/// The most levels of a tree, as an arena has them.
+pub const DEEPEST: usize = owl_arena::DEEPEST as usize;
 
 /// Takes an atom in the innermost construct, and tells what waits then.
 pub fn take_atom(

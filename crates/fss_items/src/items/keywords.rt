@@ -13,7 +13,6 @@ ghost use Rattle.fss_items.specs.Waits.{AreWaiting};
 use super::atoms::{DEEPEST, is_full};
 use super::parts::Open;
 use super::places::may_begin;
-use super::words::tag_named;
 use crate::item_fault::ItemFault;
 use owl_doc::Builder;
 use owl_text::Text;
@@ -32,7 +31,7 @@ pub fn kid_keyword(
     ensures waits { IfOk result (λ t. (s : Stage) → AreReady (constructs_before builder.now.arena.trees stack.now.items []) (Keyword word.now) → AreWaiting s (constructs_before builder.now.arena.trees stack.now.items []) (waiting.Keyword t)) }
     ensures barred { IfErr result (λ fault. BarsWord (constructs_before builder.now.arena.trees stack.now.items []) word.now) }
 {
-    let Some(tag) = tag_named(word) else {
+    let Some(tag) = Tag::named(word.as_str()) else {
         return Err(ItemFault::NotHere);
     };
     if !may_begin(top.tag, top.kids.len(), is_full(builder, top), tag) {

@@ -1,7 +1,6 @@
 //! What may stand at the places of a construct, by the table of rows.
 
 ghost use Rattle.std.specs.Prelude.{◌≡◌};
-ghost use Rattle.owl_doc.specs.Spelling.{is_bare, is_group};
 ghost use Rattle.owl_tree.specs.declared.row.AtomSort.TheVariants.{Iri, Label};
 ghost use Rattle.owl_tree.specs.Rows.{row_of, row_seen};
 ghost use Rattle.fss_items.specs.Places.{group_of, has_keyword, has_notes, is_leaf_row, keyword_in, keyword_next, leaf_of, may_begin, may_close, meets_minimum, next_behind, next_of};
@@ -55,7 +54,7 @@ pub fn may_close(tag: Tag, count: usize) -> bool
     ensures { result ≡ may_close tag count }
 {
     let row = tag.row();
-    !is_bare(tag)
+    !tag.is_bare()
         && row.takes_count(count)
         && meets_minimum(row, count)
         && (tag != Tag::InverseObjectProperties || count == 3)
@@ -72,25 +71,11 @@ fn meets_minimum(row: Row, count: usize) -> bool
     }
 }
 
-/// Whether the parts of the construct stand without a keyword and brackets.
-pub fn is_bare(tag: Tag) -> bool
-    ensures { result ≡ is_bare tag }
-{
-    tag == Tag::Notes || tag == Tag::FacetPair
-}
-
-/// Whether the parts of the construct stand in brackets without a keyword.
-pub fn is_group(tag: Tag) -> bool
-    ensures { result ≡ is_group tag }
-{
-    tag == Tag::ObjectKeys || tag == Tag::DataKeys
-}
-
 /// Whether a construct with the tag begins with its keyword.
 pub fn has_keyword(tag: Tag) -> bool
     ensures { result ≡ has_keyword tag }
 {
-    !is_leaf(tag) && !is_bare(tag) && !is_group(tag)
+    !is_leaf(tag) && !tag.is_bare() && !tag.is_group()
 }
 
 /// Whether annotations come first.

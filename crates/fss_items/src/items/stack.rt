@@ -11,7 +11,6 @@ ghost use Rattle.fss_items.specs.InHand.{HaveKids, Keeps, constructs_before, inn
 ghost use Rattle.fss_items.specs.declared.item_fault.ItemFault.{ItemFault};
 
 use super::parts::Open;
-use super::places::is_group;
 use crate::item_fault::ItemFault;
 use owl_arena::{ExprId, Grow};
 use owl_doc::Builder;
@@ -128,7 +127,7 @@ fn is_empty_group(builder: &Builder, id: ExprId) -> bool
     requires { id < length builder.now.arena.trees }
 {
     let arena = builder.arena();
-    is_group(arena.tag(id)) && arena.kids(id).is_empty()
+    arena.tag(id).is_group() && arena.kids(id).is_empty()
 }
 
 /// Ends the innermost construct, which is then a kid of the one around it, and

@@ -19,7 +19,6 @@ use super::keywords::kid_keyword;
 use super::parts::{Open, Stage, Waiting};
 use super::places::{has_notes, is_leaf};
 use super::stack::{begin, put_leaf};
-use super::words::tag_named;
 use crate::item_fault::ItemFault;
 use owl_atom::Iri;
 use owl_doc::{Builder, Term};
@@ -159,7 +158,7 @@ fn take_item_keyword(stage: Stage, word: &Text) -> Result<Waiting, ItemFault>
     if begins_import(stage, word) {
         return Ok(Waiting::Import);
     }
-    match tag_named(word) {
+    match Tag::named(word.as_str()) {
         Some(tag) => if may_be_item(stage, tag) {
             Ok(Waiting::Keyword(tag))
         } else {

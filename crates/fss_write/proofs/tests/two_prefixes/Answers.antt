@@ -1,5 +1,5 @@
 use Rattle.std.proofs.Common.{refl, []}
-use Rattle.owl_atom.proofs.Words.{empty_name, prefix_name}
+use Rattle.owl_text.specs.NameLaws.{empty_name, prefix_name}
 use Rattle.fss_write.proofs.tests.two_prefixes.Goals as goal
 
 pub set-requires : goal.set-requires

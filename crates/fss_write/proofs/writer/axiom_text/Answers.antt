@@ -1,10 +1,10 @@
 use Rattle.std.proofs.Common.{Err, List, ℕ, [], ◌++◌, ◌≤◌, ap, sym, subst}
 use Rattle.owl_arena.specs.Held.{Held, tree_at}
 use Rattle.owl_atom.specs.declared.prefixes.Prefix.{Prefix}
-use Rattle.owl_doc.specs.Functional.{longest}
 use Rattle.owl_text.specs.Utf8.{size}
+use Rattle.owl_text.specs.Limit.{most_bytes}
 use Rattle.fss_write.specs.Parts.{IsTooLong}
-use Rattle.fss_write.specs.Text.{axiom_text, item_text}
+use Rattle.fss_write.specs.Text.{axiom_text, written_text}
 use Rattle.fss_write.specs.declared.fault.WriteFault.TheVariants.{TooLong}
 use Rattle.fss_write.proofs.Joins.{passed_on}
 use Rattle.fss_write.proofs.Sizes.{too_long_in_bytes, within_in_bytes}
@@ -14,11 +14,11 @@ pub returns-in_err-add_item-clause-too_long : goal.returns-in_err-add_item-claus
 returns-in_err-add_item-clause-too_long c = λ e.
     let found = passed_on c.from_residual.result c.in_err-add_item.field-0.0 TooLong c.from_residual.ensures.1 e in
     let long = c.in_err-add_item.ensures.too_long (ap Err found) in
-    let afresh = subst (λ (front : List ℕ). IsTooLong (front ++ item_text c.empty.result (tree_at c.arena.result.now.trees c.args.id))) c.new-draft.ensures long in
-    let full = subst (λ (prefixes : List Prefix). IsTooLong (item_text prefixes (tree_at c.arena.result.now.trees c.args.id))) c.empty.ensures afresh in
-    let here = subst (λ (arena : Held). IsTooLong (item_text [] (tree_at arena.trees c.args.id))) c.arena.ensures full in
+    let afresh = subst (λ (front : List ℕ). IsTooLong (front ++ written_text c.empty.result (tree_at c.arena.result.now.trees c.args.id))) c.new-draft.ensures long in
+    let full = subst (λ (prefixes : List Prefix). IsTooLong (written_text prefixes (tree_at c.arena.result.now.trees c.args.id))) c.empty.ensures afresh in
+    let here = subst (λ (arena : Held). IsTooLong (written_text [] (tree_at arena.trees c.args.id))) c.arena.ensures full in
     too_long_in_bytes (axiom_text (tree_at c.args.doc.now.arena.trees c.args.id)) here
 
 pub returns-clause-within : goal.returns-clause-within
 returns-clause-within c =
-    within_in_bytes c.into_text.result (subst (λ (text : List ℕ). size text ≤ longest) (sym c.into_text.ensures.text) c.into_text.ensures.within)
+    within_in_bytes c.into_text.result (subst (λ (text : List ℕ). size text ≤ most_bytes) (sym c.into_text.ensures.text) c.into_text.ensures.within)

@@ -5,8 +5,9 @@ use Rattle.owl_atom.specs.Prefixes.{IsTable}
 use Rattle.owl_arena.specs.Held.{Held}
 use Rattle.owl_arena.specs.Shared.{AreShared}
 use Rattle.owl_doc.specs.Documents.{ontology_of}
-use Rattle.owl_doc.specs.Functional.{Reads, longest}
+use Rattle.owl_doc.specs.Functional.{ReadsFunctional}
 use Rattle.owl_text.specs.Utf8.{size}
+use Rattle.owl_text.specs.Limit.{most_bytes}
 use Rattle.fss_write.specs.Parts.{HaveIris, IsTooLong}
 use Rattle.fss_write.specs.Text.{declared_prefixes, lines_of, text_of, written_prefixes}
 use Rattle.fss_write.specs.declared.fault.WriteFault.TheVariants.{TooLong}
@@ -26,7 +27,7 @@ returns-in_err-add_document-clause-too_long c = λ e.
 
 pub returns-clause-within : goal.returns-clause-within
 returns-clause-within c =
-    within_in_bytes c.into_text-text.result (subst (λ (text : List ℕ). size text ≤ longest) (sym c.into_text-text.ensures.text) c.into_text-text.ensures.within)
+    within_in_bytes c.into_text-text.result (subst (λ (text : List ℕ). size text ≤ most_bytes) (sym c.into_text-text.ensures.text) c.into_text-text.ensures.within)
 
 pub returns-clause-reads_back : goal.returns-clause-reads_back
 returns-clause-reads_back c =
@@ -38,11 +39,11 @@ returns-clause-reads_back c =
     ∙ c.in_ok-add_document.ensures.ok
     ∙ ap (λ (front : List ℕ). front ++ lines_of c.in_ok-prefixes.prefixes o) c.new-draft.ensures
     ∙ ap (λ (ps : List Prefix). lines_of ps o) prefixes in
-    let bytes = within_in_bytes c.into_text-text.result (subst (λ (t : List ℕ). size t ≤ longest) (sym c.into_text-text.ensures.text) c.into_text-text.ensures.within) in
+    let bytes = within_in_bytes c.into_text-text.result (subst (λ (t : List ℕ). size t ≤ most_bytes) (sym c.into_text-text.ensures.text) c.into_text-text.ensures.within) in
     let shared = subst (λ (arena : Held). AreShared arena.trees) c.arena.ensures c.distinct.ensures.shared in
     let table = subst IsTable c.prefixes.ensures c.len.ensures.table in
     let iris = subst HaveIris prefixes c.in_ok-add_document.ensures.iris in
     let scalars = ap all_scalars (sym text) ∙ c.as_str.ensures.scalars in
-    let few = subst (λ (t : List ℕ). length (encode_utf8_all t) ≤ longest) text bytes in
-    subst (λ (t : List ℕ). Reads (encode_utf8_all t) (declared_prefixes d.prefixes) o) (sym text)
+    let few = subst (λ (t : List ℕ). length (encode_utf8_all t) ≤ most_bytes) text bytes in
+    subst (λ (t : List ℕ). ReadsFunctional (encode_utf8_all t) (declared_prefixes d.prefixes) o) (sym text)
     (document_reads_back d c.head.ensures.document shared table iris scalars few)

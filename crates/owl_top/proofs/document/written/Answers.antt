@@ -2,7 +2,7 @@ use Rattle.std.proofs.Common.{List, ℕ, Err, ap, sym, subst, ◌∙◌}
 use Rattle.std.specs.Str.{encode_utf8_all}
 use Rattle.std.proofs.lemmas.Result.{IfOk-weaker}
 use Rattle.owl_doc.specs.Documents.{ontology_of}
-use Rattle.owl_doc.specs.Functional.{Reads}
+use Rattle.owl_doc.specs.Functional.{ReadsFunctional}
 use Rattle.fss_write.specs.Text.{declared_prefixes}
 use Rattle.owl_top.specs.declared.answer.Answer.{Answer}
 use Rattle.owl_top.proofs.Outcomes.{translation_fits, translation_passes}
@@ -14,7 +14,7 @@ returns-in-Ok-clause-outcome c =
 
 pub returns-in-Ok-clause-back : goal.returns-in-Ok-clause-back
 returns-in-Ok-clause-back c =
-    IfOk-weaker c.translated.result _ _ (λ (a : Answer) e ok. subst (λ (t : List ℕ). Reads (encode_utf8_all t) (declared_prefixes c.args.doc.now.prefixes) (ontology_of c.args.doc.now)) (sym e) c.in-Ok.ensures.reads_back) c.translated.ensures.text
+    IfOk-weaker c.translated.result _ _ (λ (a : Answer) e ok. subst (λ (t : List ℕ). ReadsFunctional (encode_utf8_all t) (declared_prefixes c.args.doc.now.prefixes) (ontology_of c.args.doc.now)) (sym e) c.in-Ok.ensures.reads_back) c.translated.ensures.text
 
 pub returns-in-Err-TooLong-clause-outcome : goal.returns-in-Err-TooLong-clause-outcome
 returns-in-Err-TooLong-clause-outcome c =

@@ -1,4 +1,4 @@
-use Rattle.std.proofs.Common.{rules, ◌≡◌, ap, refl, true, false}
+use Rattle.std.proofs.Common.{rules, ◌≡◌, ap, refl, sym, ◌∙◌, true, false}
 use Rattle.std.specs.Prelude.{List, ℕ, ◌∷◌, []}
 use Rattle.owl_doc.specs.declared.term.Term.TheVariants.{Keyword}
 use Rattle.fss_items.specs.declared.items.parts.Waiting.TheVariants as waiting
@@ -17,7 +17,7 @@ returns-then-may_be_item-clause-waits c =
 pub returns-else-may_be_item-clause-barred : goal.returns-else-may_be_item-clause-barred
 returns-else-may_be_item-clause-barred c =
     let may : may_be_item c.args.stage c.in-Some.tag ≡ false = search rules in
-    λ d heavy. bars_item d c.args.stage heavy c.args.word.now (c.begins_import.ensures.other c.if-begins_import.false) (one_item c.args.stage c.in-Some.tag c.args.word.now c.in-Some.ensures.some may)
+    λ d heavy. bars_item d c.args.stage heavy c.args.word.now (c.begins_import.ensures.other c.if-begins_import.false) (one_item c.args.stage c.in-Some.tag c.args.word.now (c.in-Some.ensures.some ∙ c.as_str.ensures.chars) may)
 
 pub returns-in-None-clause-barred : goal.returns-in-None-clause-barred
-returns-in-None-clause-barred c = λ d heavy. bars_item d c.args.stage heavy c.args.word.now (c.begins_import.ensures.other c.if-begins_import.false) (λ u e m. c.in-None.ensures.none refl u e)
+returns-in-None-clause-barred c = λ d heavy. bars_item d c.args.stage heavy c.args.word.now (c.begins_import.ensures.other c.if-begins_import.false) (λ u e m. c.in-None.ensures.none refl u (e ∙ sym c.as_str.ensures.chars))

@@ -1,6 +1,7 @@
 use Rattle.std.proofs.Common.{arith}
 use Rattle.std.specs.Str.{chars}
-use Rattle.fss_write.proofs.Sizes.{size_append, size_chars}
+use Rattle.owl_text.specs.Utf8Laws.{size_append}
+use Rattle.fss_write.proofs.Sizes.{size_chars}
 use Rattle.fss_write.proofs.draft.Draft.add.Goals as goal
 
 pub returns-then-not-has_room-clause-too_long : goal.returns-then-not-has_room-clause-too_long

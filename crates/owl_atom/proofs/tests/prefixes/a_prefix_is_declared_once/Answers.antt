@@ -1,7 +1,8 @@
 use Rattle.std.proofs.Common.{refl}
 use Rattle.std.specs.Prelude.{codes}
 use Rattle.owl_text.specs.Iri.{is_iri_character}
-use Rattle.owl_atom.proofs.Words.{prefix_name, word_passes}
+use Rattle.owl_text.specs.NameLaws.{prefix_name}
+use Rattle.owl_atom.proofs.Words.{word_passes}
 use Rattle.owl_atom.proofs.tests.prefixes.a_prefix_is_declared_once.Goals as goal
 
 pub declare-requires : goal.declare-requires

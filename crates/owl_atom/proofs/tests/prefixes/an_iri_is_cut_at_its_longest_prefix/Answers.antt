@@ -1,7 +1,8 @@
 use Rattle.std.proofs.Common.{refl, []}
 use Rattle.std.specs.Prelude.{codes}
 use Rattle.owl_text.specs.Iri.{is_iri_character}
-use Rattle.owl_atom.proofs.Words.{empty_name, prefix_name, word_passes}
+use Rattle.owl_text.specs.NameLaws.{empty_name, prefix_name}
+use Rattle.owl_atom.proofs.Words.{word_passes}
 use Rattle.owl_atom.proofs.tests.prefixes.an_iri_is_cut_at_its_longest_prefix.Goals as goal
 
 pub set-requires : goal.set-requires

@@ -3,23 +3,23 @@ use Rattle.std.proofs.Common.{◌≡◌, inl, inr, ℕ, Bool, true, false, ◌&&
 use Rattle.std.specs.Prelude.{codes, flat_map, ◌==◌, if◌then◌else◌}
 use Rattle.std.specs.Char.{is_ascii_alphabetic, is_ascii_alphanumeric, is_ascii_digit}
 use Rattle.std.specs.Int.{is_in_range}
-use Rattle.std.specs.List.{AllByRecursion, slice_split, onto_first}
-use Rattle.std.proofs.lemmas.Bool.{cases_Bool, cond-true, cond-false, or_cases, or_left, or_right, or_parts, or_from, and_from, and_left, and_parts, both_ways, false_from_ne_true}
-use Rattle.std.proofs.lemmas.Bool.Decides.{nat_tests}
+use Rattle.std.proofs.lemmas.Bool.{cases_Bool, cond-true, cond-false, or_cases, or_left, or_right, or_parts, or_from, and_left, and_parts, both_ways, false_from_ne_true}
 use Rattle.std.proofs.lemmas.List.{append_assoc}
-use Rattle.owl_text.specs.Iri.{AllAre, IsIri, is_among, is_iri_character, is_scheme_character}
-use Rattle.owl_text.specs.Names.{in_ranges, part_ranges, is_escapable, is_start, is_part, is_inner, is_local_start, is_local_inner, IsLanguageTag, AreSubtags, IsRunOf}
-use Rattle.owl_text.specs.States.{begins_with, is_dot, is_colon, is_hyphen, tag_fits, test_behind}
+use Rattle.owl_text.specs.Iri.{AllAre, is_among, is_iri_character}
+use Rattle.owl_text.specs.Names.{in_ranges, part_ranges, is_escapable, is_start, is_part, is_inner, is_local_start, is_local_inner, IsRunOf, begins_with, is_dot, is_colon, is_hyphen}
 use Rattle.owl_text.specs.Tokens.{Spells, IsLongest, sign_spelling, character_spelling}
 use Rattle.owl_text.specs.declared.token.Token.{Token}
 use Rattle.owl_text.specs.declared.token.Token.TheVariants.{Iri, Name, Blank, Str, At, Word, Int, Sign}
 use Rattle.owl_text.specs.declared.token.Sign.{Sign as Mark}
 use Rattle.owl_text.specs.declared.token.Sign.TheVariants.{Open, Close, Equals, Carets}
-use Rattle.owl_text.proofs.Leads.{Lead, lead, lead_digit, fits, other_fits, sign_lead, only_iri, only_str, only_at, only_int, only_sign}
-use Rattle.owl_text.proofs.Spelled.{same_text}
-use Rattle.owl_text.proofs.Schemes.{scheme_characters}
-use Rattle.owl_text.proofs.LongestNames.{name_goes_on, local_goes_on, written_goes_on, escape_begins, two_hex, WordStops, word_is_longest, blank_is_longest, name_is_longest}
-use Rattle.owl_text.proofs.Spans.{both, same_cut, AllAre-append, AllAre-back, AllAre-weaker, overhang_or_within}
+use Rattle.owl_text.specs.Subtags.{tag_fits, test_behind}
+use Rattle.owl_text.specs.LeadLaws.{Lead, lead, lead_digit, fits, other_fits, sign_lead, only_iri, only_str, only_at, only_int, only_sign}
+use Rattle.owl_text.specs.SpellingLaws.{same_text}
+use Rattle.owl_text.specs.LongestNameLaws.{name_goes_on, local_goes_on, written_goes_on, escape_begins, two_hex, WordStops, word_is_longest, blank_is_longest, name_is_longest}
+use Rattle.owl_text.specs.CutLaws.{both, same_cut, overhang_or_within}
+use Rattle.owl_text.specs.AllAreLaws.{AllAre-back}
+use Rattle.owl_text.specs.LanguageTagLaws.{alphabetic_is_alphanumeric, alphanumeric_from, tag_behind, tag_to_fits}
+use Rattle.owl_text.specs.IriLaws.{iri_characters}
 
 -- which tokens are the longest, whatever follows
 
@@ -42,12 +42,6 @@ sign_longest sign spelling rest h other longer more k e =
     let only = sign_is_mark sign other (other_fits (sign_lead sign) head.0 rest other longer more k e2) in
     let same = subst (λ (x : Token). Spells x longer) only k in
     omega (arith, ap (λ (x : List ℕ). length x) h, ap (λ (x : List ℕ). length x) same)
-
-scheme_is_iri : (c : ℕ) → is_scheme_character c ≡ true → is_iri_character c ≡ true
-scheme_is_iri c h = grind (arith, nat_tests)
-
-pub iri_characters : (cs : List ℕ) → IsIri cs → AllAre is_iri_character cs
-iri_characters cs h = subst (λ (x : List ℕ). AllAre is_iri_character x) (sym h.parts) (AllAre-append is_iri_character h.scheme (58 ∷ h.rest) (AllAre-weaker is_scheme_character is_iri_character scheme_is_iri h.scheme (scheme_characters h.scheme h.named)) (refl, h.allowed))
 
 pub iri_longest : (iri spelling rest : List ℕ) → Spells (Iri iri) spelling → IsLongest spelling rest
 iri_longest iri spelling rest h other longer more k e =
@@ -94,97 +88,6 @@ int_longest (c ∷ cs) spelling rest h n other longer more k e =
     run_all : (cs : List ℕ) → IsRunOf is_ascii_digit cs → AllAre is_ascii_digit cs
     run_all [] h = absurd h
     run_all (c ∷ cs) h = h
-
--- a part of a subtag, and then subtags
-abbrev pub AreParts : (ℕ → Bool) → Bool → List (List ℕ) → Type 0
-AreParts test some [] = ⊥
-AreParts test true (first ∷ others) = AllAre test first × AllByRecursion (IsRunOf is_ascii_alphanumeric) others
-AreParts test false (first ∷ others) = IsRunOf test first × AllByRecursion (IsRunOf is_ascii_alphanumeric) others
-
-parts_behind_hyphen : (test : ℕ → Bool) (some : Bool) (parts : List (List ℕ)) → some ≡ true → AreParts is_ascii_alphanumeric false parts → AreParts test some ([] ∷ parts)
-parts_behind_hyphen test some [] s h = absurd h
-parts_behind_hyphen test true (first ∷ others) s h = (tt, (h.0, h.1))
-parts_behind_hyphen test false (first ∷ others) s h = cc
-
-hyphen_before_parts : (test : ℕ → Bool) (some : Bool) (first : List ℕ) (others : List (List ℕ)) → AreParts test some ([] ∷ (first ∷ others)) → (some ≡ true) × AreParts is_ascii_alphanumeric false (first ∷ others)
-hyphen_before_parts test true first others h = (refl, (h.1.0, h.1.1))
-hyphen_before_parts test false first others h = absurd h.0
-
-parts_onto : (test : ℕ → Bool) (some : Bool) (c : ℕ) (parts : List (List ℕ)) → test c ≡ true → AreParts test true parts → AreParts test some (onto_first c parts)
-parts_onto test some c [] t h = absurd h
-parts_onto test true c (first ∷ others) t h = ((t, h.0), h.1)
-parts_onto test false c (first ∷ others) t h = ((t, h.0), h.1)
-
-parts_from_onto : (test : ℕ → Bool) (some : Bool) (c : ℕ) (first : List ℕ) (others : List (List ℕ)) → AreParts test some (onto_first c (first ∷ others)) → (test c ≡ true) × AreParts test true (first ∷ others)
-parts_from_onto test true c first others h = (h.0.0, (h.0.1, h.1))
-parts_from_onto test false c first others h = (h.0.0, (h.0.1, h.1))
-
-tag_parts : (test : ℕ → Bool) (some : Bool) (cs : List ℕ) → tag_fits test some cs ≡ true → AreParts test some (slice_split is_hyphen cs)
-tag_parts test true [] h = (tt, tt)
-tag_parts test false [] h = cc
-tag_parts test some (c ∷ cs) h = elim (cases_Bool (is_hyphen c)) [
-  | inl x ↦
-      let k = sym (cond-true (is_hyphen c) (some && tag_fits is_ascii_alphanumeric false cs) (test c && tag_fits test true cs) x) ∙ h in
-      let b = and_parts some (tag_fits is_ascii_alphanumeric false cs) k in
-      subst (λ (x : List (List ℕ)). AreParts test some x) (sym (cond-true (is_hyphen c) ([] ∷ slice_split is_hyphen cs) (onto_first c (slice_split is_hyphen cs)) x)) (parts_behind_hyphen test some (slice_split is_hyphen cs) b.0 (tag_parts is_ascii_alphanumeric false cs b.1))
-  | inr x ↦
-      let k = sym (cond-false (is_hyphen c) (some && tag_fits is_ascii_alphanumeric false cs) (test c && tag_fits test true cs) x) ∙ h in
-      let b = and_parts (test c) (tag_fits test true cs) k in
-      subst (λ (x : List (List ℕ)). AreParts test some x) (sym (cond-false (is_hyphen c) ([] ∷ slice_split is_hyphen cs) (onto_first c (slice_split is_hyphen cs)) x)) (parts_onto test some c (slice_split is_hyphen cs) b.0 (tag_parts test true cs b.1))
-]
-
-split_some : (p : ℕ → Bool) (cs : List ℕ) → (first : List ℕ) × (others : List (List ℕ)) × (slice_split p cs ≡ first ∷ others)
-split_some p [] = ([], [], refl)
-split_some p (c ∷ cs) = elim (cases_Bool (p c)) [
-  | inl x ↦ ([], slice_split p cs, cond-true (p c) ([] ∷ slice_split p cs) (onto_first c (slice_split p cs)) x)
-  | inr x ↦
-      let o = split_some p cs in
-      (c ∷ o.0, o.1, cond-false (p c) ([] ∷ slice_split p cs) (onto_first c (slice_split p cs)) x ∙ ap (onto_first c) o.2)
-]
-
-parts_tag : (test : ℕ → Bool) (some : Bool) (cs : List ℕ) → AreParts test some (slice_split is_hyphen cs) → tag_fits test some cs ≡ true
-parts_tag test true [] h = refl
-parts_tag test false [] h = absurd h.0
-parts_tag test some (c ∷ cs) h =
-    let o = split_some is_hyphen cs in
-    elim (cases_Bool (is_hyphen c)) [
-      | inl x ↦
-          let k = subst (λ (x : List (List ℕ)). AreParts test some x) (cond-true (is_hyphen c) ([] ∷ slice_split is_hyphen cs) (onto_first c (slice_split is_hyphen cs)) x ∙ ap (λ (y : List (List ℕ)). [] ∷ y) o.2) h in
-          let b = hyphen_before_parts test some o.0 o.1 k in
-          cond-true (is_hyphen c) (some && tag_fits is_ascii_alphanumeric false cs) (test c && tag_fits test true cs) x ∙ and_from some (tag_fits is_ascii_alphanumeric false cs) b.0 (parts_tag is_ascii_alphanumeric false cs (subst (λ (x : List (List ℕ)). AreParts is_ascii_alphanumeric false x) (sym o.2) b.1))
-      | inr x ↦
-          let k = subst (λ (x : List (List ℕ)). AreParts test some x) (cond-false (is_hyphen c) ([] ∷ slice_split is_hyphen cs) (onto_first c (slice_split is_hyphen cs)) x ∙ ap (onto_first c) o.2) h in
-          let b = parts_from_onto test some c o.0 o.1 k in
-          cond-false (is_hyphen c) (some && tag_fits is_ascii_alphanumeric false cs) (test c && tag_fits test true cs) x ∙ and_from (test c) (tag_fits test true cs) b.0 (parts_tag test true cs (subst (λ (x : List (List ℕ)). AreParts test true x) (sym o.2) b.1))
-    ]
-
-subtags : (parts : List (List ℕ)) → AreParts is_ascii_alphabetic false parts → AreSubtags parts
-subtags [] h = h
-subtags (first ∷ others) h = h
-
-subtags_back : (parts : List (List ℕ)) → AreSubtags parts → AreParts is_ascii_alphabetic false parts
-subtags_back [] h = h
-subtags_back (first ∷ others) h = h
-
-pub tag_from_fits : (cs : List ℕ) → tag_fits is_ascii_alphabetic false cs ≡ true → IsLanguageTag cs
-tag_from_fits cs h = subtags (slice_split is_hyphen cs) (tag_parts is_ascii_alphabetic false cs h)
-
-pub tag_to_fits : (cs : List ℕ) → IsLanguageTag cs → tag_fits is_ascii_alphabetic false cs ≡ true
-tag_to_fits cs h = parts_tag is_ascii_alphabetic false cs (subtags_back (slice_split is_hyphen cs) h)
-
-pub tag_behind : (test : ℕ → Bool) (some : Bool) (xs ys : List ℕ) → tag_fits test some xs ≡ true → tag_fits test some (xs ++ ys) ≡ true → tag_fits (test_behind test xs) true ys ≡ true
-tag_behind test true [] ys h k = k
-tag_behind test false [] ys h k = cc
-tag_behind test some (c ∷ cs) ys h k = elim (cases_Bool (is_hyphen c)) [
-  | inl x ↦
-      let h2 = and_parts some (tag_fits is_ascii_alphanumeric false cs) (sym (cond-true (is_hyphen c) _ (test c && tag_fits test true cs) x) ∙ h) in
-      let k2 = and_parts some (tag_fits is_ascii_alphanumeric false (cs ++ ys)) (sym (cond-true (is_hyphen c) _ (test c && tag_fits test true (cs ++ ys)) x) ∙ k) in
-      subst (λ (t : ℕ → Bool). tag_fits t true ys ≡ true) (sym (cond-true (is_hyphen c) (test_behind is_ascii_alphanumeric cs) (test_behind test cs) x)) (tag_behind is_ascii_alphanumeric false cs ys h2.1 k2.1)
-  | inr x ↦
-      let h2 = and_parts (test c) (tag_fits test true cs) (sym (cond-false (is_hyphen c) (some && tag_fits is_ascii_alphanumeric false cs) _ x) ∙ h) in
-      let k2 = and_parts (test c) (tag_fits test true (cs ++ ys)) (sym (cond-false (is_hyphen c) (some && tag_fits is_ascii_alphanumeric false (cs ++ ys)) _ x) ∙ k) in
-      subst (λ (t : ℕ → Bool). tag_fits t true ys ≡ true) (sym (cond-false (is_hyphen c) (test_behind is_ascii_alphanumeric cs) (test_behind test cs) x)) (tag_behind test true cs ys h2.1 k2.1)
-]
 
 -- a tag goes on: with a character that passes, or with a hyphen before a letter or a digit
 abbrev pub tag_goes_on : (ℕ → Bool) → List ℕ → Bool
@@ -290,16 +193,6 @@ written_stays (w ∷ ws) (c ∷ cs) h =
 pub name_longest : (prefix local spelling rest : List ℕ) → Spells (Name prefix local) spelling → begins_with is_behind_name rest ≡ false → IsLongest spelling rest
 name_longest prefix local spelling rest h n =
     name_is_longest prefix local h.0 spelling rest (record { named = h.1; local_part = h.2; is = h.3 }) (written_stays h.0 rest n)
-
-alphanumeric_from : (test : ℕ → Bool) → ((c : ℕ) → test c ≡ true → is_ascii_alphanumeric c ≡ true) → (cs : List ℕ) (c : ℕ) → test_behind test cs c ≡ true → is_ascii_alphanumeric c ≡ true
-alphanumeric_from test f [] c h = f c h
-alphanumeric_from test f (d ∷ ds) c h = elim (cases_Bool (is_hyphen d)) [
-  | inl x ↦ alphanumeric_from is_ascii_alphanumeric (λ c k. k) ds c (sym (ap (λ (t : ℕ → Bool). t c) (cond-true (is_hyphen d) (test_behind is_ascii_alphanumeric ds) (test_behind test ds) x)) ∙ h)
-  | inr x ↦ alphanumeric_from test f ds c (sym (ap (λ (t : ℕ → Bool). t c) (cond-false (is_hyphen d) (test_behind is_ascii_alphanumeric ds) (test_behind test ds) x)) ∙ h)
-]
-
-pub alphabetic_is_alphanumeric : (c : ℕ) → is_ascii_alphabetic c ≡ true → is_ascii_alphanumeric c ≡ true
-alphabetic_is_alphanumeric c h = grind (arith, nat_tests)
 
 pub tag_longest : (tag spelling rest : List ℕ) → Spells (At tag) spelling → begins_with is_behind_tag rest ≡ false → IsLongest spelling rest
 tag_longest tag spelling rest h n = tag_is_longest tag spelling rest h (go rest n)

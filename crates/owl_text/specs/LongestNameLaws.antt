@@ -6,14 +6,15 @@ use Rattle.std.specs.List.{AllByRecursion}
 use Rattle.std.proofs.lemmas.Bool.{cases_Bool, cond-true, cond-false, or_cases, or_left, or_right, and_from, both_ways}
 use Rattle.std.proofs.lemmas.List.{append_assoc, length-append}
 use Rattle.owl_text.specs.Iri.{AllAre, is_among}
-use Rattle.owl_text.specs.Names.{in_ranges, start_ranges, part_ranges, is_base, is_start, is_part, is_inner, ends_in_dot, IsNameFrom, IsPrefixName, is_label_start, is_escapable, Piece, plain, percent, escaped, piece_spelling, IsPieceOf, is_local_start, is_local_inner, ends_in_plain_dot, AreLocalPieces, SpellsLocal}
-use Rattle.owl_text.specs.States.{begins_with, is_dot}
+use Rattle.owl_text.specs.Names.{in_ranges, start_ranges, part_ranges, is_base, is_start, is_part, is_inner, ends_in_dot, IsNameFrom, IsPrefixName, is_label_start, is_escapable, Piece, plain, percent, escaped, piece_spelling, IsPieceOf, is_local_start, is_local_inner, ends_in_plain_dot, AreLocalPieces, SpellsLocal, begins_with, is_dot}
 use Rattle.owl_text.specs.Tokens.{Spells, IsLongest}
 use Rattle.owl_text.specs.declared.token.Token.{Token}
 use Rattle.owl_text.specs.declared.token.Token.TheVariants.{Name, Blank, Word}
-use Rattle.owl_text.proofs.Leads.{Lead, lead, lead_letter, underscore, fits, other_fits, only_name, name_or_word, blank_or_word}
-use Rattle.owl_text.proofs.Spelled.{prefix_inner, word_inner, name_inner, is_plain, local_pieces_plain, same_piece}
-use Rattle.owl_text.proofs.Spans.{both, same_cut, same_seam, front_within, AllAre-back, overhang_or_within}
+use Rattle.owl_text.specs.LeadLaws.{Lead, lead, lead_letter, underscore, fits, other_fits, only_name, name_or_word, blank_or_word}
+use Rattle.owl_text.specs.NameLaws.{name_dot, prefix_dot, prefix_inner, word_inner, name_inner, ends_in_dot-append}
+use Rattle.owl_text.specs.SpellingLaws.{is_plain, local_pieces_plain, same_piece}
+use Rattle.owl_text.specs.CutLaws.{both, same_cut, same_seam, front_within, overhang_or_within}
+use Rattle.owl_text.specs.AllAreLaws.{AllAre-back}
 
 -- behind dots, a name goes on
 abbrev pub name_goes_on : List ℕ → Bool
@@ -30,11 +31,6 @@ goes z (y ∷ ys) b h d = elim (cases_Bool (is_dot z)) [
   | inr x ↦ cond-false (is_dot z) (name_goes_on (y ∷ (ys ++ b))) (is_part z) x ∙ part_or_dot z h.0 x
 ]
 
-pub ends_in_dot-append : (xs : List ℕ) (z : ℕ) (zs : List ℕ) → ends_in_dot (xs ++ z ∷ zs) ≡ ends_in_dot (z ∷ zs)
-ends_in_dot-append [] z zs = refl
-ends_in_dot-append (x ∷ []) z zs = refl
-ends_in_dot-append (x ∷ y ∷ ys) z zs = ends_in_dot-append (y ∷ ys) z zs
-
 -- a run of a name's characters is no longer
 run_within : (xs ys a b : List ℕ) → AllAre is_inner ys → ends_in_dot ys ≡ false → name_goes_on a ≡ false → xs ++ a ≡ ys ++ b → length ys ≤ length xs
 run_within xs ys a b h d n e = elim (overhang_or_within xs ys a b e) [
@@ -44,14 +40,6 @@ run_within xs ys a b h d n e = elim (overhang_or_within xs ys a b e) [
       let dot = sym (ends_in_dot-append xs o.next o.others) ∙ sym (ap ends_in_dot o.is) ∙ d in
       absurd (both_ways (name_goes_on a) n (ap name_goes_on o.rest ∙ goes o.next o.others b inner dot))
 ]
-
-name_dot : (test : ℕ → Bool) (cs : List ℕ) → IsNameFrom test cs → ends_in_dot cs ≡ false
-name_dot test [] h = absurd h
-name_dot test (c ∷ cs) h = h.2
-
-prefix_dot : (cs : List ℕ) → IsPrefixName cs → ends_in_dot cs ≡ false
-prefix_dot [] h = refl
-prefix_dot (c ∷ cs) h = h.2
 
 -- where a run meets a colon, it is what stands before it
 pub run_to_colon : (xs ys a b : List ℕ) → AllAre is_inner xs → AllAre is_inner ys → ends_in_dot ys ≡ false → name_goes_on a ≡ false → xs ++ a ≡ ys ++ 58 ∷ b → (xs ≡ ys) × (a ≡ 58 ∷ b)

@@ -1,4 +1,4 @@
--- Two ways to cut a list at the first character that fails a test are one.
+-- Two ways to cut a list: at the first character that fails a test, or behind a front.
 use Rattle.std.proofs.Common.{◌≡◌, ◌⊎◌, inl, inr, ℕ, ◌≤◌, Bool, true, false, List, [], ◌∷◌, ◌++◌, length, refl, sym, ap, ◌∙◌, arith, zero-le, suc-le-suc}
 use Rattle.std.proofs.lemmas.Bool.{false≢true}
 use Rattle.owl_text.specs.Iri.{AllAre}
@@ -39,12 +39,6 @@ front_within p xs [] c a b hy fc e = zero-le
 front_within p [] (y ∷ ys) c a b hy fc e = absurd (both p y c (cc) hy.0 fc)
 front_within p (x ∷ xs) (y ∷ ys) c a b hy fc e = suc-le-suc (front_within p xs ys c a b hy.1 fc (cc))
 
--- the same at the end of all
-pub front_within_all : (xs ys b : List ℕ) → xs ++ [] ≡ ys ++ b → length ys ≤ length xs
-front_within_all xs [] b e = zero-le
-front_within_all [] (y ∷ ys) b e = cc
-front_within_all (x ∷ xs) (y ∷ ys) b e = suc-le-suc (front_within_all xs ys b (cc))
-
 -- two fronts of one list that are as long are the same, and so are the rests
 pub record SameSeam (xs ys a b : List ℕ) : Type 0 where
   pub front : xs ≡ ys
@@ -58,23 +52,6 @@ same_seam (x ∷ xs) (y ∷ ys) a b h k e =
     let s = same_seam xs ys a b (omega arith) (omega arith) cc in
     let h : x ≡ y = cc in
     record { front = cc; rest = s.rest }
-
-pub AllAre-append : (p : ℕ → Bool) (xs ys : List ℕ) → AllAre p xs → AllAre p ys → AllAre p (xs ++ ys)
-AllAre-append p [] ys h k = k
-AllAre-append p (x ∷ xs) ys h k = (h.0, AllAre-append p xs ys h.1 k)
-
--- what passes one test passes another
-pub AllAre-weaker : (p q : ℕ → Bool) → ((c : ℕ) → p c ≡ true → q c ≡ true) → (xs : List ℕ) → AllAre p xs → AllAre q xs
-AllAre-weaker p q f [] h = tt
-AllAre-weaker p q f (x ∷ xs) h = (f x h.0, AllAre-weaker p q f xs h.1)
-
-pub AllAre-front : (p : ℕ → Bool) (xs ys : List ℕ) → AllAre p (xs ++ ys) → AllAre p xs
-AllAre-front p [] ys h = tt
-AllAre-front p (x ∷ xs) ys h = (h.0, AllAre-front p xs ys h.1)
-
-pub AllAre-back : (p : ℕ → Bool) (xs ys : List ℕ) → AllAre p (xs ++ ys) → AllAre p ys
-AllAre-back p [] ys h = h
-AllAre-back p (x ∷ xs) ys h = AllAre-back p xs ys h.1
 
 -- the second front of one list is longer
 pub record Overhang (xs ys a b : List ℕ) : Type 0 where
