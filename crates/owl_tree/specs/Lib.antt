@@ -3,6 +3,7 @@ pub mod Rows
 pub mod Places
 pub mod PlacesLaws
 pub mod Atoms
+pub mod Mixes
 pub mod Trees
 pub mod TreeLaws
 pub mod Equivalence

@@ -1,10 +1,12 @@
 //! What the leaves of trees hold.
 
 ghost use Rattle.std.specs.Prelude.{◌≡◌, ◌<◌, ◌^◌, IfOk};
+ghost use Rattle.std.specs.Str.{chars};
 ghost use Rattle.std.specs.Cmp.{partial_order_from_own_ties, partial_order_from_total};
 ghost use Rattle.std.specs.Ordering.{as_partial_cmp};
 ghost use Rattle.std.proofs.Common.{refl};
 ghost use Rattle.owl_tree.specs.Atoms.{IsAtom};
+ghost use Rattle.owl_tree.specs.Mixes.{mix_of, mix_step, mix_text};
 ghost use Rattle.owl_tree.specs.Order.{atom_cmp};
 ghost use Rattle.owl_tree.specs.Rows.{sort_of};
 ghost use Rattle.owl_tree.specs.OrderLaws.{atoms_total, only_equals_tie};
@@ -61,6 +63,29 @@ impl Atom {
         }
     }
 
+    /// A number by which a table may sort atoms, the same of equal ones: a
+    /// number itself; else 7, and for each byte of the texts, of a literal its
+    /// lexical form, datatype and tag, the number times 1000003 and the byte
+    /// more, modulo 2^64. Takes no memory.
+    #[tactic(auto, unfolding(crate::specs::Mixes::mix_of))]
+    pub fn mix(&self) -> u64
+        ensures { result ≡ mix_of self.now }
+    {
+        match self {
+            Atom::Iri(iri) => mix_text(7, iri.text()),
+            Atom::Label(label) => mix_text(7, label.text()),
+            Atom::Literal(literal) => {
+                let mix = mix_text(7, literal.lexical());
+                let mix = mix_text(mix, literal.datatype().text());
+                match literal.tag() {
+                    Some(tag) => mix_text(mix, tag),
+                    None => mix,
+                }
+            }
+            Atom::Number(number) => *number,
+        }
+    }
+
     fn sort(&self) -> AtomSort
         ensures { result ≡ sort_of self.now }
     {
@@ -101,6 +126,25 @@ impl Ord for Atom {
             _ => self.sort().cmp(&other.sort()),
         }
     }
+}
+
+/// The mix after the bytes of a text.
+fn mix_text(mix: u64, text: &str) -> u64
+    ensures { result ≡ mix_text mix (chars text.now) }
+{
+    let mut mixed = mix;
+    for byte in text.as_bytes() {
+        mixed = mix_step(mixed, *byte as u64);
+    }
+    mixed
+}
+
+/// The mix after one more number.
+#[tactic(auto, unfolding(crate::specs::Mixes::mix_step))]
+fn mix_step(mix: u64, number: u64) -> u64
+    ensures { result ≡ mix_step mix number }
+{
+    mix.wrapping_mul(1_000_003).wrapping_add(number)
 }
 
 /// Law: a number has 64 bits.
