@@ -1,5 +1,5 @@
 -- What equality of forms means.
-use Rattle.std.proofs.Common.{◌≡◌, ◌≤◌, length, ◌↔◌, IsTrue, Bool, false, ◌&&◌, ℕ, List, [], ◌∷◌, refl, ap, rules, tests}
+use Rattle.std.proofs.Common.{◌≡◌, ◌≤◌, length, ◌↔◌, IsTrue, Bool, ◌&&◌, ℕ, List, [], ◌∷◌, refl, ap, rules, tests}
 use Rattle.std.specs.Cmp.{first_so, second_so}
 use Rattle.std.specs.Cmp.Derive.{both_true}
 use Rattle.std.specs.Cmp.Lexicographic.{pointwise}
@@ -8,19 +8,12 @@ use Rattle.owl_arena.specs.declared.nodes.Form.{Form}
 use Rattle.owl_arena.specs.declared.nodes.Form.TheVariants as form
 use Rattle.owl_arena.specs.HeldLaws.{below_later, same_kids}
 use Rattle.owl_arena.specs.Held.{trees_at}
-use Rattle.owl_arena.specs.Nodes.{AreKidsBelow, tree_of}
+use Rattle.owl_arena.specs.Nodes.{AreKidsBelow, IsSameForm, tree_of}
 use Rattle.owl_arena.specs.Shared.{HaveOneNumber}
 use Rattle.owl_tree.specs.TreeLaws.{kids_of_only}
 use Rattle.owl_tree.specs.Trees.{Tree, kids_of}
 use Rattle.owl_arena.specs.contracts.expr_id.ExprIdPartialEq.TheImpl as ids
 use Rattle.owl_arena.specs.contracts.nodes.FormPartialEq.TheImpl as derived
-
--- the same tag, and the same atom or kids
-abbrev pub IsSameForm : Form → Form → Type 0
-IsSameForm (form.Leaf t a) (form.Leaf u b) = (t ≡ u) × (a ≡ b)
-IsSameForm (form.Leaf t a) (form.Branch u ls) = ⊥
-IsSameForm (form.Branch t ks) (form.Leaf u b) = ⊥
-IsSameForm (form.Branch t ks) (form.Branch u ls) = (t ≡ u) × (ks.items ≡ ls.items)
 
 both : (a b : Bool) (P Q : Type 0) → IsTrue a ↔ P → IsTrue b ↔ Q → IsTrue (a && b) ↔ (P × Q)
 both a b P Q p q = (λ h. (p.0 (first_so a b h), q.0 (second_so a b h)), λ h. both_true (p.1 h.0) (q.1 h.1))
@@ -41,10 +34,6 @@ same_form (form.Leaf t a) (form.Leaf u b) = both _ _ (t ≡ u) (a ≡ b) (same_t
 same_form (form.Leaf t a) (form.Branch u ls) = (λ h. cc, λ h. absurd h)
 same_form (form.Branch t ks) (form.Leaf u b) = (λ h. cc, λ h. absurd h)
 same_form (form.Branch t ks) (form.Branch u ls) = both _ _ (t ≡ u) (ks.items ≡ ls.items) (same_tag t u) (same_ids ks.items ls.items)
-
--- the test of equality told them apart
-pub apart : (f g : Form) → derived.ghosts.eq f g ≡ false → IsSameForm f g → ⊥
-apart f g e h = let t = (same_form f g).1 h in cc
 
 -- forms over the trees are the same exactly where their trees are
 pub same_tree : (ts : List Tree) (f g : Form) → IsSameForm f g → tree_of ts f ≡ tree_of ts g

@@ -1,26 +1,18 @@
 -- What the search for an equal form finds, and what one node more makes.
-use Rattle.std.proofs.Common.{◌≡◌, ◌<◌, ℕ, Option, Some, None, List, [], ◌∷◌, ◌++◌, length, get_or, slice_get, sym, ap, ◌∙◌, subst, arith}
+use Rattle.std.proofs.Common.{◌≡◌, ◌<◌, ℕ, Some, List, [], ◌∷◌, ◌++◌, length, get_or, slice_get, sym, ap, ◌∙◌, subst, arith}
 use Rattle.std.specs.List.{AllWithin, HoldsAt}
-use Rattle.std.specs.Option.{MatchOption}
 use Rattle.std.proofs.lemmas.List.{get_or_default, get_or_push, length_push}
-use Rattle.std.proofs.lemmas.Option.{MatchOption-at_some, MatchOption-at_none, slice_get-get_or}
+use Rattle.std.proofs.lemmas.Option.{slice_get-get_or}
 use Rattle.owl_tree.specs.Trees.{Tree}
 use Rattle.owl_arena.specs.declared.nodes.Form.{Form}
 use Rattle.owl_arena.specs.declared.nodes.Node.{Node}
 use Rattle.owl_arena.specs.Growth.{Lacks}
 use Rattle.owl_arena.specs.Held.{tree_at}
-use Rattle.owl_arena.specs.Nodes.{tree_of, grown, AreKidsBelow, IsMeasured, IsArena}
+use Rattle.owl_arena.specs.Nodes.{tree_of, grown, AreKidsBelow, Differs, HasForm, IsMeasured, IsArena, IsSameForm}
 use Rattle.owl_arena.specs.Shared.{AreShared, IsEntry, most_trees}
 use Rattle.owl_arena.specs.HeldLaws.{shared_more}
-use Rattle.owl_arena.proofs.Forms.{IsSameForm, kids_below_later, same_tree, same_tree_form}
+use Rattle.owl_arena.proofs.Forms.{kids_below_later, same_tree, same_tree_form}
 use Rattle.owl_arena.proofs.Grown.{below_at_node, grown_more, length_of_trees, measured_more, order_more, tree_at_node}
-
-abbrev pub Differs : Form → Node → Type 0
-Differs f n = IsSameForm n.form f → ⊥
-
--- the first node with such a form, if there is one
-abbrev pub IsFirst : List Node → Form → Option ℕ → Type 0
-IsFirst ns f r = MatchOption r (AllWithin (Differs f) ns 0 (length ns)) (λ i. (i < length ns) × HoldsAt (λ n. IsSameForm n.form f) ns i × AllWithin (Differs f) ns 0 i)
 
 pub record StandsAt (ts : List Tree) (f : Form) (place : ℕ) : Type 0 where
   pub few : place < most_trees
@@ -36,14 +28,12 @@ stands ns f place d arena inside same =
       here = slice_get-get_or ts place (tree_at ts place) (omega arith) ∙ ap Some (get_or_default ts place _ _ (omega arith) ∙ sym (tree_at_node ns arena place d inside) ∙ same_tree ts (get_or ns place d).form f same);
     }
 
-some_stands : (ns : List Node) (f : Form) (place : ℕ) → IsArena ns → place < length ns → HoldsAt (λ n. IsSameForm n.form f) ns place → StandsAt (grown [] ns) f place
+some_stands : (ns : List Node) (f : Form) (place : ℕ) → IsArena ns → place < length ns → HoldsAt (HasForm f) ns place → StandsAt (grown [] ns) f place
 some_stands [] f place arena inside h = absurd (omega arith)
 some_stands (n ∷ ns) f place arena inside h = stands (n ∷ ns) f place n arena inside (h n)
 
-pub found : (ts : List Tree) (ns : List Node) (f : Form) (r : Option ℕ) (place : ℕ) → grown [] ns ≡ ts → IsArena ns → IsFirst ns f r → r ≡ Some place → StandsAt ts f place
-found ts ns f r place e arena first is =
-    let at = MatchOption-at_some (AllWithin (Differs f) ns 0 (length ns)) (λ i. (i < length ns) × HoldsAt (λ n. IsSameForm n.form f) ns i × AllWithin (Differs f) ns 0 i) place is first in
-    subst (λ (us : List Tree). StandsAt us f place) e (some_stands ns f place arena at.0 at.1)
+pub found : (ts : List Tree) (ns : List Node) (f : Form) (place : ℕ) → grown [] ns ≡ ts → IsArena ns → place < length ns → HoldsAt (HasForm f) ns place → StandsAt ts f place
+found ts ns f place e arena inside h = subst (λ (us : List Tree). StandsAt us f place) e (some_stands ns f place arena inside h)
 
 differs : (ns : List Node) (f : Form) → IsArena ns → AreKidsBelow (length (grown [] ns)) f → (k : ℕ) (d : Node) → k < length ns → tree_at (grown [] ns) k ≡ tree_of (grown [] ns) f → Differs f (get_or ns k d) → ⊥
 differs ns f arena below k d inside e h =
@@ -62,10 +52,8 @@ lacks ns f arena below h m =
     let inside = m.1 in
     all_differ ns f arena below h m.0 (omega arith) (get_or_default (grown [] ns) m.0 _ _ inside ∙ m.2)
 
-pub not_found : (ts : List Tree) (ns : List Node) (f : Form) (r : Option ℕ) → grown [] ns ≡ ts → IsArena ns → AreKidsBelow (length ts) f → IsFirst ns f r → r ≡ None → Lacks ts (tree_of ts f)
-not_found ts ns f r e arena below first is =
-    let all = MatchOption-at_none (AllWithin (Differs f) ns 0 (length ns)) (λ i. (i < length ns) × HoldsAt (λ n. IsSameForm n.form f) ns i × AllWithin (Differs f) ns 0 i) is first in
-    subst (λ (us : List Tree). Lacks us (tree_of us f)) e (lacks ns f arena (subst (λ (us : List Tree). AreKidsBelow (length us) f) (sym e) below) all)
+pub not_found : (ts : List Tree) (ns : List Node) (f : Form) → grown [] ns ≡ ts → IsArena ns → AreKidsBelow (length ts) f → AllWithin (Differs f) ns 0 (length ns) → Lacks ts (tree_of ts f)
+not_found ts ns f e arena below h = subst (λ (us : List Tree). Lacks us (tree_of us f)) e (lacks ns f arena (subst (λ (us : List Tree). AreKidsBelow (length us) f) (sym e) below) h)
 
 -- a node may come behind the others
 pub record MayCome (ts : List Tree) (n : Node) : Type 0 where

@@ -1,3 +1,4 @@
+pub mod Chains
 pub mod Comparing
 pub mod Differences
 pub mod Forms
@@ -8,3 +9,4 @@ pub mod Kids
 pub mod Ordering
 pub mod Outcomes
 pub mod Shapes
+pub mod Tables

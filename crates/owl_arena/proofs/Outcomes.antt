@@ -1,6 +1,5 @@
 -- What comes of a node over kids that are there.
-use Rattle.std.proofs.Common.{◌≡◌, ◌<◌, ◌≤◌, List, [], ◌∷◌, ℕ, refl, sym, ap, ◌∙◌, subst}
-use Rattle.std.specs.Prelude.{map}
+use Rattle.std.proofs.Common.{◌≡◌, ◌<◌, ◌≤◌, List, [], ◌∷◌, ℕ, sym, ap, ◌∙◌, subst}
 use Rattle.owl_tree.specs.declared.tag.Tag.{Tag}
 use Rattle.owl_tree.specs.Canonical.{canonical, arranged}
 use Rattle.owl_tree.specs.CanonicalLaws.{canonical_again, canonical_depth, node_of_forms}

@@ -2,6 +2,8 @@ pub mod Held
 pub mod Shared
 pub mod Growth
 pub mod Nodes
+pub mod Mixes
+pub mod Chains
 pub mod HeldLaws
 pub mod Roots
 pub mod InOrder

@@ -20,6 +20,19 @@ abbrev pub grown : List Tree → List Node → List Tree
 grown ts [] = ts
 grown ts (n ∷ ns) = grown (ts ++ tree_of ts n.form ∷ []) ns
 
+-- the same tag, and the same atom or kids
+abbrev pub IsSameForm : Form → Form → Type 0
+IsSameForm (form.Leaf t a) (form.Leaf u b) = (t ≡ u) × (a ≡ b)
+IsSameForm (form.Leaf t a) (form.Branch u ls) = ⊥
+IsSameForm (form.Branch t ks) (form.Leaf u b) = ⊥
+IsSameForm (form.Branch t ks) (form.Branch u ls) = (t ≡ u) × (ks.items ≡ ls.items)
+
+abbrev pub HasForm : Form → Node → Type 0
+HasForm f n = IsSameForm n.form f
+
+abbrev pub Differs : Form → Node → Type 0
+Differs f n = IsSameForm n.form f → ⊥
+
 abbrev pub AreKidsBelow : ℕ → Form → Type 0
 AreKidsBelow place (form.Leaf tag atom) = Unit {0}
 AreKidsBelow place (form.Branch tag kids) = AllByRecursion (λ kid. kid < place) kids.items

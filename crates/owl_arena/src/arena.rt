@@ -15,6 +15,7 @@ ghost use Rattle.owl_tree.specs.Trees.{atom_in, depth, kids_in, kids_of, leaf, m
 use crate::expr_id::ExprId;
 use crate::grow::Grow;
 use crate::nodes::{Form, Node};
+use crate::table::Table;
 use owl_text::NoMemory;
 use owl_tree::{Atom, Tag};
 use std::alloc::Global;
@@ -37,7 +38,7 @@ const MOST_TREES: usize = 1 << 28;
 /// Its kids have smaller numbers than it. A number keeps its tree.
 #[derive(Debug, Drop)]
 pub struct Arena {
-    nodes: Vec<Node>,
+    table: Table,
 }
 
 impl Model for Arena {
@@ -47,12 +48,12 @@ impl Model for Arena {
 
     ghost coded = { held_code };
 
-    ghost use Rattle.std.specs.Prelude.{◌-◌, [], vec_capacity, vec_len};
+    ghost use Rattle.std.specs.Prelude.{◌-◌, [], length};
     ghost use Rattle.owl_arena.specs.Nodes.{IsArena, grown};
 
-    ghost view = { λ a. record { trees = grown [] a.nodes.items; spare = vec_capacity a.nodes - vec_len a.nodes } };
+    ghost view = { λ a. record { trees = grown [] a.table.nodes.items; spare = length a.table.heads.items - length a.table.nodes.items } };
 
-    ghost invariant = { λ a. IsArena a.nodes.items };
+    ghost invariant = { λ a. IsArena a.table.nodes.items };
 }
 
 impl Arena {
@@ -61,7 +62,7 @@ impl Arena {
         ensures { result.trees ≡ [] }
     {
         Arena {
-            nodes: Vec::new(alloc),
+            table: Table::new(alloc),
         }
     }
 
@@ -74,7 +75,7 @@ impl Arena {
         ensures kept { self.old.spare ≤ self.new.spare }
         ensures err { OnErr result (self.new ≡ self.old) }
     {
-        Ok(self.nodes.reserve(nodes)?)
+        self.table.reserve(nodes)
     }
 
     /// For how many more trees there is memory: so many calls that each add one
@@ -82,7 +83,7 @@ impl Arena {
     pub fn spare(&self) -> usize
         ensures { result ≡ self.now.spare }
     {
-        self.nodes.capacity() - self.nodes.len()
+        self.table.spare()
     }
 
     /// The number of the leaf, which is the earlier one where the leaf is there.
@@ -158,7 +159,7 @@ impl Arena {
         ensures too_heavy { IsErrOf result Grow.TooHeavy → IsTooHeavy (node_over self.now.trees tag kids.items) }
         ensures refusals { IfErr result IsRefusal }
     {
-        let _opened = &self.nodes;
+        let _opened = &self.table;
         if !self.fits(tag, &kids) {
             return Err(Grow::BadShape);
         }
@@ -237,7 +238,7 @@ impl Arena {
         ensures some { IfSome result (λ id. slice_get self.now.trees id ≡ Some (tree_of self.now.trees form.now)) }
         ensures none { IsNone result → Lacks self.now.trees (tree_of self.now.trees form.now) }
     {
-        let place = self.nodes.iter().position(|node| node.form == *form)?;
+        let place = self.table.find(form)?;
         Some(ExprId::at(place))
     }
 
@@ -254,9 +255,9 @@ impl Arena {
         ensures room { self.old.spare ≤ self.new.spare + 1 }
         ensures err { OnErr result (self.new ≡ self.old) }
     {
-        self.nodes.reserve(1)?;
-        let id = ExprId::at(self.nodes.len());
-        self.nodes.push(node).unwrap();
+        self.table.reserve(1)?;
+        let id = ExprId::at(self.table.len());
+        self.table.push(node);
         Ok(id)
     }
 
@@ -265,7 +266,7 @@ impl Arena {
     pub fn holds(&self, id: ExprId) -> bool
         ensures { IsTrue result ↔ (id < length self.now.trees) }
     {
-        id.place() < self.nodes.len()
+        id.place() < self.table.len()
     }
 
     /// How many trees there are, no two of which are equivalent.
@@ -275,7 +276,7 @@ impl Arena {
         ensures shared { AreShared self.now.trees }
         ensures one_number { TellEquivalence self.now.trees }
     {
-        self.nodes.len()
+        self.table.len()
     }
 
     /// The number of the tree at this place.
@@ -283,7 +284,7 @@ impl Arena {
         requires { place < length self.now.trees }
         ensures { result ≡ place }
     {
-        let _opened = &self.nodes;
+        let _opened = &self.table;
         ExprId::at(place)
     }
 
@@ -296,7 +297,7 @@ impl Arena {
         ensures measured { IsMeasured (tree_at self.now.trees id) result.now }
         ensures entry { IsEntry (tree_at self.now.trees id) }
     {
-        &self.nodes[id.place()]
+        self.table.at(id.place())
     }
 
     /// The tag of the tree.

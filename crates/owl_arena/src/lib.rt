@@ -8,6 +8,7 @@ mod nodes;
 mod order;
 mod sets;
 mod shape;
+mod table;
 
 pub use arena::{Arena, DEEPEST, HEAVIEST};
 pub use expr_id::ExprId;

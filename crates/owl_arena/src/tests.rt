@@ -1,3 +1,4 @@
 mod limits;
 mod made;
+mod numbers;
 mod rows;
