@@ -72,11 +72,15 @@ fn documents_are_read_in_two_pieces(rt: HostRuntime) -> Result<(), Fail> {
             "a:o a:v, 1 1 1, 5",
         ),
         (
+            b"Ontology(Annotation(rdfs:label \"\xC3\xA9\"^^xsd:string))",
+            "none none, 0 1 0, 4",
+        ),
+        (
             b"Ontology(Declaration(Class(<a:b>)) Class(<a:c>))",
             "NotHere at byte 35, in the item at byte 35",
         ),
     ] {
-        for cut in 0usize..document.len() {
+        for cut in 0..document.len() + 1 {
             let (first, second) = document.split_at(cut);
             let text = told(rt.alloc(), first, second)?;
             assert_eq!(rt; text.as_str(), want, "cut at {cut}");
@@ -118,6 +122,42 @@ fn refusals_are_printed(rt: HostRuntime) -> Result<(), Fail> {
         (ReadFault::NumberTooLarge, "a number is too large"),
         (ReadFault::Memory, "out of memory"),
     ] {
+        let text = format!(in rt.alloc(); "{fault}")?;
+        assert_eq!(rt; text.as_str(), want);
+    }
+    for (reason, want) in [
+        (Reason::BadUtf8, "BadUtf8 at byte 2, in the item at byte 1"),
+        (
+            Reason::BadToken,
+            "BadToken at byte 2, in the item at byte 1",
+        ),
+        (Reason::NotHere, "NotHere at byte 2, in the item at byte 1"),
+        (
+            Reason::UnknownPrefix,
+            "UnknownPrefix at byte 2, in the item at byte 1",
+        ),
+        (
+            Reason::PrefixTwice,
+            "PrefixTwice at byte 2, in the item at byte 1",
+        ),
+        (
+            Reason::PrefixFixed,
+            "PrefixFixed at byte 2, in the item at byte 1",
+        ),
+        (
+            Reason::BadLiteral,
+            "BadLiteral at byte 2, in the item at byte 1",
+        ),
+        (
+            Reason::EmptyKey,
+            "EmptyKey at byte 2, in the item at byte 1",
+        ),
+    ] {
+        let fault = ReadFault::Refused {
+            item_at: 1,
+            at: 2,
+            reason,
+        };
         let text = format!(in rt.alloc(); "{fault}")?;
         assert_eq!(rt; text.as_str(), want);
     }

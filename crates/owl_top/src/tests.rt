@@ -12,3 +12,20 @@ fn refusals_of_words_are_printed(rt: HostRuntime) -> Result<(), Fail> {
     }
     Ok(())
 }
+
+#[test]
+fn numbers_each_status(rt: HostRuntime) {
+    for (status, number) in [
+        (Status::Done, 0),
+        (Status::No, 1),
+        (Status::Words, 2),
+        (Status::Document, 3),
+        (Status::Target, 4),
+        (Status::Limit, 5),
+        (Status::ReadFailed, 6),
+        (Status::WriteFailed, 7),
+        (Status::Memory, 8),
+    ] {
+        assert_eq!(rt; status.number(), number);
+    }
+}

@@ -1,1 +1,2 @@
 mod atoms;
+mod tags;
