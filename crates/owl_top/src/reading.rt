@@ -1,6 +1,6 @@
 //! Reads the bytes of one document.
 
-ghost use Rattle.std.specs.Prelude.{◌≡◌, ◌≢◌, ◌+◌, ◌≤◌, length, None, IfOk, IfErr, OnOk};
+ghost use Rattle.std.specs.Prelude.{◌≡◌, ◌≢◌, ◌+◌, ◌++◌, ◌<◌, ◌≤◌, length, None, IfOk, IfErr, OnOk};
 ghost use Rattle.owl_text.specs.Limit.{most_bytes};
 ghost use Rattle.owl_doc.specs.Documents.{ontology_of};
 ghost use Rattle.fss_read.specs.Reading.{Leads, Refuses, Starts};
@@ -28,6 +28,16 @@ fn start(alloc: Global) -> Result<Reader, ReadFault>
     }
 }
 
+/// The next piece of what is left to feed, and what is behind it.
+fn next_piece(rest: &[u8]) -> (&[u8], &[u8])
+    requires { 0 < length rest.now }
+    ensures whole { rest.now ≡ result.0.now ++ result.1.now }
+    ensures shorter { length result.1.now < length rest.now }
+    ensures count { length rest.now ≡ length result.0.now + length result.1.now }
+{
+    rest.split_at(rest.len().min(PIECE))
+}
+
 /// Feeds a reader with all the bytes, piece by piece.
 fn feed_all(reader: &mut Reader, bytes: &[u8]) -> Result<(), ReadFault>
     requires open_yet { reader.old.refused ≡ None }
@@ -39,7 +49,7 @@ fn feed_all(reader: &mut Reader, bytes: &[u8]) -> Result<(), ReadFault>
 {
     let mut rest = bytes;
     while !rest.is_empty() {
-        let (piece, behind) = rest.split_at(rest.len().min(PIECE));
+        let (piece, behind) = next_piece(rest);
         reader.feed(piece)?;
         rest = behind;
     }
