@@ -1,10 +1,11 @@
 #!/usr/bin/env python3
-"""Compares owl with a second reader of the grammar, on random documents.
+"""Compares owl with a second reader and a second writer, on random documents.
 
-compare.py [COUNT [SEED]]: so many documents, 2000 if left out, three of four of
-them with wrong tokens. For each, owl and the second reader have to agree that it reads, or
-on the item, the place and the reason of its first defect. What reads is
-translated, and has to be the same as its translation.
+compare.py [COUNT [SEED [PROGRAM]]]: so many documents, 2000 if left out, three of
+four of them with wrong tokens. For each, the program, bin/owl if left out, and the
+second reader have to agree that it reads, or on the item, the place and the reason
+of its first defect. What reads is translated, byte for byte to what the second
+writer makes of it, and has to be the same as its translation.
 """
 
 import os
@@ -14,8 +15,10 @@ import sys
 import tempfile
 
 import second_reader
+import second_writer
 
 TOP = os.path.dirname(os.path.dirname(os.path.abspath(__file__)))
+PROGRAM = os.path.abspath(sys.argv[3]) if len(sys.argv) > 3 else os.path.join(TOP, "bin", "owl")
 OPEN, CLOSE = ("(", None), (")", None)
 
 
@@ -209,7 +212,7 @@ SHOWN = {
 
 
 def owl(*words):
-    done = subprocess.run([os.path.join(TOP, "out", "owl"), *words], capture_output=True, text=True)
+    done = subprocess.run([PROGRAM, *words], capture_output=True, text=True)
     return done.returncode, done.stdout, done.stderr.strip()
 
 
@@ -231,6 +234,10 @@ def agrees(text, placed):
         print(f"{text!r}\n  second reader: {wanted}\n  owl:           {told}")
         return False
     if translation is not None:
+        again = second_writer.text_of(text)
+        if translation != again:
+            print(f"{text!r}\n  second writer: {again!r}\n  owl:           {translation!r}")
+            return False
         with open("k.ofn", "w") as document:
             document.write(translation)
         if owl("same", "m.ofn", "k.ofn")[1] != "same\n":
@@ -242,8 +249,6 @@ def agrees(text, placed):
 def main():
     count = int(sys.argv[1]) if len(sys.argv) > 1 else 2000
     maker = Maker(random.Random(int(sys.argv[2]) if len(sys.argv) > 2 else 1))
-    # Builds the program where that is wanted.
-    subprocess.run([os.path.join(TOP, "owl")], capture_output=True)
     wrong = 0
     with tempfile.TemporaryDirectory() as room:
         os.chdir(room)

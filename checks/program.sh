@@ -1,0 +1,241 @@
+#!/usr/bin/env bash
+# Runs the program on files, as a user does, and tells what is not as it has to
+# be: checks/program.sh [PROGRAM], bin/owl if left out. Each call is made in a
+# folder that has to be the same afterwards. The last line counts what passed.
+set -uo pipefail
+shopt -s nullglob
+
+top=$(dirname -- "$(dirname -- "$(readlink -f -- "${BASH_SOURCE[0]}")")")
+program=$(readlink -f -- "${1:-$top/bin/owl}") && [[ -x $program ]] || {
+    echo "program: there is no program ${1:-bin/owl}"
+    echo "0 passed, 1 failed"
+    exit 1
+}
+room=$(mktemp -d) || exit
+trap 'chmod -R u+rwX -- "$room"; rm -rf -- "$room"' EXIT
+chmod 755 "$room"
+mkdir "$room/bin" "$room/work" "$room/seen"
+cp "$program" "$room/bin/owl" && cp "$program" "$room/bin/show" || exit
+cd "$room/work" || exit
+
+# An unreadable file can be read by root, so root lets nobody run the program.
+as=()
+if ((EUID == 0)); then
+    as=(setpriv --reuid=65534 --regid=65534 --clear-groups)
+    chown 65534:65534 "$room/work" "$room/seen"
+fi
+
+passed=0
+failed=0
+four='Prefix(owl:=<http://www.w3.org/2002/07/owl#>)
+Prefix(rdf:=<http://www.w3.org/1999/02/22-rdf-syntax-ns#>)
+Prefix(rdfs:=<http://www.w3.org/2000/01/rdf-schema#>)
+Prefix(xsd:=<http://www.w3.org/2001/XMLSchema#>)
+'
+nothing="${four}Ontology(
+)
+"
+done_line='translated; axioms 0; absorbed 0
+'
+
+# What is in the folder, and in each file that can be read.
+listing() {
+    find . -type p -printf '%p %y %m\n' -o -printf '%p %y %m %s %T@\n' | LC_ALL=C sort
+    find . -type f -size -1000k -exec sha256sum {} + 2>/dev/null | LC_ALL=C sort
+}
+
+judge() {
+    local what=$1 wrong=$2
+    if [[ -z $wrong ]]; then
+        passed=$((passed + 1))
+    else
+        failed=$((failed + 1))
+        echo "program: $what: $wrong"
+    fi
+}
+
+# Judges a call by its status, its output and its note, which stand in seen/.
+# An output that begins with / is the name of the file that has it.
+is_so() {
+    local what=$1 status=$2 wanted=$3 output=$4 note=$5 before=$6 wrong=
+    ((status == wanted)) || wrong="status $status and not $wanted; "
+    [[ $output == /* ]] || { printf '%s' "$output" >"$room/wanted" && output=$room/wanted; }
+    cmp -s "$output" "$room/seen/output" || wrong+="another output, of $(stat -c %s "$room/seen/output") bytes; "
+    printf '%s' "$note" | cmp -s - "$room/seen/note" || wrong+="another note: $(head -c 200 "$room/seen/note"); "
+    [[ $(listing) == "$before" ]] || wrong+="the folder is another one; "
+    judge "$what" "$wrong"
+}
+
+# call WHAT STATUS OUTPUT NOTE WORD..: runs the program with these words.
+call() {
+    local what=$1 wanted=$2 output=$3 note=$4 before
+    shift 4
+    before=$(listing)
+    "${as[@]}" "$room/bin/owl" "$@" </dev/null >"$room/seen/output" 2>"$room/seen/note"
+    is_so "$what" $? "$wanted" "$output" "$note" "$before"
+}
+
+# shell WHAT STATUS OUTPUT NOTE COMMAND: runs a command line in which $owl is the
+# program, for other streams.
+shell() {
+    local what=$1 wanted=$2 output=$3 note=$4 before
+    before=$(listing)
+    owl=$room/bin/owl show=$room/bin/show room=$room "${as[@]}" bash -c "$5" </dev/null >"$room/seen/output" 2>"$room/seen/note"
+    is_so "$what" $? "$wanted" "$output" "$note" "$before"
+}
+
+# A text so many times.
+times() {
+    printf "%0.s$2" $(seq "$1")
+}
+
+# --- The documents.
+printf 'Ontology()' >m.ofn
+cp m.ofn 'two words.ofn'
+cp m.ofn 'Größe ξ 楽器.ofn'
+cp m.ofn ./-m.ofn
+long=$(times 240 n).ofn
+cp m.ofn "$long"
+lost=$(times 120 lost).ofn
+printf 'Prefix(:=<http://e/>) Ontology(<http://e/o> <http://e/v> SubClassOf(:A :B) Declaration(Class(:A)))' >a.ofn
+printf '\357\273\277Prefix(e:=<http://e/>)\nOntology(e:o e:v # the same\n Declaration(Class(e:A)) SubClassOf(e:A e:B) SubClassOf(e:A e:B))\n' >b.ofn
+printf 'Prefix(:=<http://e/>) Ontology(<http://e/o> <http://e/v> SubClassOf(:B :A) Declaration(Class(:A)))' >c.ofn
+printf 'Ontology(<http://e/o> SubClassOf(<http://e/A>))' >wrong.ofn
+printf 'Ontology(\377)' >bytes.ofn
+printf 'Ontology(Import(<http://e/i>))' >import.ofn
+printf 'Ontology(SubClassOf(%s<http://e/A>%s <http://e/B>))' "$(times 127 'ObjectComplementOf(')" "$(times 127 ')')" >deep.ofn
+printf 'Ontology(SubClassOf(<http://e/A> ObjectMinCardinality(18446744073709551616 <http://e/p>)))' >large.ofn
+string=$(head -c 3000000 /dev/zero | tr '\0' s)
+printf 'Ontology(Annotation(rdfs:label "%s"))' "$string" >string.ofn
+printf '%sOntology(\nAnnotation(rdfs:label "%s")\n)\n' "$four" "$string" >"$room/string"
+truncate -s $((2 ** 27 + 1)) big.ofn
+{ printf 'Ontology()' && head -c $((2 ** 27 - 10)) /dev/zero | tr '\0' ' '; } >full.ofn
+# A chain of so many properties weighs five more than it has members.
+chain() {
+    printf 'Prefix(:=<http://e/>) Ontology(SubObjectPropertyOf(ObjectPropertyChain('
+    yes ':p' | head -n "$1"
+    printf ') :p))'
+}
+chain $((2 ** 24 - 4)) >heavy.ofn
+chain $((2 ** 24 - 3)) >heavier.ofn
+mkdir folder.ofn
+cp m.ofn secret.ofn && chmod 000 secret.ofn
+mkfifo pipe.ofn
+cp "$top/examples/instruments.ofn" instruments.ofn
+[[ ${#as[@]} == 0 ]] || chown -R 65534:65534 .
+
+# --- Each status, with both streams.
+call 'an empty ontology is translated' 0 "$nothing" "$done_line" translate --to fss m.ofn
+call 'the example is translated' 0 "$top/crates/owl_cli/stdout" \
+    "translated; axioms $(grep -c -v -E '^(Prefix\(|Annotation\(|Ontology\(|\)$)' "$top/crates/owl_cli/stdout"); absorbed 0
+" translate --to fss instruments.ofn
+call 'an ontology is shown' 0 'ontology <http://e/o>
+version <http://e/v>
+imports 0
+annotations 0
+axioms 2
+distinct 5
+weight 7
+' 'shown
+' show a.ofn
+call 'two documents say the same' 0 'same
+' 'same
+' same a.ofn b.ofn
+call 'and the other way round' 0 'same
+' 'same
+' same b.ofn a.ofn
+call 'two documents differ' 1 'different
+' 'different
+' same a.ofn c.ofn
+call 'imports are compared' 1 'different
+' 'different
+' same import.ofn m.ofn
+call 'no words' 2 '' 'words
+'
+call 'one word too many' 2 '' 'words
+' show m.ofn a.ofn
+call 'another suffix' 2 '' 'words
+' show m.owl
+call 'a flag' 2 '' 'words
+' show -m.ofn
+call 'an empty word' 2 '' 'words
+' show ''
+call 'a word that is no UTF-8' 2 '' 'words
+' show $'m\377.ofn'
+shell 'the name of the program is no word' 2 '' 'words
+' '"$show" m.ofn'
+call 'a document ends too early' 3 '' 'wrong.ofn: item at 22: NotHere at 45
+' translate --to fss wrong.ofn
+call 'a byte that is no UTF-8' 3 '' 'bytes.ofn: item at 9: BadUtf8 at 9
+' show bytes.ofn
+call 'an import' 3 '' 'import.ofn: NotBuilt
+' translate --to fss import.ofn
+call 'the first document is told first' 3 '' 'wrong.ofn: item at 22: NotHere at 45
+' same wrong.ofn "$lost"
+call 'the second document is wrong' 3 '' 'bytes.ofn: item at 9: BadUtf8 at 9
+' same m.ofn bytes.ofn
+call '129 levels' 5 '' 'limit: Depth: deep.ofn
+' translate --to fss deep.ofn
+call 'a cardinality of 2^64' 5 '' 'limit: Cardinality: large.ofn
+' show large.ofn
+call 'a weight of 2^24' 0 "ontology none
+version none
+imports 0
+annotations 0
+axioms 1
+distinct 4
+weight $((2 ** 24))
+" 'shown
+' show heavy.ofn
+call 'a weight of 2^24 + 1' 5 '' 'limit: Weight: heavier.ofn
+' translate --to fss heavier.ofn
+call '2^27 + 1 bytes' 5 '' 'limit: DocumentBytes: big.ofn
+' translate --to fss big.ofn
+call '2^27 bytes' 0 "$nothing" "$done_line" translate --to fss full.ofn
+call 'no file' 6 '' 'read: no.ofn
+' translate --to fss no.ofn
+call 'no file of a long name' 6 '' "read: $lost
+" show "$lost"
+call 'a folder' 6 '' 'read: folder.ofn
+' show folder.ofn
+call 'an unreadable file' 6 '' 'read: secret.ofn
+' same m.ofn secret.ofn
+shell 'a full device' 7 '' 'write
+' '"$owl" translate --to fss m.ofn >/dev/full'
+shell 'a full device for a refusal' 3 '' 'bytes.ofn: item at 9: BadUtf8 at 9
+' '"$owl" show bytes.ofn >/dev/full'
+shell 'a closed output' 7 '' 'write
+' '"$owl" show m.ofn >&-'
+
+# --- Names, lengths and streams.
+call 'a name with a space' 0 "$nothing" "$done_line" translate --to fss 'two words.ofn'
+call 'a name beyond ASCII' 0 "$nothing" "$done_line" translate --to fss 'Größe ξ 楽器.ofn'
+call 'a name of 244 bytes' 0 "$nothing" "$done_line" translate --to fss "$long"
+call 'a name with its folder' 0 "$nothing" "$done_line" translate --to fss "$room/work/m.ofn"
+call 'a hyphen behind a folder' 0 "$nothing" "$done_line" translate --to fss ./-m.ofn
+call 'a text of 3 MB' 0 "$room/string" "$done_line" translate --to fss string.ofn
+shell 'a document from a pipe' 0 "$nothing" "$done_line" \
+    '{ printf "Ontology"; sleep 0.2; printf "()"; } >pipe.ofn & "$owl" translate --to fss pipe.ofn; ended=$?; wait; exit $ended'
+shell 'a full note' 0 "$nothing" '' '"$owl" translate --to fss m.ofn 2>/dev/full'
+shell 'a closed note' 1 'different
+' '' '"$owl" same a.ofn c.ofn 2>&-'
+shell 'an output that nobody reads' 7 '' 'write
+' '{ sleep 0.2; "$owl" translate --to fss m.ofn; } | true; exit ${PIPESTATUS[0]}'
+
+# --- The script.
+script() {
+    local what=$1 status=$2 wanted=$3
+    shift 3
+    "$@" >"$room/seen/output" 2>"$room/seen/note" </dev/null
+    local ended=$? wrong=
+    ((ended == status)) || wrong="status $ended and not $status; "
+    grep -q -- "$wanted" "$room/seen/output" "$room/seen/note" || wrong+="it doesn't say $wanted"
+    judge "$what" "$wrong"
+}
+script 'the script tells how to use it' 0 'usage: owl translate --to fss' "$top/owl" --help
+script 'the script tells the version' 0 "^owl $(<"$top/VERSION")," "$top/owl" --version
+script 'the script names its help' 2 'owl --help' "$top/owl" show
+script 'the script passes words and the status through' 6 'read: no  such.ofn' "$top/owl" show 'no  such.ofn'
+
+echo "$passed passed, $failed failed"
+((failed == 0))
