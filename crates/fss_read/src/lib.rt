@@ -13,6 +13,3 @@ mod token_fault;
 
 pub use fault::{ReadFault, Reason};
 pub use reader::Reader;
-
-#[cfg(test)]
-mod tests;

@@ -10,6 +10,3 @@ mod writer;
 
 pub use fault::WriteFault;
 pub use writer::{axiom_text, write};
-
-#[cfg(test)]
-mod tests;

@@ -13,6 +13,3 @@ mod table;
 pub use arena::{Arena, DEEPEST, HEAVIEST};
 pub use expr_id::ExprId;
 pub use grow::Grow;
-
-#[cfg(test)]
-mod tests;

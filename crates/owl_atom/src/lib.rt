@@ -20,6 +20,3 @@ pub use label::Label;
 pub use lexical::lexical_ok;
 pub use literal::Literal;
 pub use prefixes::Prefixes;
-
-#[cfg(test)]
-mod tests;

@@ -45,6 +45,3 @@ fn main(rt: HostRuntime) -> ExitCode {
     };
     ExitCode::from(status.number())
 }
-
-#[cfg(test)]
-mod tests;

@@ -21,6 +21,3 @@ pub use head::Head;
 pub use item::{Breach, Cant, Item, Why};
 pub use rule::Rule;
 pub use term::Term;
-
-#[cfg(test)]
-mod tests;

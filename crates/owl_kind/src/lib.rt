@@ -8,6 +8,3 @@ mod marks;
 
 pub use kind::{Kind, built_in};
 pub use kinds::Kinds;
-
-#[cfg(test)]
-mod tests;

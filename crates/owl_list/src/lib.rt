@@ -29,6 +29,3 @@ pub fn lists_in_order<T: Ord>()
     ensures again { (xs : List T) → IsAscending T.cmp xs → ascending T.cmp xs ≡ xs }
     ensures same { (xs ys : List T) → HoldSame xs ys ↔ (ascending T.cmp xs ≡ ascending T.cmp ys) }
 {}
-
-#[cfg(test)]
-mod tests;

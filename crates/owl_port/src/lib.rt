@@ -13,6 +13,3 @@ pub use mem_shelf::MemShelf;
 pub use mem_sink::MemSink;
 pub use outside::{Failed, Shelf, Sink};
 pub use whole::{ReadFault, put_all, read_all};
-
-#[cfg(test)]
-mod tests;

@@ -132,19 +132,3 @@ impl Sink for MemSink {
         Ok(count)
     }
 }
-
-#[cfg(test)]
-mod tests {
-    use super::*;
-    use crate::whole::put_all;
-    use std::test::Fail;
-
-    #[test]
-    fn a_count_stays_at_its_last_value(rt: HostRuntime) -> Result<(), Fail> {
-        let mut sink = MemSink::new(rt.alloc(), 0)?;
-        sink.faults = u64::MAX;
-        assert_eq!(rt; put_all(&mut sink, b"a".as_slice()), Err(Failed));
-        assert_eq!(rt; sink.faults, u64::MAX);
-        Ok(())
-    }
-}

@@ -31,6 +31,3 @@ pub use text::{NoMemory, Text};
 pub use token::{Dialect, Placed, Sign, Token};
 pub use utf8::Utf8Feed;
 pub use utf8_step::{BadUtf8, Utf8Step};
-
-#[cfg(test)]
-mod tests;

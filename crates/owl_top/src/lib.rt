@@ -14,6 +14,3 @@ mod trouble;
 pub use command::{Command, Target, WordsFault, words};
 pub use program::run;
 pub use status::Status;
-
-#[cfg(test)]
-mod tests;

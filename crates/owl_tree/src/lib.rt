@@ -14,6 +14,3 @@ pub use laws::{
 };
 pub use row::{AtomSort, Rest, Row, Sort};
 pub use tag::{Tag, tags_are_told_apart};
-
-#[cfg(test)]
-mod tests;

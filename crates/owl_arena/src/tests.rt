@@ -1,4 +1,0 @@
-mod limits;
-mod made;
-mod numbers;
-mod rows;

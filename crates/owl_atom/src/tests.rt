@@ -1,3 +1,0 @@
-mod datatypes;
-mod prefixes;
-mod values;

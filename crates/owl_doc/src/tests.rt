@@ -1,2 +1,0 @@
-mod made;
-mod rows;

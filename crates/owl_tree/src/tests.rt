@@ -1,2 +1,0 @@
-mod atoms;
-mod tags;

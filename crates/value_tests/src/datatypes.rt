@@ -1,0 +1,153 @@
+//! The datatypes that are built in.
+
+use owl_atom::{Iri, Literal, facet_ok, in_map, lexical_ok, reserved};
+use std::test::Fail;
+
+const RDF: &str = "http://www.w3.org/1999/02/22-rdf-syntax-ns#";
+
+const RDFS: &str = "http://www.w3.org/2000/01/rdf-schema#";
+
+const XSD: &str = "http://www.w3.org/2001/XMLSchema#";
+
+const OWL: &str = "http://www.w3.org/2002/07/owl#";
+
+/// The IRI of a name in a namespace.
+fn iri(rt: &HostRuntime, namespace: &str, name: &str) -> Result<Iri, Fail> {
+    Ok(Iri::of(rt.alloc(), &format!(in rt.alloc(); "{namespace}{name}")?)?)
+}
+
+#[test]
+fn forms_of_datatypes(rt: HostRuntime) -> Result<(), Fail> {
+    for (name, form, fits) in [
+        ("unsignedByte", "255", true),
+        ("unsignedByte", "256", false),
+        ("byte", "+007", true),
+        ("byte", "128", false),
+        ("byte", "-128", true),
+        ("byte", "-129", false),
+        ("nonNegativeInteger", "-0", true),
+        ("nonNegativeInteger", "-1", false),
+        ("nonNegativeInteger", "18446744073709551616", true),
+        ("positiveInteger", "0", false),
+        ("negativeInteger", "-1", true),
+        ("negativeInteger", "0", false),
+        ("long", "9223372036854775807", true),
+        ("long", "9223372036854775808", false),
+        ("long", "-9223372036854775808", true),
+        ("unsignedLong", "18446744073709551615", true),
+        ("unsignedLong", "18446744073709551616", false),
+        ("integer", "", false),
+        ("integer", "+", false),
+        ("integer", "1.0", false),
+        ("integer", "++5", false),
+        ("integer", "-340282366920938463463374607431768211456", true),
+        (
+            "nonNegativeInteger",
+            "-340282366920938463463374607431768211456",
+            false,
+        ),
+        (
+            "nonPositiveInteger",
+            "340282366920938463463374607431768211456",
+            false,
+        ),
+        ("boolean", "TRUE", false),
+        ("boolean", "true", true),
+        ("boolean", "1", true),
+        ("decimal", "1.", true),
+        ("decimal", ".5", true),
+        ("decimal", "-1.5", true),
+        ("decimal", "+0", true),
+        ("decimal", ".", false),
+        ("decimal", "", false),
+        ("decimal", "1e5", false),
+        ("decimal", "1.2.3", false),
+        ("string", "", true),
+        ("string", "any\ntext", true),
+        ("elsewhere", "+", true),
+    ] {
+        let datatype = iri(&rt, XSD, name)?;
+        let literal = Literal::of(rt.alloc(), form, Some(datatype), None)?;
+        assert_eq!(rt; lexical_ok(&literal), fits, "{name} {form}");
+    }
+    Ok(())
+}
+
+#[test]
+fn datatypes_of_the_map(rt: HostRuntime) -> Result<(), Fail> {
+    for (namespace, names, mapped) in [
+        (OWL, "real rational", true),
+        (
+            XSD,
+            "decimal integer nonNegativeInteger nonPositiveInteger positiveInteger",
+            true,
+        ),
+        (
+            XSD,
+            "negativeInteger long int short byte unsignedLong unsignedInt",
+            true,
+        ),
+        (
+            XSD,
+            "unsignedShort unsignedByte double float dateTime dateTimeStamp",
+            true,
+        ),
+        (
+            XSD,
+            "string normalizedString token language Name NCName NMTOKEN anyURI",
+            true,
+        ),
+        (XSD, "hexBinary base64Binary boolean", true),
+        (RDF, "PlainLiteral XMLLiteral", true),
+        (RDFS, "Literal", false),
+        ("http://e/", "x", false),
+        (XSD, "duration", false),
+    ] {
+        for name in names.split(' ') {
+            let datatype = iri(&rt, namespace, name)?;
+            assert_eq!(rt; in_map(&datatype), mapped, "{name}");
+        }
+    }
+    Ok(())
+}
+
+#[test]
+fn facets_of_datatypes(rt: HostRuntime) -> Result<(), Fail> {
+    for (datatype_space, datatype, facet_space, facet, allowed) in [
+        (XSD, "decimal", XSD, "minInclusive", true),
+        (XSD, "decimal", XSD, "length", false),
+        (XSD, "string", XSD, "pattern", true),
+        (XSD, "string", RDF, "langRange", false),
+        (RDF, "PlainLiteral", RDF, "langRange", true),
+        (XSD, "hexBinary", XSD, "length", true),
+        (XSD, "hexBinary", XSD, "pattern", false),
+        (XSD, "boolean", XSD, "pattern", false),
+        (XSD, "boolean", XSD, "minInclusive", false),
+    ] {
+        let datatype = iri(&rt, datatype_space, datatype)?;
+        let facet = iri(&rt, facet_space, facet)?;
+        assert_eq!(rt;
+            facet_ok(&datatype, &facet),
+            allowed,
+            "{datatype:?} {facet:?}"
+        );
+    }
+    Ok(())
+}
+
+#[test]
+fn reserved_namespaces(rt: HostRuntime) -> Result<(), Fail> {
+    for (namespace, name, is_reserved) in [
+        (RDF, "type", true),
+        (RDFS, "label", true),
+        (XSD, "string", true),
+        (OWL, "Thing", true),
+        (OWL, "", true),
+        ("http://e/", "a", false),
+        ("http://www.w3.org/2002/07/owl", "", false),
+    ] {
+        let iri = iri(&rt, namespace, name)?;
+        assert_eq!(rt; reserved(&iri), is_reserved, "{namespace}{name}");
+    }
+    Ok(())
+}
