@@ -29,6 +29,8 @@ pub fn written_prefixes(alloc: Global, prefixes: &Prefixes) -> Result<Prefixes, 
         let (name, iri) = fixed.at(place);
         set_iri(&mut written, name, iri.copy(alloc)?)?;
     }
+    // Each name of the document is shortened by this table.
+    written.order_by_iri()?;
     Ok(written)
 }
 

@@ -5,6 +5,8 @@ pub mod LanguageTags
 pub mod LiteralForms
 pub mod PrefixTables
 pub mod Shortening
+pub mod Fronts
+pub mod ByIri
 pub mod LocalParts
 pub mod FixedPrefixes
 pub mod PrefixEdits

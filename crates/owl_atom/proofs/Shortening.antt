@@ -1,5 +1,5 @@
 -- The best of the prefixes that cut an IRI.
-use Rattle.std.proofs.Common.{◌≡◌, ◌<◌, ◌≤◌, ◌+◌, ◌⊎◌, ◌↔◌, inl, inr, ℕ, Bool, true, false, List, [], ◌∷◌, ◌++◌, length, Option, Some, None, IsNone, IfSome, refl, sym, ap, ◌∙◌, subst, length-append, arith}
+use Rattle.std.proofs.Common.{◌≡◌, ◌<◌, ◌≤◌, ◌+◌, ◌⊎◌, ◌↔◌, inl, inr, ℕ, zero, suc, Bool, true, false, List, [], ◌∷◌, ◌++◌, length, Option, Some, None, IsNone, IfSome, refl, sym, ap, ◌∙◌, subst, length-append, arith}
 use Rattle.std.specs.Prelude.{slice_get, Contains, if◌then◌else◌, nat_lt}
 use Rattle.std.specs.Option.{option_map}
 use Rattle.std.specs.Char.{encode_utf8}
@@ -7,10 +7,9 @@ use Rattle.std.specs.Str.{IsCharBoundary, encode_utf8_all}
 use Rattle.std.proofs.lemmas.Bool.{ltb-true, ltb-false, true≢false}
 use Rattle.std.proofs.lemmas.Option.{same_Some, get_or_from_slice_get}
 use Rattle.std.proofs.lemmas.Str.{length-le-encodes}
-use borrow.Author.Count.{below_more}
 use Rattle.owl_atom.specs.declared.prefixes.Prefix.{Prefix}
 use Rattle.owl_atom.specs.Prefixes.{AreAscending, IsBetter, Cuts, Shortens}
-use Rattle.owl_atom.specs.Places.{CutsAt, CutsNowhere, IsBestOf, IsBest, longer}
+use Rattle.owl_atom.specs.Places.{CutsAt, CutsNowhere, IsBestOf, IsBest, first, longer}
 use Rattle.owl_atom.specs.PrefixLaws.{contained, earlier_better, found, stands}
 use Rattle.owl_atom.proofs.PrefixTables.{ascends}
 
@@ -42,6 +41,22 @@ no_more (x ∷ a) (y ∷ b) c d e h =
     let most = no_more a b c d both.1 (rest_most x y a b both.0 h) in
     omega arith
 
+pub same_fronts : (a b c d : List ℕ) → a ++ c ≡ b ++ d → length a ≡ length b → a ≡ b
+same_fronts [] [] c d e h = refl
+same_fronts [] (y ∷ b) c d e h = absurd (omega arith)
+same_fronts (x ∷ a) [] c d e h = absurd (omega arith)
+same_fronts (x ∷ a) (y ∷ b) c d e h =
+    let both = same_head x y (a ++ c) (b ++ d) e in
+    let rest = same_fronts a b c d both.1 (omega arith) in
+    let first = both.0 in
+    cc
+
+pub same_sizes : (a b c d : List ℕ) → a ++ c ≡ b ++ d → length (encode_utf8_all a) ≡ length (encode_utf8_all b) → a ≡ b
+same_sizes a b c d e h =
+    let le = no_more a b c d e (omega arith) in
+    let ge = no_more b a d c (sym e) (omega arith) in
+    same_fronts a b c d e (omega arith)
+
 -- two cuts of one IRI
 
 longer_iri : (p q : Prefix) (iri : List ℕ) (i j : ℕ) → CutsAt p iri i → CutsAt q iri j → i < j → length p.iri < length q.iri
@@ -58,88 +73,119 @@ worse new old other lt (inl e) = inl (subst (λ (q : Prefix). length q.iri < len
 worse new old other lt (inr (inl h)) = inl (omega arith)
 worse new old other lt (inr (inr h)) = let same = h.0 in inl (omega arith)
 
--- one more prefix
+-- The best of two groups of prefixes, of which the second has none that is as long as the best of the first one, and
+-- better.
 
-module _ (prefixes : List Prefix) (n : ℕ) (iri : List ℕ) (p : Prefix) (up : AreAscending prefixes) (at_n : slice_get prefixes n ≡ Some p) where
-  it_is : (other : Prefix) → slice_get prefixes n ≡ Some other → p ≡ other
-  it_is other e = same_Some p other (sym at_n ∙ e)
+module _ (prefixes : List Prefix) (A B C : ℕ → Prefix → Type 0) (iri : List ℕ) (split : (k : ℕ) (p : Prefix) → C k p → A k p ⊎ B k p) (left : (k : ℕ) (p : Prefix) → A k p → C k p) (right : (k : ℕ) (p : Prefix) → B k p → C k p) where
+  -- no prefix of the second group is better than the best one of the first, where it is no longer
+  abbrev pub Keeps : Type 0
+  Keeps =
+      (place begin : ℕ) (old : IsBestOf prefixes A iri place begin) (k : ℕ) (other : Prefix) (rest : List ℕ) → B k other → slice_get prefixes k ≡ Some other → Cuts other iri rest
+      → length other.iri ≤ length old.prefix.iri → (other ≡ old.prefix) ⊎ IsBetter old.prefix other
 
-  compared : (b : Bool) (place begin other : ℕ) → b ≡ nat_lt begin other → IsBestOf prefixes n iri place begin → CutsAt p iri other → IsBest prefixes (n + 1) iri (if b then Some (n, other) else Some (place, begin))
-  compared true place begin other test old cut =
+  no_longer : (best other : Prefix) → (other ≡ best) ⊎ IsBetter best other → length other.iri ≤ length best.iri
+  no_longer best other (inl e) = let same = ap (λ (q : Prefix). length q.iri) e in omega arith
+  no_longer best other (inr (inl h)) = omega arith
+  no_longer best other (inr (inr h)) = let same = h.0 in omega arith
+
+  in_either : (X : Type 0) (k : ℕ) (p : Prefix) → (A k p → X) → (B k p → X) → C k p → X
+  in_either X k p a b c = elim (split k p c) as (λ _. X) [ inl h ↦ a h | inr h ↦ b h ]
+
+  compared : Keeps → (b : Bool) (place begin found other : ℕ) → b ≡ nat_lt begin other → IsBestOf prefixes A iri place begin → IsBestOf prefixes B iri found other → IsBest prefixes C iri (if b then Some (found, other) else Some (place, begin))
+  compared keeps true place begin found other test old new =
       let lt : begin < other = ltb-true begin other (sym test) in
-      let longer_one = longer_iri old.prefix p iri begin other old.cuts cut lt in
+      let more = longer_iri old.prefix new.prefix iri begin other old.cuts new.cuts lt in
       record {
-        prefix = p;
-        within = omega arith;
-        stands = at_n;
-        cuts = cut;
-        best = below_more (λ k. (other : Prefix) (rest : List ℕ) → slice_get prefixes k ≡ Some other → Cuts other iri rest → (other ≡ p) ⊎ IsBetter p other) n
-            (λ k lt other rest e h. inr (worse p old.prefix other longer_one (old.best k lt other rest e h)))
-            (λ other rest e h. inl (sym (it_is other e)));
+        prefix = new.prefix;
+        within = right found new.prefix new.within;
+        stands = new.stands;
+        cuts = new.cuts;
+        best = λ k q rest c e h. in_either ((q ≡ new.prefix) ⊎ IsBetter new.prefix q) k q (λ a. inr (worse new.prefix old.prefix q more (old.best k q rest a e h))) (λ b. new.best k q rest b e h) c;
       }
-  compared false place begin other test old cut =
+  compared keeps false place begin found other test old new =
       let le : other ≤ begin = ltb-false begin other (sym test) in
-      let kept : IsBetter old.prefix p = earlier_better old.prefix p (no_longer_iri p old.prefix iri other begin cut old.cuts le) (ascends prefixes place n old.prefix p up old.within old.stands at_n) in
+      let most = no_longer_iri new.prefix old.prefix iri other begin new.cuts old.cuts le in
       record {
         prefix = old.prefix;
-        within = let w = old.within in omega arith;
+        within = left place old.prefix old.within;
         stands = old.stands;
         cuts = old.cuts;
-        best = below_more (λ k. (other : Prefix) (rest : List ℕ) → slice_get prefixes k ≡ Some other → Cuts other iri rest → (other ≡ old.prefix) ⊎ IsBetter old.prefix other) n
-            old.best
-            (λ other rest e h. inr (subst (IsBetter old.prefix) (it_is other e) kept));
+        best = λ k q rest c e h. in_either ((q ≡ old.prefix) ⊎ IsBetter old.prefix q) k q (λ a. old.best k q rest a e h)
+            (λ b. let less = no_longer new.prefix q (new.best k q rest b e h) in keeps place begin old k q rest b e h (omega arith)) c;
       }
 
-  pub one_more : (best : Option (ℕ × ℕ)) (cut : Option ℕ) → IfSome cut (λ begin. CutsAt p iri begin) → (IsNone cut → CutsNowhere p iri) → IsBest prefixes n iri best → IsBest prefixes (n + 1) iri (longer best n cut)
-  one_more None None cuts nowhere old =
-      below_more (λ k. (other : Prefix) → slice_get prefixes k ≡ Some other → CutsNowhere other iri) n old
-      (λ other e. subst (λ q. CutsNowhere q iri) (it_is other e) (nowhere refl))
-  one_more (Some (place, begin)) None cuts nowhere old = record {
+  pub best_of_both : Keeps → (best cut : Option (ℕ × ℕ)) → IsBest prefixes A iri best → IsBest prefixes B iri cut → IsBest prefixes C iri (longer best cut)
+  best_of_both keeps None None old new = λ k q c e local cut. in_either ⊥ k q (λ a. old k q a e local cut) (λ b. new k q b e local cut) c
+  best_of_both keeps (Some (place, begin)) None old new = record {
     prefix = old.prefix;
-    within = let w = old.within in omega arith;
+    within = left place old.prefix old.within;
     stands = old.stands;
     cuts = old.cuts;
-    best = below_more (λ k. (other : Prefix) (rest : List ℕ) → slice_get prefixes k ≡ Some other → Cuts other iri rest → (other ≡ old.prefix) ⊎ IsBetter old.prefix other) n
-        old.best
-        (λ other rest e h. absurd (nowhere refl rest (subst (λ q. Cuts q iri rest) (sym (it_is other e)) h)));
+    best = λ k q rest c e h. in_either ((q ≡ old.prefix) ⊎ IsBetter old.prefix q) k q (λ a. old.best k q rest a e h) (λ b. absurd (new k q b e rest h)) c;
   }
-  one_more None (Some begin) cuts nowhere old = record {
-    prefix = p;
-    within = omega arith;
-    stands = at_n;
-    cuts = cuts;
-    best = below_more (λ k. (other : Prefix) (rest : List ℕ) → slice_get prefixes k ≡ Some other → Cuts other iri rest → (other ≡ p) ⊎ IsBetter p other) n
-        (λ k lt other rest e h. absurd (old k lt other e rest h))
-        (λ other rest e h. inl (sym (it_is other e)));
+  best_of_both keeps None (Some (place, begin)) old new = record {
+    prefix = new.prefix;
+    within = right place new.prefix new.within;
+    stands = new.stands;
+    cuts = new.cuts;
+    best = λ k q rest c e h. in_either ((q ≡ new.prefix) ⊎ IsBetter new.prefix q) k q (λ a. absurd (old k q a e rest h)) (λ b. new.best k q rest b e h) c;
   }
-  one_more (Some (place, begin)) (Some other) cuts nowhere old = compared (nat_lt begin other) place begin other refl old cuts
+  best_of_both keeps (Some (place, begin)) (Some (found, other)) old new = compared keeps (nat_lt begin other) place begin found other refl old new
+
+-- one more prefix
+
+pub at_or_before : (n k : ℕ) → k < n + 1 → (k < n) ⊎ (k ≡ n)
+at_or_before zero zero h = inr refl
+at_or_before zero (suc k) h = absurd (omega arith)
+at_or_before (suc n) zero h = inl (omega arith)
+at_or_before (suc n) (suc k) h = elim (at_or_before n k (omega arith)) as (λ _. (suc k < suc n) ⊎ (suc k ≡ suc n)) [ inl lt ↦ inl (omega arith) | inr e ↦ inr (ap suc e) ]
+
+pub one_more : (prefixes : List Prefix) (n : ℕ) (iri : List ℕ) (best cut : Option (ℕ × ℕ)) → AreAscending prefixes → IsBest prefixes (first n) iri best → IsBest prefixes (λ k p. k ≡ n) iri cut → IsBest prefixes (first (n + 1)) iri (longer best cut)
+one_more prefixes n iri best cut up =
+    best_of_both prefixes (first n) (λ k p. k ≡ n) (first (n + 1)) iri
+    (λ k p lt. at_or_before n k lt)
+    (λ k p lt. omega arith)
+    (λ k p e. omega arith)
+    (λ place begin old k other rest e stands cuts le. inr (earlier_better old.prefix other le (ascends prefixes place k old.prefix other up (let w = old.within in omega arith) old.stands stands)))
+    best cut
+
+-- what the prefix at one place gives
+pub one : (prefixes : List Prefix) (n : ℕ) (iri : List ℕ) (p : Prefix) (cut : Option ℕ) → slice_get prefixes n ≡ Some p → IfSome cut (λ begin. CutsAt p iri begin) → (IsNone cut → CutsNowhere p iri) → IsBest prefixes (λ k q. k ≡ n) iri (option_map (λ begin. (n, begin)) cut)
+one prefixes n iri p None at_n cuts nowhere = λ k q e stands. subst (λ x. CutsNowhere x iri) (same_Some p q (sym at_n ∙ ap (slice_get prefixes) (sym e) ∙ stands)) (nowhere refl)
+one prefixes n iri p (Some begin) at_n cuts nowhere = record {
+  prefix = p;
+  within = refl;
+  stands = at_n;
+  cuts = cuts;
+  best = λ k q rest e stands h. inl (same_Some q p (sym stands ∙ ap (slice_get prefixes) e ∙ at_n));
+}
 
 -- the best of all
 
-shortens : (prefixes : List Prefix) (iri : List ℕ) (place begin : ℕ) → AreAscending prefixes → IsBestOf prefixes (length prefixes) iri place begin → Shortens prefixes iri place begin
+shortens : (prefixes : List Prefix) (iri : List ℕ) (place begin : ℕ) → AreAscending prefixes → IsBestOf prefixes (first (length prefixes)) iri place begin → Shortens prefixes iri place begin
 shortens prefixes iri place begin up h = record {
   prefix = h.prefix;
   local = h.cuts.local;
   stands = h.stands;
   cuts = h.cuts.cuts;
   begins = h.cuts.begins;
-  best = λ other rest c cut. h.best c.0 c.1 other rest (contained prefixes other c) cut;
+  best = λ other rest c cut. h.best c.0 other rest c.1 (contained prefixes other c) cut;
   back =
       ap (λ o. option_map (λ front. front ++ h.cuts.local) (option_map (λ (q : Prefix). q.iri) o)) (found prefixes h.prefix.name place h.prefix (stands prefixes place h.prefix up h.stands) h.stands).looked_up
       ∙ ap Some (sym h.cuts.cuts.parts);
 }
 
-pub best_shortens : (prefixes : List Prefix) (iri : List ℕ) (r : Option (ℕ × ℕ)) → AreAscending prefixes → IsBest prefixes (length prefixes) iri r → IfSome r (λ cut. Shortens prefixes iri cut.0 cut.1)
+pub best_shortens : (prefixes : List Prefix) (iri : List ℕ) (r : Option (ℕ × ℕ)) → AreAscending prefixes → IsBest prefixes (first (length prefixes)) iri r → IfSome r (λ cut. Shortens prefixes iri cut.0 cut.1)
 best_shortens prefixes iri None up h = tt
 best_shortens prefixes iri (Some (place, begin)) up h = shortens prefixes iri place begin up h
 
-pub none_cuts : (prefixes : List Prefix) (iri : List ℕ) (r : Option (ℕ × ℕ)) → IsBest prefixes (length prefixes) iri r → IsNone r ↔ ((prefix : Prefix) (local : List ℕ) → Contains prefixes prefix → Cuts prefix iri local → ⊥)
-none_cuts prefixes iri None h = (λ _ prefix local c cut. h c.0 c.1 prefix (contained prefixes prefix c) local cut, λ _. refl)
+pub none_cuts : (prefixes : List Prefix) (iri : List ℕ) (r : Option (ℕ × ℕ)) → IsBest prefixes (first (length prefixes)) iri r → IsNone r ↔ ((prefix : Prefix) (local : List ℕ) → Contains prefixes prefix → Cuts prefix iri local → ⊥)
+none_cuts prefixes iri None h = (λ _ prefix local c cut. h c.0 prefix c.1 (contained prefixes prefix c) local cut, λ _. refl)
 none_cuts prefixes iri (Some (place, begin)) h = (
   λ t. absurd (true≢false t),
   λ none. absurd (none h.prefix h.cuts.local (place, h.within, get_or_from_slice_get prefixes place h.prefix h.prefix h.stands) h.cuts.cuts),
 )
 
-pub at_boundary : (prefixes : List Prefix) (count : ℕ) (iri : List ℕ) (r : Option (ℕ × ℕ)) → IsBest prefixes count iri r → IfSome r (λ cut. IsCharBoundary (encode_utf8_all iri) cut.1)
-at_boundary prefixes count iri None h = tt
-at_boundary prefixes count iri (Some (place, begin)) h = h.cuts.boundary
+pub at_boundary : (prefixes : List Prefix) (among : ℕ → Prefix → Type 0) (iri : List ℕ) (r : Option (ℕ × ℕ)) → IsBest prefixes among iri r → IfSome r (λ cut. IsCharBoundary (encode_utf8_all iri) cut.1)
+at_boundary prefixes among iri None h = tt
+at_boundary prefixes among iri (Some (place, begin)) h = h.cuts.boundary

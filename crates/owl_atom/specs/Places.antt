@@ -29,21 +29,25 @@ pub record CutsAt (prefix : Prefix) (iri : List ℕ) (begin : ℕ) : Type 0 wher
 abbrev pub CutsNowhere : Prefix → List ℕ → Type 0
 CutsNowhere prefix iri = (local : List ℕ) → Cuts prefix iri local → ⊥
 
--- of the first prefixes, so many, the one at this place cuts the IRI best
-pub record IsBestOf (prefixes : List Prefix) (count : ℕ) (iri : List ℕ) (place begin : ℕ) : Type 0 where
+-- of the prefixes that are asked for by their places and what they are, the one at this place cuts the IRI best
+pub record IsBestOf (prefixes : List Prefix) (among : ℕ → Prefix → Type 0) (iri : List ℕ) (place begin : ℕ) : Type 0 where
   pub prefix : Prefix
-  pub within : place < count
+  pub within : among place prefix
   pub stands : slice_get prefixes place ≡ Some prefix
   pub cuts : CutsAt prefix iri begin
-  pub best : (k : ℕ) → k < count → (other : Prefix) (rest : List ℕ) → slice_get prefixes k ≡ Some other → Cuts other iri rest → (other ≡ prefix) ⊎ IsBetter prefix other
+  pub best : (k : ℕ) (other : Prefix) (rest : List ℕ) → among k other → slice_get prefixes k ≡ Some other → Cuts other iri rest → (other ≡ prefix) ⊎ IsBetter prefix other
 
 -- or none of them cuts it
-abbrev pub IsBest : List Prefix → ℕ → List ℕ → Option (ℕ × ℕ) → Type 0
-IsBest prefixes count iri None = (k : ℕ) → k < count → (other : Prefix) → slice_get prefixes k ≡ Some other → CutsNowhere other iri
-IsBest prefixes count iri (Some (place, begin)) = IsBestOf prefixes count iri place begin
+abbrev pub IsBest : List Prefix → (ℕ → Prefix → Type 0) → List ℕ → Option (ℕ × ℕ) → Type 0
+IsBest prefixes among iri None = (k : ℕ) (other : Prefix) → among k other → slice_get prefixes k ≡ Some other → CutsNowhere other iri
+IsBest prefixes among iri (Some (place, begin)) = IsBestOf prefixes among iri place begin
+
+-- the first prefixes, so many
+abbrev pub first : ℕ → ℕ → Prefix → Type 0
+first count place prefix = place < count
 
 -- the longer cut of two, and the earlier of two that are as long
-abbrev pub longer : Option (ℕ × ℕ) → ℕ → Option ℕ → Option (ℕ × ℕ)
-longer best place None = best
-longer None place (Some begin) = Some (place, begin)
-longer (Some (found, begin)) place (Some other) = if nat_lt begin other then Some (place, other) else Some (found, begin)
+abbrev pub longer : Option (ℕ × ℕ) → Option (ℕ × ℕ) → Option (ℕ × ℕ)
+longer best None = best
+longer None (Some cut) = Some cut
+longer (Some (found, begin)) (Some (place, other)) = if nat_lt begin other then Some (place, other) else Some (found, begin)

@@ -8,9 +8,10 @@ ghost use Rattle.owl_text.specs.Order.{text_cmp, text_eq};
 ghost use Rattle.owl_atom.specs.declared.fault.DeclareFault.{DeclareFault};
 ghost use Rattle.owl_atom.specs.declared.fault.ExpandFault.{ExpandFault};
 ghost use Rattle.owl_atom.specs.declared.prefixes.Prefix.{Prefix};
-ghost use Rattle.owl_atom.specs.Places.{IsPlaceOf, IsGapFor, CutsAt, CutsNowhere, IsBest, longer};
+ghost use Rattle.owl_atom.specs.Places.{IsPlaceOf, IsGapFor, CutsAt, CutsNowhere, IsBest, first, longer};
 ghost use Rattle.owl_atom.specs.Prefixes.{prefix_in, AreAscending, IsTable, is_declared, is_fixed, fixed, fixed_prefixes, iri_of, expansion, is_plain_start, is_plain_character, IsPlainLocal, Cuts, Shortens};
 
+use crate::by_iri::ByIri;
 use crate::fault::{DeclareFault, ExpandFault};
 use crate::iri::Iri;
 use crate::vocabulary::{OWL, RDF, RDFS, XSD};
@@ -32,18 +33,21 @@ pub struct Prefix {
 #[derive(Debug, Drop)]
 pub struct Prefixes {
     held: Vec<Prefix>,
+    by_iri: Option<ByIri>,
 }
 
 impl Model for Prefixes {
     ghost use Rattle.std.specs.Prelude.{List};
     ghost use Rattle.owl_atom.specs.declared.prefixes.Prefix.{Prefix};
+    ghost use Rattle.std.specs.Prelude.{IfSome};
     ghost use Rattle.owl_atom.specs.Prefixes.{IsTable};
+    ghost use Rattle.owl_atom.specs.ByIri.{IsIndex};
 
     ghost Value = { List Prefix };
 
     ghost view = { λ p. p.held.items };
 
-    ghost invariant = { λ p. IsTable p.held.items };
+    ghost invariant = { λ p. IsTable p.held.items × IfSome p.by_iri (λ index. IsIndex p.held.items index) };
 }
 
 impl Prefixes {
@@ -53,6 +57,7 @@ impl Prefixes {
     {
         Prefixes {
             held: Vec::new(alloc),
+            by_iri: None,
         }
     }
 
@@ -66,7 +71,7 @@ impl Prefixes {
         push(&mut held, fixed(alloc, "rdf", RDF)?)?;
         push(&mut held, fixed(alloc, "rdfs", RDFS)?)?;
         push(&mut held, fixed(alloc, "xsd", XSD)?)?;
-        Ok(Prefixes { held })
+        Ok(Prefixes { held, by_iri: None })
     }
 
     /// An equal table.
@@ -74,7 +79,7 @@ impl Prefixes {
         ensures { IfOk result (λ prefixes. prefixes ≡ self.now) }
     {
         let held = copy_all(alloc, &self.held)?;
-        Ok(Prefixes { held })
+        Ok(Prefixes { held, by_iri: None })
     }
 
     /// How many prefixes there are.
@@ -119,6 +124,7 @@ impl Prefixes {
         ensures others { (other : List ℕ) → other ≢ chars name.now → prefix_in self.new other ≡ prefix_in self.old other }
         ensures err { OnErr result (self.new ≡ self.old) }
     {
+        self.by_iri = None;
         match place_of(&self.held, name) {
             Ok(place) => declare_again(&mut self.held[place], iri),
             Err(place) => Ok(add(&mut self.held, place, name, iri, true)?),
@@ -134,6 +140,7 @@ impl Prefixes {
         ensures others { (other : List ℕ) → other ≢ chars name.now → prefix_in self.new other ≡ prefix_in self.old other }
         ensures err { OnErr result (self.new ≡ self.old) }
     {
+        self.by_iri = None;
         match place_of(&self.held, name) {
             Ok(place) => {
                 self.held[place].iri = iri;
@@ -165,7 +172,20 @@ impl Prefixes {
         ensures none { IsNone result ↔ ((prefix : Prefix) (local : List ℕ) → Contains self.now prefix → Cuts prefix iri.now local → ⊥) }
         ensures boundary { IfSome result (λ r. IsCharBoundary (encode_utf8_all iri.now) r.1) }
     {
-        best_of(&self.held, iri)
+        match &self.by_iri {
+            Some(index) => index.best_of(iri),
+            None => best_of(&self.held, iri),
+        }
+    }
+
+    /// Has `shorten` look for IRIs, and not try each prefix, until a prefix is
+    /// declared or set.
+    pub fn order_by_iri(&mut self) -> Result<(), NoMemory>
+        ensures { self.new ≡ self.old }
+    {
+        let index = ByIri::of(*self.held.allocator(), &self.held)?;
+        self.by_iri = Some(index);
+        Ok(())
     }
 }
 
@@ -242,10 +262,10 @@ fn put(held: &mut Vec<Prefix>, place: usize, prefix: Prefix) -> Result<(), Alloc
     Ok(held.insert(place, prefix)?)
 }
 
-fn push(held: &mut Vec<Prefix>, prefix: Prefix) -> Result<(), AllocError>
-    ensures { OnOk result (held.new.items ≡ held.old.items ++ prefix ∷ []) }
+pub fn push<T: Drop>(items: &mut Vec<T>, item: T) -> Result<(), AllocError>
+    ensures { OnOk result (items.new.items ≡ items.old.items ++ item ∷ []) }
 {
-    Ok(held.push(prefix)?)
+    Ok(items.push(item)?)
 }
 
 /// A prefix that is declared beforehand.
@@ -289,24 +309,33 @@ fn copy_of(alloc: Global, prefix: &Prefix) -> Result<Prefix, NoMemory>
 /// The best of the prefixes that cut the IRI, with the byte where it cuts.
 fn best_of(held: &[Prefix], iri: &Iri) -> Option<(usize, usize)>
     requires { AreAscending held.now }
-    ensures { IsBest held.now (length held.now) iri.now result }
+    ensures { IsBest held.now (first (length held.now)) iri.now result }
 {
     let mut best = None;
     for place in 0..held.len() {
-        best = better(best, place, cut(&held[place], iri));
+        best = longer(best, cut_at(held, place, iri));
     }
     best
 }
 
 /// The longer cut of two, and the earlier of two that are as long.
-fn better(best: Option<(usize, usize)>, place: usize, cut: Option<usize>) -> Option<(usize, usize)>
-    ensures { result ≡ longer best place cut }
+pub fn longer(best: Option<(usize, usize)>, cut: Option<(usize, usize)>) -> Option<(usize, usize)>
+    ensures { result ≡ longer best cut }
 {
     match (best, cut) {
         (_, None) => best,
-        (Some((_, begin)), Some(other)) if other <= begin => best,
-        (_, Some(begin)) => Some((place, begin)),
+        (Some((_, begin)), Some((_, other))) if other <= begin => best,
+        (_, Some(_)) => cut,
     }
+}
+
+/// The place, and where the local part of the IRI begins, where the prefix at
+/// the place cuts it.
+fn cut_at(held: &[Prefix], place: usize, iri: &Iri) -> Option<(usize, usize)>
+    requires { place < length held.now }
+    ensures { IsBest held.now (λ k prefix. k ≡ place) iri.now result }
+{
+    cut(&held[place], iri).map(|begin| (place, begin))
 }
 
 /// Where the local part of the IRI begins, where the prefix cuts it.
@@ -323,7 +352,7 @@ fn cut(prefix: &Prefix, iri: &Iri) -> Option<usize>
 
 /// Whether a local part is made of letters, digits, `_` and `-` alone, and
 /// begins with a letter or `_`.
-fn is_plain_local(text: &str) -> bool
+pub fn is_plain_local(text: &str) -> bool
     ensures { IsTrue result ↔ IsPlainLocal (chars text.now) }
 {
     begins_plain(text) && are_plain(text)

@@ -21,5 +21,5 @@ returns-in_ok-followed_by-in-Ok-clause-unknown c =
 
 pub returns-in-Err-clause-unknown : goal.returns-in-Err-clause-unknown
 returns-in-Err-clause-unknown c =
-    let none = absent_in _ _ c.args.self.now (chars c.args.name.now) c.in-Err.field-0 c.deref.ensures.value c.self.view_is c.self.invariant.ascending c.in-Err.ensures.absent in
+    let none = absent_in _ _ c.args.self.now (chars c.args.name.now) c.in-Err.field-0 c.deref.ensures.value c.self.view_is c.self.invariant.0.ascending c.in-Err.ensures.absent in
     grind (arith, common_steps)

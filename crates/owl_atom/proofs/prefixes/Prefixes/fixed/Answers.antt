@@ -18,7 +18,7 @@ pub fixed-requires-4 : goal.fixed-requires-4
 fixed-requires-4 c = http_iri (codes "//www.w3.org/2001/XMLSchema#") refl refl
 
 pub invariant_of-result : goal.invariant_of-result
-invariant_of-result c = subst IsTable (sym (four _ _ _ _ _ _ _ _ _ c.new-held.ensures.items c.in_ok-push.ensures c.in_ok-push-2.ensures c.in_ok-push-3.ensures c.in_ok-push-4.ensures c.in_ok-fixed.ensures c.in_ok-fixed-2.ensures c.in_ok-fixed-3.ensures c.in_ok-fixed-4.ensures)) fixed_table
+invariant_of-result c = (subst IsTable (sym (four _ _ _ _ _ _ _ _ _ c.new-held.ensures.items c.in_ok-push.ensures c.in_ok-push-2.ensures c.in_ok-push-3.ensures c.in_ok-push-4.ensures c.in_ok-fixed.ensures c.in_ok-fixed-2.ensures c.in_ok-fixed-3.ensures c.in_ok-fixed-4.ensures)) fixed_table, tt)
 
 pub returns : goal.returns
 returns c = four _ _ _ _ _ _ _ _ _ c.new-held.ensures.items c.in_ok-push.ensures c.in_ok-push-2.ensures c.in_ok-push-3.ensures c.in_ok-push-4.ensures c.in_ok-fixed.ensures c.in_ok-fixed-2.ensures c.in_ok-fixed-3.ensures c.in_ok-fixed-4.ensures

@@ -10,4 +10,4 @@ returns-in-Ok c =
 
 pub returns-in-Err : goal.returns-in-Err
 returns-in-Err c =
-    sym (not_declared c.args.self.now (chars c.args.name.now) (absent_in _ _ c.args.self.now (chars c.args.name.now) c.in-Err.field-0 c.deref.ensures.value c.self.view_is c.self.invariant.ascending c.in-Err.ensures.absent))
+    sym (not_declared c.args.self.now (chars c.args.name.now) (absent_in _ _ c.args.self.now (chars c.args.name.now) c.in-Err.field-0 c.deref.ensures.value c.self.view_is c.self.invariant.0.ascending c.in-Err.ensures.absent))
