@@ -1,6 +1,6 @@
 //! Small trees, and what is told of them.
 
-use crate::trees::{kids, named, node, told};
+use crate::trees::{named, node, told};
 use owl_arena::{Arena, ExprId, Grow};
 use owl_atom::Label;
 use owl_tree::{Atom, Tag};
@@ -26,22 +26,6 @@ fn equal_unions_have_one_number(rt: HostRuntime) -> Result<(), Fail> {
     let refused = node(rt.alloc(), &mut arena, Tag::ObjectUnionOf, &[])?;
     assert_eq!(rt; refused, Err(Grow::BadShape));
     assert_eq!(rt; arena.distinct(), 3);
-    Ok(())
-}
-
-/// The places of the kids of a union whose later member was made first.
-fn kids_of_a_union(alloc: Global) -> Result<Vec<usize>, Fail> {
-    let mut arena = Arena::new(alloc);
-    let b = named(alloc, &mut arena, Tag::Class, 'B')?;
-    let a = named(alloc, &mut arena, Tag::Class, 'A')?;
-    let union = node(alloc, &mut arena, Tag::ObjectUnionOf, &[b, a, b])??;
-    kids(alloc, &arena, union)
-}
-
-#[test]
-fn members_stand_by_their_trees(rt: HostRuntime) -> Result<(), Fail> {
-    let places = kids_of_a_union(rt.alloc())?;
-    assert_eq!(rt; places.as_slice(), [1, 0].as_slice());
     Ok(())
 }
 
@@ -117,61 +101,5 @@ fn a_leaf_has_an_atom_of_its_sort(rt: HostRuntime) -> Result<(), Fail> {
         leaf_of_a_label(rt.alloc(), Tag::ObjectUnionOf)?,
         Err(Grow::BadShape)
     );
-    Ok(())
-}
-
-/// An InverseObjectProperties of properties with these names.
-fn inverses(alloc: Global, names: &str) -> Result<Result<ExprId, Grow>, Fail> {
-    let mut arena = Arena::new(alloc);
-    let mut members = Vec::new(alloc);
-    members.push(node(alloc, &mut arena, Tag::Notes, &[])??)?;
-    for name in names.chars() {
-        members.push(named(alloc, &mut arena, Tag::ObjectProperty, name)?)?;
-    }
-    node(alloc, &mut arena, Tag::InverseObjectProperties, &members)
-}
-
-#[test]
-fn inverse_properties_are_at_most_two(rt: HostRuntime) -> Result<(), Fail> {
-    for (names, shaped) in [
-        ("", false),
-        ("p", true),
-        ("pq", true),
-        ("qpqpq", true),
-        ("pqr", false),
-    ] {
-        assert_eq!(rt; inverses(rt.alloc(), names)?.is_ok(), shaped, "{names}");
-    }
-    Ok(())
-}
-
-/// A HasKey of the class with these object and data properties.
-fn keys(alloc: Global, object: &str, data: &str) -> Result<Result<ExprId, Grow>, Fail> {
-    let mut arena = Arena::new(alloc);
-    let notes = node(alloc, &mut arena, Tag::Notes, &[])??;
-    let class = named(alloc, &mut arena, Tag::Class, 'C')?;
-    let mut properties = Vec::new(alloc);
-    for name in object.chars() {
-        properties.push(named(alloc, &mut arena, Tag::ObjectProperty, name)?)?;
-    }
-    let object = node(alloc, &mut arena, Tag::ObjectKeys, &properties)??;
-    let mut properties = Vec::new(alloc);
-    for name in data.chars() {
-        properties.push(named(alloc, &mut arena, Tag::DataProperty, name)?)?;
-    }
-    let data = node(alloc, &mut arena, Tag::DataKeys, &properties)??;
-    node(
-        alloc,
-        &mut arena,
-        Tag::HasKey,
-        &[notes, class, object, data],
-    )
-}
-
-#[test]
-fn a_key_has_a_property(rt: HostRuntime) -> Result<(), Fail> {
-    assert_eq!(rt; keys(rt.alloc(), "", "")?, Err(Grow::BadShape));
-    assert!(rt; keys(rt.alloc(), "p", "")?.is_ok());
-    assert!(rt; keys(rt.alloc(), "", "d")?.is_ok());
     Ok(())
 }

@@ -1,4 +1,5 @@
-//! Tests of arenas, documents, the reader, the writer and statuses.
+//! Tests of arenas, documents, the reader, the writer and statuses, for what no
+//! row reaches.
 #![tactic(auto)]
 
 #[cfg(test)]

@@ -1,95 +1,9 @@
-//! A reader that is fed in two pieces, and its refusals.
+//! A refusal that is kept, and refusals as texts.
 
 use fss_read::{ReadFault, Reader, Reason};
-use owl_atom::Iri;
-use owl_doc::Doc;
 use owl_text::NoMemory;
 use std::alloc::Global;
 use std::test::Fail;
-
-/// Feeds two pieces, the second where the first was taken.
-fn feed_both(reader: &mut Reader, first: &[u8], second: &[u8]) -> Result<(), ReadFault> {
-    reader.feed(first)?;
-    reader.feed(second)
-}
-
-/// What a reader answers to two pieces, and at the end.
-fn read(
-    alloc: Global,
-    first: &[u8],
-    second: &[u8],
-) -> Result<(Result<(), ReadFault>, Result<Doc, ReadFault>), NoMemory> {
-    let mut reader = Reader::new(alloc)?;
-    let fed = feed_both(&mut reader, first, second);
-    Ok((fed, reader.finish()))
-}
-
-fn name_of(iri: &Option<Iri>) -> &str {
-    match iri {
-        Some(iri) => iri.text(),
-        None => "none",
-    }
-}
-
-/// One text for a document: its names, and how many of each part it has.
-fn shown(alloc: Global, doc: &Doc) -> Result<String, Fail> {
-    let head = doc.head();
-    let names = format!(in alloc; "{} {}", name_of(&head.iri), name_of(&head.version))?;
-    let items = format!(in alloc;
-        "{} {} {}",
-        head.imports.len(),
-        doc.notes().len(),
-        doc.axioms().len()
-    )?;
-    Ok(format!(in alloc; "{names}, {items}, {}", doc.prefixes().len())?)
-}
-
-/// One text for these answers.
-fn shown_or_refused(
-    alloc: Global,
-    fed: Result<(), ReadFault>,
-    finished: &Result<Doc, ReadFault>,
-) -> Result<String, Fail> {
-    if let Err(fault) = fed {
-        return Ok(format!(in alloc; "{fault}")?);
-    }
-    match finished {
-        Ok(doc) => shown(alloc, doc),
-        Err(fault) => Ok(format!(in alloc; "{fault}")?),
-    }
-}
-
-/// One text for what comes of a document in two pieces.
-fn told(alloc: Global, first: &[u8], second: &[u8]) -> Result<String, Fail> {
-    let (fed, finished) = read(alloc, first, second)?;
-    shown_or_refused(alloc, fed, &finished)
-}
-
-#[test]
-fn documents_are_read_in_two_pieces(rt: HostRuntime) -> Result<(), Fail> {
-    for (document, want) in [
-        (b"Ontology()".as_slice(), "none none, 0 0 0, 4"),
-        (
-            b"Prefix(:=<a:>)Ontology(:o <a:v>Import(:i)Annotation(rdfs:label \"\xC3\xA9\"@en)Declaration(Class(:\xC3\xA9))#\n)",
-            "a:o a:v, 1 1 1, 5",
-        ),
-        (
-            b"Ontology(Annotation(rdfs:label \"\xC3\xA9\"^^xsd:string))",
-            "none none, 0 1 0, 4",
-        ),
-        (
-            b"Ontology(Declaration(Class(<a:b>)) Class(<a:c>))",
-            "NotHere at byte 35, in the item at byte 35",
-        ),
-    ] {
-        for cut in 0..document.len() + 1 {
-            let (first, second) = document.split_at(cut);
-            let text = told(rt.alloc(), first, second)?;
-            assert_eq!(rt; text.as_str(), want, "cut at {cut}");
-        }
-    }
-    Ok(())
-}
 
 /// What a reader answers to a bad document, then to a good one, and at the end.
 fn answers(

@@ -45,50 +45,10 @@ pub fn complements(
     Ok(Ok(outer))
 }
 
-/// The union of an expression and its complement.
-fn doubled(
-    alloc: Global,
-    arena: &mut Arena,
-    expression: ExprId,
-) -> Result<Result<ExprId, Grow>, Fail> {
-    let complement = node(alloc, arena, Tag::ObjectComplementOf, &[expression])??;
-    node(alloc, arena, Tag::ObjectUnionOf, &[expression, complement])
-}
-
-/// So many unions, each of the one below it and the complement of that, or why
-/// one of them is not held.
-pub fn unions(
-    alloc: Global,
-    arena: &mut Arena,
-    expression: ExprId,
-    count: usize,
-) -> Result<Result<ExprId, Grow>, Fail> {
-    let mut outer = expression;
-    for _ in 0..count {
-        match doubled(alloc, arena, outer)? {
-            Ok(next) => outer = next,
-            Err(fault) => return Ok(Err(fault)),
-        }
-    }
-    Ok(Ok(outer))
-}
-
 /// The tag, the weight and the depth of a tree.
 pub fn told(arena: &Arena, id: ExprId) -> Result<(Tag, u64, u32), Fail> {
     if !arena.holds(id) {
         return Err(Fail::new("a number of another arena"));
     }
     Ok((arena.tag(id), arena.weight(id), arena.depth(id)))
-}
-
-/// The places of the kids of a tree.
-pub fn kids(alloc: Global, arena: &Arena, id: ExprId) -> Result<Vec<usize>, Fail> {
-    if !arena.holds(id) {
-        return Err(Fail::new("a number of another arena"));
-    }
-    let mut places = Vec::new(alloc);
-    for kid in arena.kids(id) {
-        places.push(kid.place())?;
-    }
-    Ok(places)
 }

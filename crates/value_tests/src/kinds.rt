@@ -2,6 +2,7 @@
 
 use owl_atom::Iri;
 use owl_kind::{Kind, Kinds, built_in};
+use std::alloc::Global;
 use std::test::Fail;
 
 const RDF: &str = "http://www.w3.org/1999/02/22-rdf-syntax-ns#";
@@ -16,12 +17,11 @@ const LABEL: &str = "http://www.w3.org/2000/01/rdf-schema#label";
 
 const INT: &str = "http://www.w3.org/2001/XMLSchema#int";
 
-fn kinds_of(rt: &HostRuntime, declared: &[(Kind, &str)]) -> Result<Kinds, Fail> {
-    let mut kinds = Kinds::new(rt.alloc());
+fn declare(alloc: Global, kinds: &mut Kinds, declared: &[(Kind, &str)]) -> Result<(), Fail> {
     for (kind, text) in declared {
-        kinds.declare(*kind, Iri::of(rt.alloc(), text)?)?;
+        kinds.declare(*kind, Iri::of(alloc, text)?)?;
     }
-    Ok(kinds)
+    Ok(())
 }
 
 /// Whether these declarations have this clash.
@@ -30,7 +30,8 @@ fn clash_is(
     declared: &[(Kind, &str)],
     clash: Option<&str>,
 ) -> Result<bool, Fail> {
-    let kinds = kinds_of(rt, declared)?;
+    let mut kinds = Kinds::new(rt.alloc());
+    declare(rt.alloc(), &mut kinds, declared)?;
     Ok(kinds.clash().map(|iri| iri.text()) == clash)
 }
 
@@ -94,17 +95,22 @@ fn built_in_kinds_clash_with_declared_ones(rt: HostRuntime) -> Result<(), Fail> 
     Ok(())
 }
 
+/// Whether the IRI has this kind, where three kinds are declared.
+fn has(rt: &HostRuntime, kind: Kind, text: &str) -> Result<bool, Fail> {
+    let declared = [
+        (Kind::Class, "http://e/a"),
+        (Kind::Individual, "http://e/a"),
+        (Kind::Class, INT),
+    ];
+    let iri = Iri::of(rt.alloc(), text)?;
+    let mut kinds = Kinds::new(rt.alloc());
+    declare(rt.alloc(), &mut kinds, &declared)?;
+    Ok(kinds.has(kind, &iri))
+}
+
 #[test]
 fn declared_and_built_in_kinds_are_had(rt: HostRuntime) -> Result<(), Fail> {
-    let kinds = kinds_of(
-        &rt,
-        &[
-            (Kind::Class, "http://e/a"),
-            (Kind::Individual, "http://e/a"),
-            (Kind::Class, INT),
-        ],
-    )?;
-    for (kind, text, has) in [
+    for (kind, text, expected) in [
         (Kind::Class, "http://e/a", true),
         (Kind::Individual, "http://e/a", true),
         (Kind::Datatype, "http://e/a", false),
@@ -114,8 +120,7 @@ fn declared_and_built_in_kinds_are_had(rt: HostRuntime) -> Result<(), Fail> {
         (Kind::AnnotationProperty, LABEL, true),
         (Kind::DataProperty, LABEL, false),
     ] {
-        let iri = Iri::of(rt.alloc(), text)?;
-        assert_eq!(rt; kinds.has(kind, &iri), has, "{kind:?} {text}");
+        assert_eq!(rt; has(&rt, kind, text)?, expected, "{kind:?} {text}");
     }
     Ok(())
 }

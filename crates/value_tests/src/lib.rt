@@ -1,4 +1,4 @@
-//! Tests of texts, lists, atoms, kinds, tags, shelves and sinks.
+//! Tests of characters, atoms, datatypes, kinds and tags, for what no row reaches.
 #![tactic(auto)]
 
 #[cfg(test)]
@@ -8,13 +8,7 @@ mod datatypes;
 #[cfg(test)]
 mod kinds;
 #[cfg(test)]
-mod list;
-#[cfg(test)]
-mod order;
-#[cfg(test)]
 mod port;
-#[cfg(test)]
-mod prefixes;
 #[cfg(test)]
 mod tags;
 #[cfg(test)]
