@@ -16,6 +16,30 @@ fn iri(rt: &HostRuntime, namespace: &str, name: &str) -> Result<Iri, Fail> {
     Ok(Iri::of(rt.alloc(), &format!(in rt.alloc(); "{namespace}{name}")?)?)
 }
 
+/// Whether a form is one of a datatype of XML Schema.
+fn is_form_of(rt: &HostRuntime, name: &str, form: &str) -> Result<bool, Fail> {
+    let datatype = iri(rt, XSD, name)?;
+    let literal = Literal::of(rt.alloc(), form, Some(datatype), None)?;
+    Ok(lexical_ok(&literal))
+}
+
+fn is_in_map(rt: &HostRuntime, namespace: &str, name: &str) -> Result<bool, Fail> {
+    let datatype = iri(rt, namespace, name)?;
+    Ok(in_map(&datatype))
+}
+
+fn is_reserved(rt: &HostRuntime, namespace: &str, name: &str) -> Result<bool, Fail> {
+    let name = iri(rt, namespace, name)?;
+    Ok(reserved(&name))
+}
+
+/// Whether a datatype has a facet, each by its namespace and name.
+fn has_facet(rt: &HostRuntime, datatype: (&str, &str), facet: (&str, &str)) -> Result<bool, Fail> {
+    let datatype = iri(rt, datatype.0, datatype.1)?;
+    let facet = iri(rt, facet.0, facet.1)?;
+    Ok(facet_ok(&datatype, &facet))
+}
+
 #[test]
 fn forms_of_datatypes(rt: HostRuntime) -> Result<(), Fail> {
     for (name, form, fits) in [
@@ -66,9 +90,7 @@ fn forms_of_datatypes(rt: HostRuntime) -> Result<(), Fail> {
         ("string", "any\ntext", true),
         ("elsewhere", "+", true),
     ] {
-        let datatype = iri(&rt, XSD, name)?;
-        let literal = Literal::of(rt.alloc(), form, Some(datatype), None)?;
-        assert_eq!(rt; lexical_ok(&literal), fits, "{name} {form}");
+        assert_eq!(rt; is_form_of(&rt, name, form)?, fits, "{name} {form}");
     }
     Ok(())
 }
@@ -104,8 +126,7 @@ fn datatypes_of_the_map(rt: HostRuntime) -> Result<(), Fail> {
         (XSD, "duration", false),
     ] {
         for name in names.split(' ') {
-            let datatype = iri(&rt, namespace, name)?;
-            assert_eq!(rt; in_map(&datatype), mapped, "{name}");
+            assert_eq!(rt; is_in_map(&rt, namespace, name)?, mapped, "{name}");
         }
     }
     Ok(())
@@ -113,23 +134,23 @@ fn datatypes_of_the_map(rt: HostRuntime) -> Result<(), Fail> {
 
 #[test]
 fn facets_of_datatypes(rt: HostRuntime) -> Result<(), Fail> {
-    for (datatype_space, datatype, facet_space, facet, allowed) in [
-        (XSD, "decimal", XSD, "minInclusive", true),
-        (XSD, "decimal", XSD, "length", false),
-        (XSD, "string", XSD, "pattern", true),
-        (XSD, "string", RDF, "langRange", false),
-        (RDF, "PlainLiteral", RDF, "langRange", true),
-        (XSD, "hexBinary", XSD, "length", true),
-        (XSD, "hexBinary", XSD, "pattern", false),
-        (XSD, "boolean", XSD, "pattern", false),
-        (XSD, "boolean", XSD, "minInclusive", false),
+    for (datatype, facet, allowed) in [
+        ((XSD, "decimal"), (XSD, "minInclusive"), true),
+        ((XSD, "decimal"), (XSD, "length"), false),
+        ((XSD, "string"), (XSD, "pattern"), true),
+        ((XSD, "string"), (RDF, "langRange"), false),
+        ((RDF, "PlainLiteral"), (RDF, "langRange"), true),
+        ((XSD, "hexBinary"), (XSD, "length"), true),
+        ((XSD, "hexBinary"), (XSD, "pattern"), false),
+        ((XSD, "boolean"), (XSD, "pattern"), false),
+        ((XSD, "boolean"), (XSD, "minInclusive"), false),
     ] {
-        let datatype = iri(&rt, datatype_space, datatype)?;
-        let facet = iri(&rt, facet_space, facet)?;
         assert_eq!(rt;
-            facet_ok(&datatype, &facet),
+            has_facet(&rt, datatype, facet)?,
             allowed,
-            "{datatype:?} {facet:?}"
+            "{} {}",
+            datatype.1,
+            facet.1
         );
     }
     Ok(())
@@ -137,7 +158,7 @@ fn facets_of_datatypes(rt: HostRuntime) -> Result<(), Fail> {
 
 #[test]
 fn reserved_namespaces(rt: HostRuntime) -> Result<(), Fail> {
-    for (namespace, name, is_reserved) in [
+    for (namespace, name, expected) in [
         (RDF, "type", true),
         (RDFS, "label", true),
         (XSD, "string", true),
@@ -146,8 +167,11 @@ fn reserved_namespaces(rt: HostRuntime) -> Result<(), Fail> {
         ("http://e/", "a", false),
         ("http://www.w3.org/2002/07/owl", "", false),
     ] {
-        let iri = iri(&rt, namespace, name)?;
-        assert_eq!(rt; reserved(&iri), is_reserved, "{namespace}{name}");
+        assert_eq!(rt;
+            is_reserved(&rt, namespace, name)?,
+            expected,
+            "{namespace}{name}"
+        );
     }
     Ok(())
 }

@@ -125,6 +125,11 @@ fn declared_and_built_in_kinds_are_had(rt: HostRuntime) -> Result<(), Fail> {
     Ok(())
 }
 
+fn is_built_in(rt: &HostRuntime, kind: Kind, namespace: &str, name: &str) -> Result<bool, Fail> {
+    let iri = Iri::of(rt.alloc(), &format!(in rt.alloc(); "{namespace}{name}")?)?;
+    Ok(built_in(kind, &iri))
+}
+
 #[test]
 fn names_are_built_in(rt: HostRuntime) -> Result<(), Fail> {
     for (kind, namespace, names, expected) in [
@@ -221,8 +226,11 @@ fn names_are_built_in(rt: HostRuntime) -> Result<(), Fail> {
         (Kind::Individual, OWL, "Thing topObjectProperty real", false),
     ] {
         for name in names.split(' ') {
-            let iri = Iri::of(rt.alloc(), &format!(in rt.alloc(); "{namespace}{name}")?)?;
-            assert_eq!(rt; built_in(kind, &iri), expected, "{kind:?} {name}");
+            assert_eq!(rt;
+                is_built_in(&rt, kind, namespace, name)?,
+                expected,
+                "{kind:?} {name}"
+            );
         }
     }
     Ok(())
