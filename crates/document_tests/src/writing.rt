@@ -1,5 +1,6 @@
 //! The text of an import, and of one axiom in full.
 
+use crate::axioms::{add, node};
 use fss_write::{WriteFault, axiom_text, write};
 use owl_arena::{Arena, ExprId};
 use owl_atom::{Iri, Prefixes};
@@ -13,18 +14,6 @@ fn class(alloc: Global, builder: &mut Builder, iri: &str) -> Result<ExprId, Fail
     Ok(builder.leaf(Tag::Class, Atom::Iri(Iri::of(alloc, iri)?))?)
 }
 
-/// A node over numbers of the arena.
-fn node(alloc: Global, builder: &mut Builder, tag: Tag, kids: &[ExprId]) -> Result<ExprId, Fail> {
-    let mut held = Vec::new(alloc);
-    for kid in kids {
-        if !builder.arena().holds(*kid) {
-            return Err(Fail::new("a number of another arena"));
-        }
-        held.push(*kid)?;
-    }
-    Ok(builder.node(tag, held)?)
-}
-
 /// An axiom without annotations over two classes, of which one is in a namespace
 /// that has a prefix.
 fn axiom(alloc: Global, builder: &mut Builder) -> Result<ExprId, Fail> {
@@ -34,13 +23,6 @@ fn axiom(alloc: Global, builder: &mut Builder) -> Result<ExprId, Fail> {
     node(alloc, builder, Tag::SubClassOf, &[notes, sub, sup])
 }
 
-fn add(builder: &mut Builder, axiom: ExprId) -> Result<bool, Fail> {
-    if !builder.arena().holds(axiom) {
-        return Err(Fail::new("a number of another arena"));
-    }
-    Ok(builder.add(axiom)?)
-}
-
 /// Fills a document with names, an import and an axiom.
 fn fill(alloc: Global, builder: &mut Builder) -> Result<bool, Fail> {
     let iri = Iri::of(alloc, "http://e/o")?;
@@ -48,7 +30,7 @@ fn fill(alloc: Global, builder: &mut Builder) -> Result<bool, Fail> {
     builder.head(Some(iri), Some(version));
     builder.import(Iri::of(alloc, "http://e/i")?)?;
     let axiom = axiom(alloc, builder)?;
-    add(builder, axiom)
+    Ok(add(builder, axiom)??)
 }
 
 fn document(alloc: Global) -> Result<Doc, Fail> {
