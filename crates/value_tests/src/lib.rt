@@ -1,4 +1,5 @@
-//! Tests of characters, atoms, datatypes, kinds and tags, for what no row reaches.
+//! Tests of characters, tokens, atoms, datatypes, kinds and tags, for what no row
+//! reaches.
 #![tactic(auto)]
 
 #[cfg(test)]
@@ -7,6 +8,8 @@ mod atoms;
 mod datatypes;
 #[cfg(test)]
 mod kinds;
+#[cfg(test)]
+mod lexer;
 #[cfg(test)]
 mod port;
 #[cfg(test)]

@@ -1,0 +1,384 @@
+-- What a byte makes of what is in hand.
+use Rattle.std.proofs.Common.{◌≡◌, ◌↔◌, ◌⊎◌, inl, inr, ℕ, ◌+◌, ◌<◌, Bool, true, false, Option, None, Some, List, [], ◌∷◌, ◌++◌, length, refl, sym, ap, ◌∙◌, subst, arith, add-zero, if◌then◌else◌}
+use Rattle.std.proofs.Common.{Result, Ok, Err}
+use Rattle.std.specs.Prelude.{◌&&◌, OnOk, IfErr}
+use Rattle.owl_text.specs.declared.utf8_step.BadUtf8.{BadUtf8 as Fault}
+use Rattle.std.specs.Char.{IsScalar, encode_utf8, len_utf8}
+use Rattle.std.proofs.lemmas.Bool.{and_parts, eqb-true}
+use Rattle.std.proofs.lemmas.List.{append_assoc, append-nil, length-append}
+use Rattle.std.proofs.lemmas.Str.{length-encode}
+use Rattle.owl_text.specs.Feeding.{BeginsNone, Feeding, IsUnfinished}
+use Rattle.owl_text.specs.Tokens.{behind_mark, is_mark, mark_size}
+use Rattle.owl_text.specs.Utf8.{BeginsNoCharacter, Decodes, size}
+use Rattle.owl_text.specs.Utf8Laws.{no_bytes}
+use Rattle.owl_text.specs.declared.fault.LexFault.{LexFault}
+use Rattle.owl_text.specs.declared.fault.LexFault.TheVariants.{BadUtf8}
+use Rattle.owl_lexer.specs.Automata.{Automaton, Spells}
+use Rattle.owl_lexer.specs.BytesGiving.{BegunBytes, ContinuesBytes, CutsBehindMark, EndsBytesAt, GivesBytes, GivesSomeBytes, end_of_bytes}
+use Rattle.owl_lexer.specs.BytesLaws.{decodes_first, decodes_none, first_decoded, none_decoded, same_continues_bytes, unfinished_begins_none}
+use Rattle.owl_lexer.specs.Cutting.{Cuts, Lexeme, Stops}
+use Rattle.owl_lexer.specs.DecodingLaws.{decode}
+use Rattle.owl_lexer.specs.Giving.{Begun, Continues, EndsAt, Gives, GivesSome, end_of}
+use Rattle.owl_lexer.specs.Hands.{IsFrontOf, Finishes, FinishesBadly, IsReady, Refuses, Takes, begun_of}
+use Rattle.owl_lexer.specs.Sources.{EndsBytes, EndsBytesBadly, IsOpen, RefusesBytes, TakesBytes, begun_in}
+use Rattle.owl_lexer.specs.declared.hand.Front.{Front}
+use Rattle.owl_lexer.specs.declared.hand.Hand.{Hand}
+use Rattle.owl_lexer.specs.declared.placed.Placed.{Placed}
+use Rattle.owl_lexer.specs.declared.source.Source.{Source}
+
+-- the characters that are begun
+abbrev pub characters_of : BegunBytes → Begun
+characters_of begun = record { at = begun.at; held = begun.held }
+
+-- a byte order mark
+
+if_false : {A : Type 0} → (b : Bool) (x y : A) → b ≡ false → (if b then x else y) ≡ y
+if_false {A = A} b x y e = subst (λ (c : Bool). (if c then x else y) ≡ y) (sym e) refl
+
+if_true : {A : Type 0} → (b : Bool) (x y : A) → b ≡ true → (if b then x else y) ≡ x
+if_true {A = A} b x y e = subst (λ (c : Bool). (if c then x else y) ≡ x) (sym e) refl
+
+-- where no byte order mark stands first, all characters are cut
+no_mark : (a : Automaton) (at c : ℕ) (cs tail : List ℕ) (xs : List Lexeme) (e : Option LexFault) → is_mark c ≡ false → CutsBehindMark true a at (c ∷ cs) tail xs e ↔ Cuts (Spells a) at (c ∷ cs) tail xs e
+no_mark a at c cs tail xs e h =
+    let place : at + mark_size (c ∷ cs) ≡ at = ap (λ (n : ℕ). at + n) (if_false (is_mark c) 3 0 h) ∙ add-zero at in
+    let behind : behind_mark (c ∷ cs) ≡ c ∷ cs = if_false (is_mark c) cs (c ∷ cs) h in (
+      λ k. subst (λ (p : ℕ). Cuts (Spells a) p (c ∷ cs) tail xs e) place (subst (λ (l : List ℕ). Cuts (Spells a) (at + mark_size (c ∷ cs)) l tail xs e) behind k),
+      λ k. subst (λ (l : List ℕ). Cuts (Spells a) (at + mark_size (c ∷ cs)) l tail xs e) (sym behind) (subst (λ (p : ℕ). Cuts (Spells a) p (c ∷ cs) tail xs e) (sym place) k),
+    )
+
+-- where nothing but a byte order mark could be begun, none is
+plain : (fresh : Bool) (a : Automaton) (at : ℕ) (held : List ℕ) (c : ℕ) (cs tail : List ℕ) (xs : List Lexeme) (e : Option LexFault) → (fresh && is_mark c) ≡ false → (fresh ≡ true → held ≡ []) → CutsBehindMark fresh a at (held ++ c ∷ cs) tail xs e ↔ Cuts (Spells a) at (held ++ c ∷ cs) tail xs e
+plain false a at held c cs tail xs e h first = (λ k. k, λ k. k)
+plain true a at held c cs tail xs e h first =
+    let none = first refl in
+    let both = no_mark a at c cs tail xs e h in (
+      λ k. subst (λ (l : List ℕ). Cuts (Spells a) at (l ++ c ∷ cs) tail xs e) (sym none) (both.0 (subst (λ (l : List ℕ). CutsBehindMark true a at (l ++ c ∷ cs) tail xs e) none k)),
+      λ k. subst (λ (l : List ℕ). CutsBehindMark true a at (l ++ c ∷ cs) tail xs e) (sym none) (both.1 (subst (λ (l : List ℕ). Cuts (Spells a) at (l ++ c ∷ cs) tail xs e) none k)),
+    )
+
+-- the same where no character follows
+plain_last : (fresh : Bool) (a : Automaton) (at : ℕ) (held tail : List ℕ) (xs : List Lexeme) (e : Option LexFault) → (fresh ≡ true → held ≡ []) → CutsBehindMark fresh a at (held ++ []) tail xs e ↔ Cuts (Spells a) at (held ++ []) tail xs e
+plain_last false a at held tail xs e first = (λ k. k, λ k. k)
+plain_last true a at held tail xs e first =
+    let none = first refl in (
+      λ k. subst (λ (l : List ℕ). Cuts (Spells a) at (l ++ []) tail xs e) (sym none) (subst (λ (p : ℕ). Cuts (Spells a) p [] tail xs e) (add-zero at) (subst (λ (l : List ℕ). CutsBehindMark true a at (l ++ []) tail xs e) none k)),
+      λ k. subst (λ (l : List ℕ). CutsBehindMark true a at (l ++ []) tail xs e) (sym none) (subst (λ (p : ℕ). Cuts (Spells a) p [] tail xs e) (sym (add-zero at)) (subst (λ (l : List ℕ). Cuts (Spells a) at (l ++ []) tail xs e) none k)),
+    )
+
+-- a byte that makes no character whole
+
+gives_unfinished : (a : Automaton) (at : ℕ) (held bytes : List ℕ) (fresh : Bool) (b : ℕ) → GivesBytes a (record { at = at; held = held; bytes = bytes; fresh = fresh }) (b ∷ []) [] (record { at = at; held = held; bytes = bytes ++ b ∷ []; fresh = fresh })
+gives_unfinished a at held bytes fresh b = record {
+  all = λ more xs e k. (xs, refl, record { characters = k.characters; tail = k.tail; decodes = subst (λ (l : List ℕ). Decodes l k.characters k.tail) (sym (append_assoc bytes (b ∷ []) more)) k.decodes; cuts = k.cuts });
+  only = λ more xs e k. record { characters = k.characters; tail = k.tail; decodes = subst (λ (l : List ℕ). Decodes l k.characters k.tail) (append_assoc bytes (b ∷ []) more) k.decodes; cuts = k.cuts };
+}
+
+pub takes_unfinished : {T : Type 0} → (a : Automaton) (value : ℕ → List ℕ → Option T) (hand : Hand) (old new : Feeding) (fresh : Bool) (b : ℕ) (before : List (Placed T)) → IsOpen a (record { hand = hand; feed = old; fresh = fresh }) → new ≡ record { at = old.at; held = old.held ++ b ∷ []; bad = false } → TakesBytes a value (record { hand = hand; feed = old; fresh = fresh }) (b ∷ []) before before (record { hand = hand; feed = new; fresh = fresh })
+takes_unfinished a value hand old new fresh b before r e =
+    let at : new.at ≡ old.at = ap (λ (f : Feeding). f.at) e in
+    let held : new.held ≡ old.held ++ b ∷ [] = ap (λ (f : Feeding). f.held) e in
+    let sizes : length new.held ≡ length old.held + 1 = ap (λ (l : List ℕ). length l) held ∙ length-append old.held (b ∷ []) in
+    record {
+      ready = record { ready = r.ready; place = r.place ∙ sym at; clean = ap (λ (f : Feeding). f.bad) e; first = r.first };
+      adds = record {
+        given = [];
+        added = sym (append-nil before);
+        gives = subst (λ (l : List ℕ). GivesBytes a (record { at = hand.at; held = hand.held.items; bytes = old.held; fresh = fresh }) (b ∷ []) [] (record { at = hand.at; held = hand.held.items; bytes = l; fresh = fresh })) (sym held) (gives_unfinished a hand.at hand.held.items old.held fresh b);
+      };
+      few = omega arith;
+      end = omega arith;
+    }
+
+-- a byte that makes a character whole
+
+-- what comes of a character that is whole, and of others behind it
+record WholeFirst (a : Automaton) (old : BegunBytes) (c : ℕ) (more : List ℕ) (xs : List Lexeme) (e : Option LexFault) : Type 0 where
+  others : List ℕ
+  tail : List ℕ
+  decodes : Decodes more others tail
+  cuts : CutsBehindMark old.fresh a old.at (old.held ++ c ∷ others) tail xs e
+
+whole_bytes : (bytes : List ℕ) (b c : ℕ) (more : List ℕ) → encode_utf8 c ≡ bytes ++ b ∷ [] → bytes ++ b ∷ more ≡ encode_utf8 c ++ more
+whole_bytes bytes b c more e = sym (append_assoc bytes (b ∷ []) more) ∙ ap (λ (l : List ℕ). l ++ more) (sym e)
+
+whole_first : (a : Automaton) (old : BegunBytes) (b c : ℕ) (more : List ℕ) (xs : List Lexeme) (e : Option LexFault) → IsScalar c → encode_utf8 c ≡ old.bytes ++ b ∷ [] → ContinuesBytes a old (b ∷ more) xs e → WholeFirst a old c more xs e
+whole_first a old b c more xs e scalar is k =
+    let d = first_decoded c more k.characters k.tail scalar (subst (λ (l : List ℕ). Decodes l k.characters k.tail) (whole_bytes old.bytes b c more is) k.decodes) in
+    record { others = d.others; tail = k.tail; decodes = d.decodes; cuts = subst (λ (l : List ℕ). CutsBehindMark old.fresh a old.at (old.held ++ l) k.tail xs e) d.is k.cuts }
+
+first_whole : (a : Automaton) (old : BegunBytes) (b c : ℕ) (more others tail : List ℕ) (xs : List Lexeme) (e : Option LexFault) → IsScalar c → encode_utf8 c ≡ old.bytes ++ b ∷ [] → Decodes more others tail → CutsBehindMark old.fresh a old.at (old.held ++ c ∷ others) tail xs e → ContinuesBytes a old (b ∷ more) xs e
+first_whole a old b c more others tail xs e scalar is d k = record {
+  characters = c ∷ others;
+  tail = tail;
+  decodes = subst (λ (l : List ℕ). Decodes l (c ∷ others) tail) (sym (whole_bytes old.bytes b c more is)) (decodes_first c more others tail scalar d);
+  cuts = k;
+}
+
+-- what is begun once characters are whole
+abbrev pub whole_behind : Begun → BegunBytes
+whole_behind begun = record { at = begun.at; held = begun.held; bytes = []; fresh = false }
+
+-- a character that is no byte order mark in front is whole
+pub record IsWhole (old : BegunBytes) (b c : ℕ) : Type 0 where
+  pub scalar : IsScalar c
+  pub is : encode_utf8 c ≡ old.bytes ++ b ∷ []
+  pub no_mark : (old.fresh && is_mark c) ≡ false
+  pub first : old.fresh ≡ true → old.held ≡ []
+
+gives_whole : (a : Automaton) (old : BegunBytes) (b c : ℕ) (given : List Lexeme) (new : Begun) → IsWhole old b c → Gives a (characters_of old) (c ∷ []) given new → GivesBytes a old (b ∷ []) given (whole_behind new)
+gives_whole a old b c given new w g = record {
+  all = λ more xs e k.
+      let f = whole_first a old b c more xs e w.scalar w.is k in
+      let o = g.all f.others f.tail xs e ((plain old.fresh a old.at old.held c f.others f.tail xs e w.no_mark w.first).0 f.cuts) in
+      (o.0, o.1, record { characters = f.others; tail = f.tail; decodes = f.decodes; cuts = o.2 });
+  only = λ more rest e k.
+      first_whole a old b c more k.characters k.tail (given ++ rest) e w.scalar w.is k.decodes
+      ((plain old.fresh a old.at old.held c k.characters k.tail (given ++ rest) e w.no_mark w.first).1 (g.only k.characters k.tail rest e k.cuts));
+}
+
+some_whole : (a : Automaton) (old : BegunBytes) (b c : ℕ) (given : List Lexeme) → IsWhole old b c → GivesSome a (characters_of old) (c ∷ []) given → GivesSomeBytes a old (b ∷ []) given
+some_whole a old b c given w g more xs e k =
+    let f = whole_first a old b c more xs e w.scalar w.is k in
+    g f.others f.tail xs e ((plain old.fresh a old.at old.held c f.others f.tail xs e w.no_mark w.first).0 f.cuts)
+
+ends_whole : (a : Automaton) (old : BegunBytes) (b c : ℕ) (given : List Lexeme) (fault : LexFault) → IsWhole old b c → EndsAt a (characters_of old) (c ∷ []) given fault → EndsBytesAt a old (b ∷ []) given fault
+ends_whole a old b c given fault w g more =
+    let d = decode more in
+    first_whole a old b c more d.characters d.tail given (Some fault) w.scalar w.is d.decodes
+    ((plain old.fresh a old.at old.held c d.characters d.tail given (Some fault) w.no_mark w.first).1 (g d.characters d.tail))
+
+-- what a character makes of the feed
+pub record FeedsWhole (old new : Feeding) (b c : ℕ) : Type 0 where
+  pub scalar : IsScalar c
+  pub is : encode_utf8 c ≡ old.held ++ b ∷ []
+  pub feed : new ≡ record { at = old.at + len_utf8 c; held = []; bad = false }
+
+-- how many bytes the character takes
+width : (old new : Feeding) (b c : ℕ) → FeedsWhole old new b c → len_utf8 c ≡ length old.held + 1
+width old new b c f = sym (length-encode c) ∙ ap (λ (l : List ℕ). length l) f.is ∙ length-append old.held (b ∷ [])
+
+pub takes_whole : {T : Type 0} → (a : Automaton) (value : ℕ → List ℕ → Option T) (old new : Source) (b c : ℕ) (before after : List (Placed T)) → IsOpen a old → FeedsWhole old.feed new.feed b c → (old.fresh && is_mark c) ≡ false → new.fresh ≡ false → Takes a value old.hand (c ∷ []) before after new.hand → TakesBytes a value old (b ∷ []) before after new
+takes_whole a value old new b c before after r f plain_c fresh t =
+    let at : new.feed.at ≡ old.feed.at + len_utf8 c = ap (λ (x : Feeding). x.at) f.feed in
+    let held : new.feed.held ≡ [] = ap (λ (x : Feeding). x.held) f.feed in
+    let nothing : length new.feed.held ≡ 0 = ap (λ (l : List ℕ). length l) held in
+    let takes = width old.feed new.feed b c f in
+    let place = r.place in
+    let end = t.end in
+    let few = t.few in
+    let old_end = r.ready.end in
+    let new_end = t.ready.end in
+    let whole : IsWhole (begun_in old) b c = record { scalar = f.scalar; is = f.is; no_mark = plain_c; first = r.first } in
+    let gives = gives_whole a (begun_in old) b c t.adds.given (begun_of new.hand) whole t.adds.gives in
+    let begun : whole_behind (begun_of new.hand) ≡ begun_in new = λ i. record { at = new.hand.at; held = new.hand.held.items; bytes = sym held i; fresh = sym fresh i } in
+    record {
+      ready = record { ready = t.ready; place = omega arith; clean = ap (λ (x : Feeding). x.bad) f.feed; first = λ e. let no : true ≡ false = sym e ∙ fresh in cc };
+      adds = record { given = t.adds.given; added = t.adds.added; gives = subst (GivesBytes a (begun_in old) (b ∷ []) t.adds.given) begun gives };
+      few = omega arith;
+      end = omega arith;
+    }
+
+pub refuses_whole : {T : Type 0} → (a : Automaton) (value : ℕ → List ℕ → Option T) (old : Source) (new : Feeding) (b c : ℕ) (before after : List (Placed T)) (fault : LexFault) → IsOpen a old → FeedsWhole old.feed new b c → (old.fresh && is_mark c) ≡ false → Refuses a value (begun_of old.hand) (c ∷ []) before after fault → RefusesBytes a value (begun_in old) (b ∷ []) before after fault
+refuses_whole a value old new b c before after fault r f plain_c t =
+    let whole : IsWhole (begun_in old) b c = record { scalar = f.scalar; is = f.is; no_mark = plain_c; first = r.first } in
+    record {
+      some = record { given = t.some.given; added = t.some.added; next = some_whole a (begun_in old) b c t.some.given whole t.some.next };
+      bad = λ ne. let bad = t.bad ne in record { given = bad.given; added = bad.added; ends = ends_whole a (begun_in old) b c bad.given fault whole bad.ends };
+    }
+
+-- a byte order mark in front is passed over
+
+-- where nothing is held, no lexeme stands in front
+moved_front : (a : Automaton) (hand : Hand) → hand.held.items ≡ [] → IsReady a hand → IsFrontOf a (hand.at + 3) hand.held.items hand.front
+moved_front a hand none r = front_at hand.front r.front
+  where
+    front_at : (front : Option Front) → IsFrontOf a hand.at hand.held.items front → IsFrontOf a (hand.at + 3) hand.held.items front
+    front_at None f = f
+    front_at (Some front) f =
+        let some = f.0.some in
+        let within = f.0.within in
+        let nothing : length hand.held.items ≡ 0 = ap (λ (l : List ℕ). length l) none in
+        absurd (omega arith)
+
+behind_first : (a : Automaton) (at c : ℕ) (cs tail : List ℕ) (xs : List Lexeme) (e : Option LexFault) → is_mark c ≡ true → CutsBehindMark true a at (c ∷ cs) tail xs e ↔ Cuts (Spells a) (at + 3) cs tail xs e
+behind_first a at c cs tail xs e h =
+    let place : at + mark_size (c ∷ cs) ≡ at + 3 = ap (λ (n : ℕ). at + n) (if_true (is_mark c) 3 0 h) in
+    let behind : behind_mark (c ∷ cs) ≡ cs = if_true (is_mark c) cs (c ∷ cs) h in (
+      λ k. subst (λ (p : ℕ). Cuts (Spells a) p cs tail xs e) place (subst (λ (l : List ℕ). Cuts (Spells a) (at + mark_size (c ∷ cs)) l tail xs e) behind k),
+      λ k. subst (λ (l : List ℕ). Cuts (Spells a) (at + mark_size (c ∷ cs)) l tail xs e) (sym behind) (subst (λ (p : ℕ). Cuts (Spells a) p cs tail xs e) (sym place) k),
+    )
+
+gives_mark : (a : Automaton) (at : ℕ) (bytes : List ℕ) (b c : ℕ) → IsScalar c → encode_utf8 c ≡ bytes ++ b ∷ [] → is_mark c ≡ true → GivesBytes a (record { at = at; held = []; bytes = bytes; fresh = true }) (b ∷ []) [] (record { at = at + 3; held = []; bytes = []; fresh = false })
+gives_mark a at bytes b c scalar is mark =
+    let old : BegunBytes = record { at = at; held = []; bytes = bytes; fresh = true } in
+    record {
+      all = λ more xs e k.
+          let f = whole_first a old b c more xs e scalar is k in
+          (xs, refl, record { characters = f.others; tail = f.tail; decodes = f.decodes; cuts = (behind_first a at c f.others f.tail xs e mark).0 f.cuts });
+      only = λ more rest e k. first_whole a old b c more k.characters k.tail rest e scalar is k.decodes ((behind_first a at c k.characters k.tail rest e mark).1 k.cuts);
+    }
+
+pub takes_mark : {T : Type 0} → (a : Automaton) (value : ℕ → List ℕ → Option T) (old new : Source) (b c : ℕ) (before : List (Placed T)) → IsOpen a old → FeedsWhole old.feed new.feed b c → (old.fresh && is_mark c) ≡ true → new.fresh ≡ false → new.hand ≡ record old.hand { at = old.hand.at + 3; end = old.hand.end + 3 } → TakesBytes a value old (b ∷ []) before before new
+takes_mark a value old new b c before r f passes fresh moved =
+    let both = and_parts old.fresh (is_mark c) passes in
+    let none = r.first both.0 in
+    let width_is : len_utf8 c ≡ 3 = ap len_utf8 (eqb-true c 65279 both.1) in
+    let feed_at : new.feed.at ≡ old.feed.at + len_utf8 c = ap (λ (x : Feeding). x.at) f.feed in
+    let feed_held : new.feed.held ≡ [] = ap (λ (x : Feeding). x.held) f.feed in
+    let nothing : length new.feed.held ≡ 0 = ap (λ (l : List ℕ). length l) feed_held in
+    let takes = width old.feed new.feed b c f in
+    let at : new.hand.at ≡ old.hand.at + 3 = ap (λ (h : Hand). h.at) moved in
+    let end : new.hand.end ≡ old.hand.end + 3 = ap (λ (h : Hand). h.end) moved in
+    let held : new.hand.held.items ≡ old.hand.held.items = ap (λ (h : Hand). h.held.items) moved in
+    let sizes : size new.hand.held.items ≡ size old.hand.held.items = ap size held in
+    let lengths : length new.hand.held.items ≡ length old.hand.held.items = ap (λ (l : List ℕ). length l) held in
+    let place = r.place in
+    let old_end = r.ready.end in
+    let first : begun_in old ≡ record { at = old.hand.at; held = []; bytes = old.feed.held; fresh = true } = λ i. record { at = old.hand.at; held = none i; bytes = old.feed.held; fresh = both.0 i } in
+    let last : record { at = old.hand.at + 3; held = []; bytes = []; fresh = false } ≡ begun_in new = λ i. record { at = sym at i; held = sym (held ∙ none) i; bytes = sym feed_held i; fresh = sym fresh i } in
+    record {
+      ready = record {
+        ready = subst (IsReady a) (sym moved) (record { leads = r.ready.leads; front = moved_front a old.hand none r.ready; end = omega arith });
+        place = omega arith;
+        clean = ap (λ (x : Feeding). x.bad) f.feed;
+        first = λ e. held ∙ none;
+      };
+      adds = record {
+        given = [];
+        added = sym (append-nil before);
+        gives = subst (λ (o : BegunBytes). GivesBytes a o (b ∷ []) [] (begun_in new)) (sym first)
+            (subst (GivesBytes a (record { at = old.hand.at; held = []; bytes = old.feed.held; fresh = true }) (b ∷ []) []) last (gives_mark a old.hand.at old.feed.held b c f.scalar f.is both.1));
+      };
+      few = omega arith;
+      end = omega arith;
+    }
+
+-- no character is begun, and none follows
+
+last_characters : (a : Automaton) (old : BegunBytes) (more : List ℕ) (xs : List Lexeme) (e : Option LexFault) → (old.fresh ≡ true → old.held ≡ []) → BeginsNoCharacter (old.bytes ++ more) → ContinuesBytes a old more xs e → Continues a (characters_of old) [] (old.bytes ++ more) xs e
+last_characters a old more xs e first none k =
+    let d = none_decoded (old.bytes ++ more) k.characters k.tail none k.decodes in
+    let cuts = subst (λ (l : List ℕ). CutsBehindMark old.fresh a old.at (old.held ++ l) k.tail xs e) d.none k.cuts in
+    subst (λ (t : List ℕ). Cuts (Spells a) old.at (old.held ++ []) t xs e) (sym d.all) ((plain_last old.fresh a old.at old.held k.tail xs e first).0 cuts)
+
+last_bytes : (a : Automaton) (old : BegunBytes) (more : List ℕ) (xs : List Lexeme) (e : Option LexFault) → (old.fresh ≡ true → old.held ≡ []) → BeginsNoCharacter (old.bytes ++ more) → Continues a (characters_of old) [] (old.bytes ++ more) xs e → ContinuesBytes a old more xs e
+last_bytes a old more xs e first none k = record {
+  characters = [];
+  tail = old.bytes ++ more;
+  decodes = decodes_none (old.bytes ++ more) none;
+  cuts = (plain_last old.fresh a old.at old.held (old.bytes ++ more) xs e first).1 k;
+}
+
+begins_none : (bytes : List ℕ) (b : ℕ) (more : List ℕ) → BeginsNone (bytes ++ b ∷ []) → BeginsNoCharacter (bytes ++ b ∷ more)
+begins_none bytes b more n = subst BeginsNoCharacter (append_assoc bytes (b ∷ []) more) (n more)
+
+bad_stops : (a : Automaton) (place : ℕ) (bytes : List ℕ) → 0 < length bytes → Stops (Spells a) place [] bytes (Some (BadUtf8 place))
+bad_stops a place [] some = absurd (omega arith)
+bad_stops a place (b ∷ bytes) some = refl
+
+-- the place behind the characters in hand is where the next one begins
+place_of : (a : Automaton) (source : Source) (at : ℕ) → IsOpen a source → at ≡ source.feed.at → at ≡ end_of (begun_of source.hand)
+place_of a source at r e = let place = r.place in let end = r.ready.end in omega arith
+
+bad_ending : (a : Automaton) (source : Source) (at : ℕ) (bytes : List ℕ) → IsOpen a source → at ≡ source.feed.at → 0 < length bytes → Stops (Spells a) (end_of (begun_of source.hand)) [] bytes (Some (BadUtf8 at))
+bad_ending a source at bytes r e some = subst (λ (p : ℕ). Stops (Spells a) p [] bytes (Some (BadUtf8 at))) (place_of a source at r e) (bad_stops a at bytes some)
+
+some_bytes : (front : List ℕ) (b : ℕ) (more : List ℕ) → 0 < length (front ++ b ∷ more)
+some_bytes front b more = let size = length-append front (b ∷ more) in omega arith
+
+ends_some_bytes : (a : Automaton) (old : BegunBytes) (bytes : List ℕ) (xs : List Lexeme) (fault : LexFault) → EndsBytesAt a old bytes xs fault → GivesSomeBytes a old bytes xs
+ends_some_bytes a old bytes xs fault h more lexemes e k =
+    ([], (same_continues_bytes a old (bytes ++ more) lexemes xs e (Some fault) k (h more)).lexemes ∙ sym (append-nil xs))
+
+pub refuses_bad : {T : Type 0} → (a : Automaton) (value : ℕ → List ℕ → Option T) (old : Source) (hand : Hand) (b at : ℕ) (before after : List (Placed T)) → IsOpen a old → at ≡ old.feed.at → BeginsNone (old.feed.held ++ b ∷ []) → Finishes a value old.hand before after hand → RefusesBytes a value (begun_in old) (b ∷ []) before after (BadUtf8 at)
+refuses_bad a value old hand b at before after r e n f =
+    let ends : EndsBytesAt a (begun_in old) (b ∷ []) f.adds.given (BadUtf8 at) = λ more.
+    last_bytes a (begun_in old) (b ∷ more) f.adds.given (Some (BadUtf8 at)) r.first (begins_none old.feed.held b more n)
+    (f.adds.last (old.feed.held ++ b ∷ more) (Some (BadUtf8 at)) (bad_ending a old at (old.feed.held ++ b ∷ more) r e (some_bytes old.feed.held b more))) in
+    record {
+      some = record { given = f.adds.given; added = f.adds.added; next = ends_some_bytes a (begun_in old) (b ∷ []) f.adds.given (BadUtf8 at) ends };
+      bad = λ ne. record { given = f.adds.given; added = f.adds.added; ends = ends };
+    }
+
+pub refuses_last : {T : Type 0} → (a : Automaton) (value : ℕ → List ℕ → Option T) (old : Source) (b : ℕ) (before after : List (Placed T)) (fault : LexFault) → IsOpen a old → BeginsNone (old.feed.held ++ b ∷ []) → FinishesBadly a value (begun_of old.hand) before after fault → RefusesBytes a value (begun_in old) (b ∷ []) before after fault
+refuses_last a value old b before after fault r n f = record {
+  some = record {
+    given = f.some.given;
+    added = f.some.added;
+    next = λ more xs e k. f.some.next (old.feed.held ++ b ∷ more) xs e (last_characters a (begun_in old) (b ∷ more) xs e r.first (begins_none old.feed.held b more n) k);
+  };
+  bad = λ ne.
+      let bad = f.bad ne in
+      record {
+        given = bad.given;
+        added = bad.added;
+        ends = λ more. last_bytes a (begun_in old) (b ∷ more) bad.given (Some fault) r.first (begins_none old.feed.held b more n) (bad.ends (old.feed.held ++ b ∷ more));
+      };
+}
+
+-- the end
+
+none_behind : (bytes : List ℕ) → BeginsNoCharacter bytes → BeginsNoCharacter (bytes ++ [])
+none_behind bytes n = subst BeginsNoCharacter (sym (append-nil bytes)) n
+
+pub ends_well : {T : Type 0} → (a : Automaton) (value : ℕ → List ℕ → Option T) (old new : Source) (before after : List (Placed T)) → IsOpen a old → old.feed.held ≡ [] → new.feed ≡ old.feed → new.fresh ≡ false → Finishes a value old.hand before after new.hand → EndsBytes a value old before after new
+ends_well a value old new before after r none feed fresh f =
+    let place = r.place in
+    let old_end = r.ready.end in
+    let new_end = f.ready.end in
+    let nothing : length old.feed.held ≡ 0 = ap (λ (l : List ℕ). length l) none in
+    let hand_at : new.hand.at ≡ old.hand.end = ap (λ (b : Begun). b.at) f.begun in
+    let hand_held : new.hand.held.items ≡ [] = ap (λ (b : Begun). b.held) f.begun in
+    let feed_at : new.feed.at ≡ old.feed.at = ap (λ (x : Feeding). x.at) feed in
+    let feed_held : new.feed.held ≡ [] = ap (λ (x : Feeding). x.held) feed ∙ none in
+    let empty : size new.hand.held.items ≡ 0 = ap size hand_held in
+    let at : new.hand.at ≡ end_of_bytes (begun_in old) = omega arith in
+    let all_none : old.feed.held ++ [] ≡ [] = append-nil old.feed.held ∙ none in
+    record {
+      ready = record { ready = f.ready; place = omega arith; clean = ap (λ (x : Feeding). x.bad) feed ∙ r.clean; first = λ e. hand_held };
+      begun = λ i. record { at = at i; held = hand_held i; bytes = feed_held i; fresh = fresh i };
+      adds = record {
+        given = f.adds.given;
+        added = f.adds.added;
+        last = last_bytes a (begun_in old) [] f.adds.given None r.first (subst BeginsNoCharacter (sym all_none) no_bytes)
+            (f.adds.last (old.feed.held ++ []) None (subst (λ (l : List ℕ). Stops (Spells a) (end_of (begun_of old.hand)) [] l None) (sym all_none) refl));
+      };
+      few = f.few;
+    }
+
+pub ends_cut : {T : Type 0} → (a : Automaton) (value : ℕ → List ℕ → Option T) (old : Source) (hand : Hand) (at : ℕ) (before after : List (Placed T)) → IsOpen a old → at ≡ old.feed.at → IsUnfinished old.feed.held × (0 < length old.feed.held) → Finishes a value old.hand before after hand → EndsBytesBadly a value (begun_in old) before after (BadUtf8 at)
+ends_cut a value old hand at before after r e u f =
+    let none = none_behind old.feed.held (unfinished_begins_none old.feed.held u.0) in
+    let some : 0 < length (old.feed.held ++ []) = let size = length-append old.feed.held [] in let more = u.1 in omega arith in
+    let last = last_bytes a (begun_in old) [] f.adds.given (Some (BadUtf8 at)) r.first none (f.adds.last (old.feed.held ++ []) (Some (BadUtf8 at)) (bad_ending a old at (old.feed.held ++ []) r e some)) in
+    record {
+      some = record {
+        given = f.adds.given;
+        added = f.adds.added;
+        next = λ xs g k. ([], (same_continues_bytes a (begun_in old) [] xs f.adds.given g (Some (BadUtf8 at)) k last).lexemes ∙ sym (append-nil f.adds.given));
+      };
+      bad = λ ne. record { given = f.adds.given; added = f.adds.added; last = last };
+    }
+
+pub ends_badly : {T : Type 0} → (a : Automaton) (value : ℕ → List ℕ → Option T) (old : Source) (before after : List (Placed T)) (fault : LexFault) → IsOpen a old → BeginsNoCharacter old.feed.held → FinishesBadly a value (begun_of old.hand) before after fault → EndsBytesBadly a value (begun_in old) before after fault
+ends_badly a value old before after fault r n f =
+    let none = none_behind old.feed.held n in
+    record {
+      some = record {
+        given = f.some.given;
+        added = f.some.added;
+        next = λ xs e k. f.some.next (old.feed.held ++ []) xs e (last_characters a (begun_in old) [] xs e r.first none k);
+      };
+      bad = λ ne. let bad = f.bad ne in record { given = bad.given; added = bad.added; last = last_bytes a (begun_in old) [] bad.given (Some fault) r.first none (bad.ends (old.feed.held ++ [])) };
+    }
+
+-- what the feed tells at the end
+pub unfinished_of : (feed : Feeding) → feed.bad ≡ false → (feed.bad ≡ true) ⊎ (IsUnfinished feed.held × (0 < length feed.held)) → IsUnfinished feed.held × (0 < length feed.held)
+unfinished_of feed clean (inl bad) = let e : true ≡ false = sym bad ∙ clean in cc
+unfinished_of feed clean (inr u) = u
+
+-- no character begins in what the feed holds at the end
+pub end_begins_none : (feed : Feeding) (r : Result (Unit {0}) Fault) → feed.bad ≡ false → OnOk r ((feed.held ≡ []) × (feed.bad ≡ false)) → IfErr r (λ e. (e.at ≡ feed.at) × ((feed.bad ≡ true) ⊎ (IsUnfinished feed.held × (0 < length feed.held)))) → BeginsNoCharacter feed.held
+end_begins_none feed (Ok x) clean ok err = subst BeginsNoCharacter (sym ok.0) no_bytes
+end_begins_none feed (Err e) clean ok err = unfinished_begins_none feed.held (unfinished_of feed clean err.1).0

@@ -1,0 +1,253 @@
+-- What characters add, and what they are refused for.
+use Rattle.std.proofs.Common.{◌≡◌, ℕ, suc, ◌+◌, ◌<◌, ◌≤◌, Option, None, Some, List, [], ◌∷◌, ◌++◌, length, take, drop, get_or, refl, sym, ap, ◌∙◌, subst, arith}
+use Rattle.std.proofs.Common.{Result, Ok, Err}
+use Rattle.std.specs.Prelude.{OnOk, IfErr}
+use Rattle.std.proofs.lemmas.Grind.{get_or_default_zero}
+use Rattle.std.proofs.lemmas.List.{append_assoc, append-nil, length-append, length-drop, take-append-drop, take_all}
+use Rattle.std.proofs.Math.Seq.{drop-cons, take-suc}
+use Rattle.std.specs.Char.{len_utf8}
+use Rattle.owl_text.specs.Utf8.{size}
+use Rattle.owl_text.specs.Utf8Laws.{size_append}
+use Rattle.owl_text.specs.declared.fault.LexFault.{LexFault}
+use Rattle.owl_text.specs.declared.fault.LexFault.TheVariants.{BadToken, Memory}
+use Rattle.owl_lexer.specs.Adding.{placed_at, tokens_of}
+use Rattle.owl_lexer.specs.AddingLaws.{added_both}
+use Rattle.owl_lexer.specs.Automata.{Automaton}
+use Rattle.owl_lexer.specs.Cutting.{Lexeme}
+use Rattle.owl_lexer.specs.Giving.{Begun, EndsAt, Gives, GivesSome}
+use Rattle.owl_lexer.specs.GivingLaws.{behind_front, ends_behind, ends_front, ends_here, ends_some, front_of, gives_both, gives_front, gives_held, gives_none, some_behind, some_front, some_none}
+use Rattle.owl_lexer.specs.Hands.{IsFrontOf, IsReady, Refuses, Takes, begun_of}
+use Rattle.owl_lexer.specs.Holding.{IsFront}
+use Rattle.owl_lexer.specs.declared.hand.Front.{Front}
+use Rattle.owl_lexer.specs.declared.hand.Hand.{Hand}
+use Rattle.owl_lexer.specs.declared.placed.Placed.{Placed}
+use Rattle.owl_lexer.proofs.Hands.{Grows}
+
+-- a lexeme stands for one token at most
+pub one_at_most : {T : Type 0} → (at : ℕ) (token : Option T) → length (placed_at at token) ≤ 1
+one_at_most at None = omega arith
+one_at_most at (Some token) = omega arith
+
+-- a character is held
+
+same_begun : (one other : Begun) → one.at ≡ other.at → one.held ≡ other.held → one ≡ other
+same_begun one other e f = λ i. record { at = e i; held = f i }
+
+pub takes_held : {T : Type 0} → (a : Automaton) (value : ℕ → List ℕ → Option T) (old new : Hand) (c : ℕ) (before : List (Placed T)) → IsReady a new → Grows old new c → Takes a value old (c ∷ []) before before new
+takes_held a value old new c before r g =
+    let size_is : length new.held.items ≡ length old.held.items + 1 = ap (λ (l : List ℕ). length l) g.held ∙ length-append old.held.items (c ∷ []) in
+    let after = g.end in
+    record {
+      ready = r;
+      adds = record {
+        given = [];
+        added = sym (append-nil before);
+        gives = subst (Gives a (begun_of old) (c ∷ []) []) (same_begun (record { at = old.at; held = old.held.items ++ c ∷ [] }) (begun_of new) (sym g.at) (sym g.held)) (gives_held a old.at c old.held.items);
+      };
+      few = omega arith;
+      short = omega arith;
+      end = omega arith;
+    }
+
+-- memory ran out, and no lexeme was given
+pub refuses_memory : {T : Type 0} → (a : Automaton) (value : ℕ → List ℕ → Option T) (old : Begun) (cs : List ℕ) (before after : List (Placed T)) (fault : LexFault) → fault ≡ Memory → after ≡ before → Refuses a value old cs before after fault
+refuses_memory a value old cs before after fault e same = record {
+  some = record { given = []; added = same ∙ sym (append-nil before); next = some_none a old cs };
+  bad = λ ne. absurd (ne e);
+}
+
+-- no lexeme stands in front
+pub refuses_here : {T : Type 0} → (a : Automaton) (value : ℕ → List ℕ → Option T) (old : Hand) (c : ℕ) (before : List (Placed T)) → IsReady a old → a.step old.state c ≡ None → old.front ≡ None → Refuses a value (begun_of old) (c ∷ []) before before (BadToken old.at)
+refuses_here a value old c before r stuck none =
+    let front = subst (IsFrontOf a old.at old.held.items) none r.front in
+    let ends = ends_here a old.at old.held.items old.state c r.leads front stuck in
+    record {
+      some = record { given = []; added = sym (append-nil before); next = ends_some a (begun_of old) (c ∷ []) [] (BadToken old.at) ends };
+      bad = λ ne. record { given = []; added = sym (append-nil before); ends = ends };
+    }
+
+-- the longest lexeme in front was given, and nothing is in hand
+
+pub record GivesFront {T : Type 0} (a : Automaton) (value : ℕ → List ℕ → Option T) (old mid : Hand) (front : Front) (before between : List (Placed T)) : Type 0 where
+  pub old_ready : IsReady a old
+  pub is : old.front ≡ Some front
+  pub ready : IsReady a mid
+  pub begun : begun_of mid ≡ record { at = front.end; held = [] }
+  pub end : mid.end ≡ front.end
+  pub added : between ≡ before ++ placed_at old.at (value front.kind (take front.length old.held.items))
+
+pub front_is : (a : Automaton) (old : Hand) (front : Front) → IsReady a old → old.front ≡ Some front → IsFront a old.held.items front.length front.kind × (front.end ≡ old.at + size (take front.length old.held.items))
+front_is a old front r e = subst (IsFrontOf a old.at old.held.items) e r.front
+
+pub mid_is : {T : Type 0} → (a : Automaton) (value : ℕ → List ℕ → Option T) (old mid : Hand) (front : Front) (before between : List (Placed T)) → GivesFront a value old mid front before between → begun_of mid ≡ behind_front old.at old.held.items front.length
+mid_is a value old mid front before between g =
+    let end = (front_is a old front g.old_ready g.is).1 in
+    g.begun ∙ same_begun (record { at = front.end; held = [] }) (behind_front old.at old.held.items front.length) end refl
+
+pub front_added : {T : Type 0} → (a : Automaton) (value : ℕ → List ℕ → Option T) (old mid : Hand) (front : Front) (before between after : List (Placed T)) (ys : List Lexeme) → GivesFront a value old mid front before between → after ≡ between ++ tokens_of value ys → after ≡ before ++ tokens_of value (front_of old.at old.held.items front.length front.kind ∷ ys)
+front_added a value old mid front before between after ys g e =
+    e ∙ ap (λ l. l ++ tokens_of value ys) g.added ∙ append_assoc before (placed_at old.at (value front.kind (take front.length old.held.items))) (tokens_of value ys)
+
+-- how many characters stand behind the front, and how many bytes they take
+pub record Parts (old : Hand) (front : Front) : Type 0 where
+  pub some : 0 < front.length
+  pub characters : front.length + length (drop front.length old.held.items) ≡ length old.held.items
+  pub bytes : front.end + size (drop front.length old.held.items) ≡ old.end
+
+pub parts_of : (a : Automaton) (old : Hand) (front : Front) → IsReady a old → old.front ≡ Some front → Parts old front
+parts_of a old front r e =
+    let is = front_is a old front r e in
+    let within = is.0.within in
+    let end_is = is.1 in
+    let behind = r.end in
+    let whole : size old.held.items ≡ size (take front.length old.held.items) + size (drop front.length old.held.items) =
+    ap size (sym (take-append-drop front.length old.held.items)) ∙ size_append (take front.length old.held.items) (drop front.length old.held.items) in
+    record { some = is.0.some; characters = omega (arith, length-drop front.length old.held.items); bytes = omega arith }
+
+pub takes_front : {T : Type 0} → (a : Automaton) (value : ℕ → List ℕ → Option T) (old mid new : Hand) (front : Front) (c : ℕ) (cs : List ℕ) (before between after : List (Placed T)) → GivesFront a value old mid front before between → a.step old.state c ≡ None → cs ≡ drop front.length old.held.items ++ c ∷ [] → Takes a value mid cs between after new → Takes a value old (c ∷ []) before after new
+takes_front {T = T} a value old mid new front c cs before between after g stuck is t =
+    let here = front_is a old front g.old_ready g.is in
+    let gives : Gives a (behind_front old.at old.held.items front.length) (drop front.length old.held.items ++ c ∷ []) t.adds.given (begun_of new) =
+    subst (λ (l : List ℕ). Gives a (behind_front old.at old.held.items front.length) l t.adds.given (begun_of new)) is
+    (subst (λ (b : Begun). Gives a b cs t.adds.given (begun_of new)) (mid_is a value old mid front before between g) t.adds.gives) in
+    let parts = parts_of a old front g.old_ready g.is in
+    let some = parts.some in
+    let characters = parts.characters in
+    let bytes = parts.bytes in
+    let nothing : length mid.held.items ≡ 0 = ap (λ (b : Begun). length b.held) g.begun in
+    let many : length cs ≡ length (drop front.length old.held.items) + 1 = ap (λ (l : List ℕ). length l) is ∙ length-append (drop front.length old.held.items) (c ∷ []) in
+    let sizes : size cs ≡ size (drop front.length old.held.items) + size (c ∷ []) = ap size is ∙ size_append (drop front.length old.held.items) (c ∷ []) in
+    let one : length between ≤ length before + 1 =
+    let l = ap (λ (l : List (Placed T)). length l) g.added in
+    let m = length-append before (placed_at old.at (value front.kind (take front.length old.held.items))) in
+    let n = one_at_most old.at (value front.kind (take front.length old.held.items)) in
+    omega arith in
+    let few = t.few in
+    let short = t.short in
+    let end = t.end in
+    let mid_end = g.end in
+    record {
+      ready = t.ready;
+      adds = record {
+        given = front_of old.at old.held.items front.length front.kind ∷ t.adds.given;
+        added = front_added a value old mid front before between after t.adds.given g t.adds.added;
+        gives = gives_front a old.at old.held.items old.state front.length front.kind c t.adds.given (begun_of new) g.old_ready.leads here.0 stuck gives;
+      };
+      few = omega arith;
+      short = omega arith;
+      end = omega arith;
+    }
+
+pub refuses_front : {T : Type 0} → (a : Automaton) (value : ℕ → List ℕ → Option T) (old mid : Hand) (front : Front) (c : ℕ) (cs : List ℕ) (before between after : List (Placed T)) (fault : LexFault) → GivesFront a value old mid front before between → a.step old.state c ≡ None → cs ≡ drop front.length old.held.items ++ c ∷ [] → Refuses a value (begun_of mid) cs between after fault → Refuses a value (begun_of old) (c ∷ []) before after fault
+refuses_front a value old mid front c cs before between after fault g stuck is r =
+    let here = front_is a old front g.old_ready g.is in
+    let behind = behind_front old.at old.held.items front.length in
+    let cs_is = drop front.length old.held.items ++ c ∷ [] in
+    record {
+      some = record {
+        given = front_of old.at old.held.items front.length front.kind ∷ r.some.given;
+        added = front_added a value old mid front before between after r.some.given g r.some.added;
+        next = some_front a old.at old.held.items old.state front.length front.kind c r.some.given g.old_ready.leads here.0 stuck
+            (subst (λ (l : List ℕ). GivesSome a behind l r.some.given) is (subst (λ (b : Begun). GivesSome a b cs r.some.given) (mid_is a value old mid front before between g) r.some.next));
+      };
+      bad = λ ne.
+          let bad = r.bad ne in
+          record {
+            given = front_of old.at old.held.items front.length front.kind ∷ bad.given;
+            added = front_added a value old mid front before between after bad.given g bad.added;
+            ends = ends_front a old.at old.held.items old.state front.length front.kind c bad.given fault g.old_ready.leads here.0 stuck
+                (subst (λ (l : List ℕ). EndsAt a behind l bad.given fault) is (subst (λ (b : Begun). EndsAt a b cs bad.given fault) (mid_is a value old mid front before between g) bad.ends));
+          };
+    }
+
+-- several characters
+
+pub takes_none : {T : Type 0} → (a : Automaton) (value : ℕ → List ℕ → Option T) (old : Hand) (before : List (Placed T)) → IsReady a old → Takes a value old [] before before old
+takes_none a value old before r = record {
+  ready = r;
+  adds = record { given = []; added = sym (append-nil before); gives = gives_none a (begun_of old) };
+  few = omega arith;
+  short = omega arith;
+  end = omega arith;
+}
+
+pub takes_both : {T : Type 0} → (a : Automaton) (value : ℕ → List ℕ → Option T) (old mid new : Hand) (cs ds : List ℕ) (before between after : List (Placed T)) → Takes a value old cs before between mid → Takes a value mid ds between after new → Takes a value old (cs ++ ds) before after new
+takes_both a value old mid new cs ds before between after t u =
+    let many = length-append cs ds in
+    let sizes = size_append cs ds in
+    let few = t.few in
+    let fewer = u.few in
+    let short = t.short in
+    let shorter = u.short in
+    let end = t.end in
+    let later = u.end in
+    record {
+      ready = u.ready;
+      adds = record {
+        given = t.adds.given ++ u.adds.given;
+        added = added_both value before between after t.adds.given u.adds.given t.adds.added u.adds.added;
+        gives = gives_both a (begun_of old) (begun_of mid) (begun_of new) cs ds t.adds.given u.adds.given t.adds.gives u.adds.gives;
+      };
+      few = omega arith;
+      short = omega arith;
+      end = omega arith;
+    }
+
+pub takes_more : {T : Type 0} → (a : Automaton) (value : ℕ → List ℕ → Option T) (old mid new : Hand) (cs : List ℕ) (i : ℕ) (before between after : List (Placed T)) → i < length cs → Takes a value old (take i cs) before between mid → Takes a value mid (get_or cs i 0 ∷ []) between after new → Takes a value old (take (i + 1) cs) before after new
+takes_more a value old mid new cs i before between after lt t u =
+    let next : take i cs ++ get_or cs i 0 ∷ [] ≡ take (i + 1) cs = sym (take-suc cs i 0 lt) ∙ ap (λ (n : ℕ). take n cs) (let e : suc i ≡ i + 1 = omega arith in e) in
+    subst (λ (l : List ℕ). Takes a value old l before after new) next (takes_both a value old mid new (take i cs) (get_or cs i 0 ∷ []) before between after t u)
+
+pub takes_all : {T : Type 0} → (a : Automaton) (value : ℕ → List ℕ → Option T) (old new : Hand) (cs : List ℕ) (i : ℕ) (before after : List (Placed T)) → length cs ≤ i → Takes a value old (take i cs) before after new → Takes a value old cs before after new
+takes_all a value old new cs i before after le t = subst (λ (l : List ℕ). Takes a value old l before after new) (take_all i cs le) t
+
+-- a character in a list, what stands before it and what stands behind it
+pub parted : (cs : List ℕ) (i : ℕ) → i < length cs → take i cs ++ (get_or cs i 0 ∷ [] ++ drop (suc i) cs) ≡ cs
+parted cs i lt = ap (λ (l : List ℕ). take i cs ++ l) (sym (drop-cons cs i 0 lt)) ∙ take-append-drop i cs
+
+pub refuses_in : {T : Type 0} → (a : Automaton) (value : ℕ → List ℕ → Option T) (old mid : Hand) (cs : List ℕ) (i : ℕ) (before between after : List (Placed T)) (fault : LexFault) → i < length cs → Takes a value old (take i cs) before between mid → Refuses a value (begun_of mid) (get_or cs i 0 ∷ []) between after fault → Refuses a value (begun_of old) cs before after fault
+refuses_in a value old mid cs i before between after fault lt t r = record {
+  some = record {
+    given = t.adds.given ++ r.some.given;
+    added = added_both value before between after t.adds.given r.some.given t.adds.added r.some.added;
+    next = subst (λ (l : List ℕ). GivesSome a (begun_of old) l (t.adds.given ++ r.some.given)) (parted cs i lt)
+        (some_behind a (begun_of old) (begun_of mid) (take i cs) (get_or cs i 0 ∷ []) (drop (suc i) cs) t.adds.given r.some.given t.adds.gives r.some.next);
+  };
+  bad = λ ne.
+      let bad = r.bad ne in
+      record {
+        given = t.adds.given ++ bad.given;
+        added = added_both value before between after t.adds.given bad.given t.adds.added bad.added;
+        ends = subst (λ (l : List ℕ). EndsAt a (begun_of old) l (t.adds.given ++ bad.given) fault) (parted cs i lt)
+            (ends_behind a (begun_of old) (begun_of mid) (take i cs) (get_or cs i 0 ∷ []) (drop (suc i) cs) t.adds.given bad.given fault t.adds.gives bad.ends);
+      };
+}
+
+-- the places of characters in a list
+pub room_left : (cs : List ℕ) (i : ℕ) → i < length cs → size (take i cs) + len_utf8 (get_or cs i 0) ≤ size cs
+room_left cs i lt =
+    let whole : size cs ≡ size (take i cs) + (len_utf8 (get_or cs i 0) + size (drop (suc i) cs)) =
+    ap size (sym (parted cs i lt)) ∙ size_append (take i cs) (get_or cs i 0 ∷ [] ++ drop (suc i) cs) in
+    omega arith
+
+-- answers of calls
+
+pub on_ok : {P Q : Type 0} → (r : Result (Unit {0}) LexFault) → (P → Q) → OnOk r P → OnOk r Q
+on_ok (Ok x) f h = f h
+on_ok (Err e) f h = tt
+
+pub if_err : {P Q : LexFault → Type 0} → (r : Result (Unit {0}) LexFault) → ((fault : LexFault) → P fault → Q fault) → IfErr r P → IfErr r Q
+if_err (Ok x) f h = tt
+if_err (Err e) f h = f e h
+
+-- nothing stands behind the front
+pub alone : (behind rest : List ℕ) (c : ℕ) → length behind ≡ 0 → behind ≡ rest → c ∷ [] ≡ rest ++ c ∷ []
+alone [] rest c e same = ap (λ (l : List ℕ). l ++ c ∷ []) same
+alone (b ∷ behind) rest c e same = absurd (omega arith)
+
+pub item_is : (cs : List ℕ) (i x : ℕ) → i < length cs → x ≡ get_or cs i x → x ≡ get_or cs i 0
+item_is cs i x lt e = e ∙ get_or_default_zero cs i x lt
+
+-- what stands behind the front, and the character that came
+pub with_next : (cs added behind rest : List ℕ) (c : ℕ) → cs ≡ added → added ≡ behind ++ c ∷ [] → behind ≡ rest → cs ≡ rest ++ c ∷ []
+with_next cs added behind rest c e f g = e ∙ f ∙ ap (λ (l : List ℕ). l ++ c ∷ []) g

@@ -1,0 +1,19 @@
+-- The last lexemes are given, and a character that is cut off is no character.
+use Rattle.std.proofs.Common.{refl}
+use Rattle.owl_lexer.proofs.Bytes.{end_begins_none, ends_badly, ends_cut, ends_well, unfinished_of}
+use Rattle.owl_lexer.proofs.source.end.Goals as goal
+
+pub returns-in-Err-clause-err : goal.returns-in-Err-clause-err
+returns-in-Err-clause-err g c =
+    ends_badly g.L.TokenLanguage.automaton g.L.TokenLanguage.value_of c.args.source.now c.args.into.now.items c.finish.new.into.items c.in-Err.fault c.requires.ready
+    (end_begins_none c.args.source.now.feed c.finish-whole.result c.requires.ready.clean c.finish-whole.ensures.ok c.finish-whole.ensures.err)
+    c.in-Err.ensures.err
+
+pub returns-in-Ok-clause-ok : goal.returns-in-Ok-clause-ok
+returns-in-Ok-clause-ok g c =
+    ends_well g.L.TokenLanguage.automaton g.L.TokenLanguage.value_of c.args.source.now _ c.args.into.now.items c.finish.new.into.items c.requires.ready c.in-Ok.ensures.ok.0 refl refl c.in_default.ensures.ok
+
+pub returns-in-Err-whole-clause-err : goal.returns-in-Err-whole-clause-err
+returns-in-Err-whole-clause-err g c =
+    ends_cut g.L.TokenLanguage.automaton g.L.TokenLanguage.value_of c.args.source.now c.finish.new.hand c.in-Err-whole.bad.at c.args.into.now.items c.finish.new.into.items c.requires.ready c.in-Err-whole.ensures.err.0
+    (unfinished_of c.args.source.now.feed c.requires.ready.clean c.in-Err-whole.ensures.err.1) c.in_default.ensures.ok

@@ -1,0 +1,49 @@
+-- What the machine has in hand, and what it makes of characters.
+use Rattle.std.specs.Prelude.{◌≡◌, ◌≢◌, ℕ, ◌+◌, ◌≤◌, List, length, take, Option, None, Some}
+use Rattle.owl_text.specs.Utf8.{size}
+use Rattle.owl_text.specs.declared.fault.LexFault.{LexFault}
+use Rattle.owl_text.specs.declared.fault.LexFault.TheVariants.{Memory}
+use Rattle.owl_lexer.specs.Adding.{Adds, AddsLast, AddsLastUpTo, AddsSome, AddsSomeLast, AddsUpTo}
+use Rattle.owl_lexer.specs.Automata.{Automaton}
+use Rattle.owl_lexer.specs.Giving.{Begun, nothing_at}
+use Rattle.owl_lexer.specs.Holding.{IsFront, LeadsTo, NoneBeyond}
+use Rattle.owl_lexer.specs.declared.hand.Front.{Front}
+use Rattle.owl_lexer.specs.declared.hand.Hand.{Hand}
+use Rattle.owl_lexer.specs.declared.placed.Placed.{Placed}
+
+-- the longest lexeme in front of what is held, where there is one, and the byte behind it
+abbrev pub IsFrontOf : Automaton → ℕ → List ℕ → Option Front → Type 0
+IsFrontOf a at held None = NoneBeyond a held 0
+IsFrontOf a at held (Some front) = IsFront a held front.length front.kind × (front.end ≡ at + size (take front.length held))
+
+pub record IsReady (a : Automaton) (hand : Hand) : Type 0 where
+  pub leads : LeadsTo a hand.held.items hand.state
+  pub front : IsFrontOf a hand.at hand.held.items hand.front
+  pub end : hand.end ≡ hand.at + size hand.held.items
+
+abbrev pub begun_of : Hand → Begun
+begun_of hand = record { at = hand.at; held = hand.held.items }
+
+-- the characters were taken
+pub record Takes {T : Type 0} (a : Automaton) (value : ℕ → List ℕ → Option T) (old : Hand) (cs : List ℕ) (before after : List (Placed T)) (new : Hand) : Type 0 where
+  pub ready : IsReady a new
+  pub adds : Adds a value (begun_of old) cs before after (begun_of new)
+  pub few : length after + length new.held.items ≤ length before + length old.held.items + length cs
+  pub short : length new.held.items ≤ length old.held.items + length cs
+  pub end : new.end ≡ old.end + size cs
+
+-- the characters were refused, or memory ran out
+pub record Refuses {T : Type 0} (a : Automaton) (value : ℕ → List ℕ → Option T) (old : Begun) (cs : List ℕ) (before after : List (Placed T)) (fault : LexFault) : Type 0 where
+  pub some : AddsSome a value old cs before after
+  pub bad : fault ≢ Memory → AddsUpTo a value old cs before after fault
+
+-- the end was told
+pub record Finishes {T : Type 0} (a : Automaton) (value : ℕ → List ℕ → Option T) (old : Hand) (before after : List (Placed T)) (new : Hand) : Type 0 where
+  pub ready : IsReady a new
+  pub begun : begun_of new ≡ nothing_at old.end
+  pub adds : AddsLast a value (begun_of old) before after
+  pub few : length after ≤ length before + length old.held.items
+
+pub record FinishesBadly {T : Type 0} (a : Automaton) (value : ℕ → List ℕ → Option T) (old : Begun) (before after : List (Placed T)) (fault : LexFault) : Type 0 where
+  pub some : AddsSomeLast a value old before after
+  pub bad : fault ≢ Memory → AddsLastUpTo a value old before after fault

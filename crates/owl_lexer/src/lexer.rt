@@ -1,0 +1,131 @@
+//! Tokens of bytes that come in pieces.
+
+ghost use Rattle.std.specs.Prelude.{◌≡◌, ◌≢◌, ℕ, ◌+◌, ◌^◌, ◌<◌, ◌≤◌, List, [], ◌∷◌, ◌++◌, length, true, false, None, Some, Err, OnOk, OnErr, IfErr};
+ghost use Rattle.owl_text.specs.declared.fault.LexFault.{LexFault};
+ghost use Rattle.owl_lexer.specs.BytesGiving.{AddsBytes, AddsBytesUpTo, AddsLastBytes, AddsSomeBytes, AddsSomeLastBytes, end_of_bytes, nothing_begun, nothing_fed};
+
+use crate::language::TokenLanguage;
+use crate::placed::Placed;
+use crate::source::{Source, end, fresh_source, take_all};
+use owl_text::LexFault;
+use std::alloc::Global;
+use std::marker::{Model, PhantomData};
+
+/// Cuts bytes into the tokens of a language, in whatever pieces they come. It
+/// keeps the lexeme that is begun and no more.
+///
+/// Contracts see what is begun, and the refusal that is kept.
+#[derive(Drop)]
+pub struct Lexer<L: TokenLanguage> {
+    source: Source,
+    refused: Option<LexFault>,
+    language: PhantomData<L>,
+}
+
+impl<L: TokenLanguage> Model for Lexer<L> {
+    ghost use Rattle.std.specs.Prelude.{◌≡◌, ◌≤◌, ◌^◌, None};
+    ghost use Rattle.owl_lexer.specs.BytesGiving.{Lexing, end_of_bytes};
+    ghost use Rattle.owl_lexer.specs.Sources.{IsOpen, begun_in};
+
+    ghost Value = { Lexing };
+
+    ghost view = { λ lexer. record { begun = begun_in lexer.source; refused = lexer.refused } };
+
+    ghost invariant = { λ lexer. lexer.refused ≡ None →
+        IsOpen L.automaton lexer.source × (end_of_bytes (begun_in lexer.source) ≤ 2 ^ 62) };
+}
+
+impl<L: TokenLanguage> Lexer<L> {
+    /// A lexer that was fed nothing. Takes no memory.
+    pub fn new(alloc: Global) -> Lexer<L>
+        ensures { result ≡ record { begun = nothing_fed; refused = None } }
+    {
+        Lexer {
+            source: fresh_source::<L>(alloc),
+            refused: None,
+            language: PhantomData,
+        }
+    }
+
+    /// Takes the next bytes, and adds the tokens that are whole now to the end
+    /// of `into`. A byte order mark in front of all is passed over.
+    ///
+    /// `BadUtf8` and `BadToken` come only where at their place no character,
+    /// or no lexeme, begins, whatever bytes follow; the tokens before that
+    /// place were given. `Memory` comes where memory runs out; `into` then has
+    /// what it had and perhaps some of the next tokens. A lexer that has
+    /// refused answers the same refusal from then on, and takes nothing.
+    pub fn feed(&mut self, piece: &[u8], into: &mut Vec<Placed<L::Token>>) -> Result<(), LexFault>
+        requires { end_of_bytes self.old.begun + length piece.now ≤ 2 ^ 62 }
+        ensures ok { OnOk result
+            (AddsBytes L.automaton L.value_of self.old.begun piece.now
+            into.old.items into.new.items self.new.begun) }
+        ensures bad { self.old.refused ≡ None → IfErr result (λ fault. fault ≢ LexFault.Memory →
+            AddsBytesUpTo L.automaton L.value_of self.old.begun piece.now
+            into.old.items into.new.items fault) }
+        ensures some { OnErr result
+            (AddsSomeBytes L.automaton L.value_of self.old.begun piece.now
+            into.old.items into.new.items) }
+        ensures few { OnOk result
+            (length into.new.items + length self.new.begun.held
+            ≤ length into.old.items + length self.old.begun.held + length piece.now) }
+        ensures end { OnOk result
+            (end_of_bytes self.new.begun ≡ end_of_bytes self.old.begun + length piece.now) }
+        ensures open_yet { OnOk result ((self.old.refused ≡ None) × (self.new.refused ≡ None)) }
+        ensures keeps { IfErr result (λ fault. self.new.refused ≡ Some fault) }
+        ensures same { (fault : LexFault) → self.old.refused ≡ Some fault →
+            (result ≡ Err fault) × (self.new ≡ self.old) × (into.new.items ≡ into.old.items) }
+    {
+        if let Some(fault) = self.refused {
+            return Err(fault);
+        }
+        match take_all::<L>(&mut self.source, piece, into) {
+            Ok(()) => Ok(()),
+            Err(fault) => {
+                self.refused = Some(fault);
+                Err(fault)
+            }
+        }
+    }
+
+    /// Adds the last tokens, which the end makes whole.
+    ///
+    /// `BadUtf8` and `BadToken` come exactly where at their place no
+    /// character, or no lexeme, begins; the tokens before that place were
+    /// given. `Memory` comes where memory runs out; `into` then has what it
+    /// had and perhaps some of the last tokens. After a refusal the lexer
+    /// answers the same one from then on. After an answer it begins afresh,
+    /// at the place of the next byte.
+    pub fn finish(&mut self, into: &mut Vec<Placed<L::Token>>) -> Result<(), LexFault>
+        ensures ok { OnOk result
+            (AddsLastBytes L.automaton L.value_of self.old.begun
+            into.old.items into.new.items None) }
+        ensures bad { self.old.refused ≡ None → IfErr result (λ fault. fault ≢ LexFault.Memory →
+            AddsLastBytes L.automaton L.value_of self.old.begun
+            into.old.items into.new.items (Some fault)) }
+        ensures some { OnErr result
+            (AddsSomeLastBytes L.automaton L.value_of self.old.begun
+            into.old.items into.new.items) }
+        ensures few { OnOk result
+            (length into.new.items
+            ≤ length into.old.items + length self.old.begun.held) }
+        ensures open_yet { OnOk result (self.old.refused ≡ None) }
+        ensures again { OnOk result
+            (self.new
+            ≡ record { begun = nothing_begun (end_of_bytes self.old.begun); refused = None }) }
+        ensures keeps { IfErr result (λ fault. self.new.refused ≡ Some fault) }
+        ensures same { (fault : LexFault) → self.old.refused ≡ Some fault →
+            (result ≡ Err fault) × (self.new ≡ self.old) × (into.new.items ≡ into.old.items) }
+    {
+        if let Some(fault) = self.refused {
+            return Err(fault);
+        }
+        match end::<L>(&mut self.source, into) {
+            Ok(()) => Ok(()),
+            Err(fault) => {
+                self.refused = Some(fault);
+                Err(fault)
+            }
+        }
+    }
+}

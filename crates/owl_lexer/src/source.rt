@@ -1,0 +1,123 @@
+//! What a lexer has in hand of bytes, and how it takes more.
+
+ghost use Rattle.std.specs.Prelude.{◌≡◌, ◌+◌, ◌^◌, ◌<◌, ◌≤◌, List, [], ◌∷◌, ◌++◌, length, true, false, ◌&&◌, OnOk, IfErr};
+ghost use Rattle.owl_text.specs.Tokens.{is_mark};
+ghost use Rattle.owl_lexer.specs.BytesGiving.{end_of_bytes, nothing_fed};
+ghost use Rattle.owl_lexer.specs.Sources.{EndsBytes, EndsBytesBadly, IsOpen, RefusesBytes, TakesBytes, begun_in};
+
+use crate::hand::{Hand, empty_hand, finish, push};
+use crate::language::TokenLanguage;
+use crate::placed::Placed;
+use owl_text::{LexFault, Utf8Feed, Utf8Step};
+use std::alloc::Global;
+
+const BYTE_ORDER_MARK: char = '\u{FEFF}';
+
+/// The characters in hand, the bytes of a character that is begun, and whether
+/// nothing but these was fed.
+#[derive(Debug, Drop)]
+pub struct Source {
+    pub hand: Hand,
+    pub feed: Utf8Feed,
+    pub fresh: bool,
+}
+
+/// Nothing in hand, and nothing fed. Takes no memory.
+pub fn fresh_source<L: TokenLanguage>(alloc: Global) -> Source
+    ensures ready { IsOpen L.automaton result }
+    ensures begun { begun_in result ≡ nothing_fed }
+{
+    Source {
+        hand: empty_hand::<L>(alloc, 0),
+        feed: Utf8Feed::new(),
+        fresh: true,
+    }
+}
+
+/// Whether a character that is whole is a byte order mark in front of all.
+fn is_mark_in_front(fresh: bool, c: char) -> bool
+    ensures { result ≡ (fresh && is_mark c) }
+{
+    fresh && c == BYTE_ORDER_MARK
+}
+
+/// Takes a byte, and adds the tokens that are whole now to the end of `into`.
+pub fn take<L: TokenLanguage>(
+    source: &mut Source,
+    byte: u8,
+    into: &mut Vec<Placed<L::Token>>,
+) -> Result<(), LexFault>
+    requires ready { IsOpen L.automaton source.old }
+    requires room { end_of_bytes (begun_in source.old) < 2 ^ 62 }
+    ensures ok { OnOk result
+        (TakesBytes L.automaton L.value_of source.old (byte ∷ [])
+        into.old.items into.new.items source.new) }
+    ensures err { IfErr result (λ fault.
+        RefusesBytes L.automaton L.value_of (begun_in source.old) (byte ∷ [])
+        into.old.items into.new.items fault) }
+{
+    match source.feed.push(byte) {
+        Utf8Step::More => Ok(()),
+        Utf8Step::Char { c, .. } => {
+            let passes = is_mark_in_front(source.fresh, c);
+            source.fresh = false;
+            if passes {
+                source.hand.at += 3;
+                source.hand.end += 3;
+                return Ok(());
+            }
+            push::<L>(&mut source.hand, c, into)
+        }
+        Utf8Step::Bad { at } => match finish::<L>(&mut source.hand, into) {
+            Ok(()) => Err(LexFault::BadUtf8 { at }),
+            Err(fault) => Err(fault),
+        },
+    }
+}
+
+/// Takes bytes, one after another.
+pub fn take_all<L: TokenLanguage>(
+    source: &mut Source,
+    bytes: &[u8],
+    into: &mut Vec<Placed<L::Token>>,
+) -> Result<(), LexFault>
+    requires ready { IsOpen L.automaton source.old }
+    requires room { end_of_bytes (begun_in source.old) + length bytes.now ≤ 2 ^ 62 }
+    ensures ok { OnOk result
+        (TakesBytes L.automaton L.value_of source.old bytes.now
+        into.old.items into.new.items source.new) }
+    ensures err { IfErr result (λ fault.
+        RefusesBytes L.automaton L.value_of (begun_in source.old) bytes.now
+        into.old.items into.new.items fault) }
+{
+    for byte in bytes {
+        if let Err(fault) = take::<L>(source, *byte, into) {
+            return Err(fault);
+        }
+    }
+    Ok(())
+}
+
+/// Adds the last tokens, which the end makes whole. Nothing is in hand then.
+pub fn end<L: TokenLanguage>(
+    source: &mut Source,
+    into: &mut Vec<Placed<L::Token>>,
+) -> Result<(), LexFault>
+    requires ready { IsOpen L.automaton source.old }
+    requires room { end_of_bytes (begun_in source.old) ≤ 2 ^ 62 }
+    ensures ok { OnOk result
+        (EndsBytes L.automaton L.value_of source.old into.old.items into.new.items source.new) }
+    ensures err { IfErr result (λ fault.
+        EndsBytesBadly L.automaton L.value_of (begun_in source.old)
+        into.old.items into.new.items fault) }
+{
+    source.fresh = false;
+    let whole = source.feed.finish();
+    if let Err(fault) = finish::<L>(&mut source.hand, into) {
+        return Err(fault);
+    }
+    match whole {
+        Ok(()) => Ok(()),
+        Err(bad) => Err(LexFault::BadUtf8 { at: bad.at }),
+    }
+}
