@@ -1,0 +1,78 @@
+//! The two languages of tokens.
+
+use crate::token::Token;
+use crate::values::value;
+use crate::{functional_table, manchester_table};
+use owl_lexer::{TokenLanguage, class_of, kind_in, step_in};
+use owl_text::NoMemory;
+use std::alloc::Global;
+
+/// The state of a table where a lexeme begins.
+const FIRST_STATE: u8 = 0;
+
+/// The tokens of Functional-Style Syntax (Structural Specification, sections
+/// 2.4, 3.7, 5.6.2 and 5.7).
+pub struct Functional;
+
+/// The tokens of Manchester Syntax (section 2.1).
+pub struct Manchester;
+
+impl TokenLanguage for Functional {
+    ghost use Rattle.owl_tokens.specs.FunctionalTable.{functional_automaton};
+    ghost use Rattle.owl_tokens.specs.Values.{value_of};
+
+    type Token = Token;
+
+    ghost automaton = { functional_automaton };
+
+    ghost value_of = { value_of };
+
+    fn start() -> u8 {
+        FIRST_STATE
+    }
+
+    #[tactic(auto, unfolding(crate::specs::FunctionalTable::functional_table))]
+    fn step(state: u8, c: char) -> Option<u8> {
+        let class = class_of(&functional_table::INTERVALS, functional_table::OTHERS, c);
+        step_in(&functional_table::ROWS, state, class)
+    }
+
+    #[tactic(auto, unfolding(crate::specs::FunctionalTable::functional_table))]
+    fn kind(state: u8) -> Option<u8> {
+        kind_in(&functional_table::KINDS, state)
+    }
+
+    fn value(alloc: Global, kind: u8, spelling: &[char]) -> Result<Option<Token>, NoMemory> {
+        value(alloc, kind, spelling)
+    }
+}
+
+impl TokenLanguage for Manchester {
+    ghost use Rattle.owl_tokens.specs.ManchesterTable.{manchester_automaton};
+    ghost use Rattle.owl_tokens.specs.Values.{value_of};
+
+    type Token = Token;
+
+    ghost automaton = { manchester_automaton };
+
+    ghost value_of = { value_of };
+
+    fn start() -> u8 {
+        FIRST_STATE
+    }
+
+    #[tactic(auto, unfolding(crate::specs::ManchesterTable::manchester_table))]
+    fn step(state: u8, c: char) -> Option<u8> {
+        let class = class_of(&manchester_table::INTERVALS, manchester_table::OTHERS, c);
+        step_in(&manchester_table::ROWS, state, class)
+    }
+
+    #[tactic(auto, unfolding(crate::specs::ManchesterTable::manchester_table))]
+    fn kind(state: u8) -> Option<u8> {
+        kind_in(&manchester_table::KINDS, state)
+    }
+
+    fn value(alloc: Global, kind: u8, spelling: &[char]) -> Result<Option<Token>, NoMemory> {
+        value(alloc, kind, spelling)
+    }
+}

@@ -1,0 +1,136 @@
+//! The tokens that lexemes stand for.
+
+ghost use Rattle.std.specs.Prelude.{◌≡◌, ◌==◌, length, take, drop, unwrap_or, IfOk};
+ghost use Rattle.std.specs.List.{position};
+ghost use Rattle.owl_tokens.specs.declared.token.Token.TheVariants.{Name};
+ghost use Rattle.owl_tokens.specs.Values.{between_ends, local_in, prefix_in, prefix_length, sign_of, unescaped, value_of};
+
+use crate::kinds;
+use crate::token::{Sign, Token};
+use owl_text::{NoMemory, Text};
+use std::alloc::Global;
+
+/// The first characters, so many.
+fn front(chars: &[char], count: usize) -> &[char]
+    ensures { result.now ≡ take count chars.now }
+{
+    if count < chars.len() {
+        &chars[..count]
+    } else {
+        chars
+    }
+}
+
+/// What stands behind the first characters, so many.
+fn behind(chars: &[char], count: usize) -> &[char]
+    ensures { result.now ≡ drop count chars.now }
+{
+    if count < chars.len() {
+        &chars[count..]
+    } else {
+        &[]
+    }
+}
+
+/// What stands between the first character and the last.
+fn between_ends(chars: &[char]) -> &[char]
+    ensures { result.now ≡ between_ends chars.now }
+{
+    front(behind(chars, 1), chars.len().saturating_sub(2))
+}
+
+/// The place of the first colon, if there is one.
+fn colon_in(chars: &[char]) -> Option<usize>
+    ensures { result ≡ position (λ c. c == 0x3A) chars.now }
+{
+    chars.iter().position(|c| *c == ':')
+}
+
+/// How many characters stand in front of the first colon.
+fn prefix_length(chars: &[char]) -> usize
+    ensures { result ≡ prefix_length chars.now }
+{
+    colon_in(chars).unwrap_or(chars.len())
+}
+
+/// The text of these characters.
+fn text_of(alloc: Global, chars: &[char]) -> Result<Text, NoMemory>
+    ensures { IfOk result (λ text. text ≡ chars.now) }
+{
+    let mut text = Text::new(alloc);
+    for c in chars {
+        text.push(*c)?;
+    }
+    Ok(text)
+}
+
+/// The text of these characters, without the backslashes in front of others.
+#[tactic(auto, unfolding(crate::specs::Values::unescaped))]
+fn unescaped(alloc: Global, chars: &[char]) -> Result<Text, NoMemory>
+    ensures { IfOk result (λ text. text ≡ unescaped chars.now) }
+{
+    let mut text = Text::new(alloc);
+    let mut escaped = false;
+    for c in chars {
+        if *c == '\\' && !escaped {
+            escaped = true;
+        } else {
+            text.push(*c)?;
+            escaped = false;
+        }
+    }
+    Ok(text)
+}
+
+/// The punctuation mark of a kind, if the kind is one of a mark.
+#[tactic(auto, unfolding(crate::specs::Values::sign_of))]
+fn sign_of(kind: u8) -> Option<Sign>
+    ensures { result ≡ sign_of kind }
+{
+    match kind {
+        kinds::OPEN => Some(Sign::Open),
+        kinds::CLOSE => Some(Sign::Close),
+        kinds::EQUALS => Some(Sign::Equals),
+        kinds::CARETS => Some(Sign::Carets),
+        kinds::OPEN_BRACE => Some(Sign::OpenBrace),
+        kinds::CLOSE_BRACE => Some(Sign::CloseBrace),
+        kinds::OPEN_BRACKET => Some(Sign::OpenBracket),
+        kinds::CLOSE_BRACKET => Some(Sign::CloseBracket),
+        kinds::COMMA => Some(Sign::Comma),
+        kinds::LESS => Some(Sign::Less),
+        kinds::AT_MOST => Some(Sign::AtMost),
+        kinds::GREATER => Some(Sign::Greater),
+        kinds::AT_LEAST => Some(Sign::AtLeast),
+        _ => None,
+    }
+}
+
+/// The token of an abbreviated IRI.
+fn name(alloc: Global, spelling: &[char]) -> Result<Token, NoMemory>
+    ensures { IfOk result (λ token. token ≡ Name (prefix_in spelling.now) (unescaped (local_in spelling.now))) }
+{
+    let count = prefix_length(spelling);
+    let prefix = text_of(alloc, front(spelling, count))?;
+    let local = unescaped(alloc, behind(behind(spelling, count), 1))?;
+    Ok(Token::Name(prefix, local))
+}
+
+/// The token that a lexeme of this kind stands for. White space and comments
+/// stand for none.
+#[tactic(auto, unfolding(crate::specs::Values::value_of))]
+pub fn value(alloc: Global, kind: u8, spelling: &[char]) -> Result<Option<Token>, NoMemory>
+    ensures { IfOk result (λ token. token ≡ value_of kind spelling.now) }
+{
+    let token = match kind {
+        kinds::IRI => Token::Iri(text_of(alloc, between_ends(spelling))?),
+        kinds::NAME => name(alloc, spelling)?,
+        kinds::BLANK => Token::Blank(text_of(alloc, behind(spelling, 2))?),
+        kinds::STR => Token::Str(unescaped(alloc, between_ends(spelling))?),
+        kinds::AT => Token::At(text_of(alloc, behind(spelling, 1))?),
+        kinds::WORD => Token::Word(text_of(alloc, spelling)?),
+        kinds::INT => Token::Int(text_of(alloc, spelling)?),
+        kinds::DEC => Token::Dec(text_of(alloc, spelling)?),
+        _ => return Ok(sign_of(kind).map(Token::Sign)),
+    };
+    Ok(Some(token))
+}
