@@ -1,0 +1,11 @@
+pub mod TurtleGrammar
+pub mod TurtleOrigin
+pub mod TurtleTable
+pub mod TurtleLaws
+pub mod Escapes
+pub mod EscapedText
+pub mod EscapeLaws
+pub mod TurtleValues
+pub mod WorkedCases
+pub mod StringLaws
+pub mod NameLaws

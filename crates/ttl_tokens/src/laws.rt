@@ -1,0 +1,40 @@
+//! Laws of the tokens.
+
+ghost use Rattle.std.specs.Prelude.{◌≡◌, ℕ, List, ◌++◌, codes, flat_map};
+ghost use Rattle.std.specs.List.{AllByRecursion};
+ghost use Rattle.owl_lexer.specs.Automata.{Knows};
+ghost use Rattle.owl_lexer.specs.Grammars.{IsLexeme};
+ghost use Rattle.owl_lexer.specs.Tables.{automaton_of};
+ghost use Rattle.owl_text.specs.Names.{IsPrefixName, SpellsLocal};
+ghost use Rattle.ttl_tokens.specs.EscapedText.{IsPiece, Piece, characters_of, piece_spelling};
+ghost use Rattle.ttl_tokens.specs.Escapes.{unescaped};
+ghost use Rattle.ttl_tokens.specs.StringLaws.{IsUndone};
+ghost use Rattle.ttl_tokens.specs.TurtleGrammar.{string_literal_long_quote_kind, string_literal_long_single_quote_kind, string_literal_quote_kind, string_literal_single_quote_kind, turtle_grammar};
+ghost use Rattle.ttl_tokens.specs.TurtleTable.{turtle_table};
+ghost use Rattle.ttl_tokens.specs.TurtleValues.{local_text, prefix_text};
+
+/// A law: the automaton of Turtle knows the lexemes of the grammar.
+pub fn lexemes_are_known()
+    ensures { Knows (automaton_of turtle_table) (IsLexeme turtle_grammar) }
+{}
+
+/// A law: each escape is undone, and nothing else.
+pub fn escapes_are_undone()
+    ensures { (pieces : List Piece) → AllByRecursion IsPiece pieces → unescaped (flat_map piece_spelling pieces) ≡ characters_of pieces }
+{}
+
+/// A law: each string of the grammar is undone to its text, since its escapes
+/// are all of characters.
+pub fn strings_are_undone()
+    ensures quote { (cs : List ℕ) → IsLexeme turtle_grammar string_literal_quote_kind cs → IsUndone 1 cs }
+    ensures single_quote { (cs : List ℕ) → IsLexeme turtle_grammar string_literal_single_quote_kind cs → IsUndone 1 cs }
+    ensures long_quote { (cs : List ℕ) → IsLexeme turtle_grammar string_literal_long_quote_kind cs → IsUndone 3 cs }
+    ensures long_single_quote { (cs : List ℕ) → IsLexeme turtle_grammar string_literal_long_single_quote_kind cs → IsUndone 3 cs }
+{}
+
+/// A law: a prefix and a local part, as the three syntaxes write them, are read
+/// as they are meant.
+pub fn names_are_read()
+    ensures prefix { (prefix written : List ℕ) → IsPrefixName prefix → prefix_text (prefix ++ (codes ":" ++ written)) ≡ prefix }
+    ensures local { (prefix written local : List ℕ) → IsPrefixName prefix → SpellsLocal written local → local_text (prefix ++ (codes ":" ++ written)) ≡ local }
+{}
