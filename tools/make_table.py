@@ -17,7 +17,8 @@ import sys
 
 EMPTY = ("empty",)
 NO_STATE = 255
-TITLES = {"functional": "Functional-Style Syntax", "manchester": "Manchester Syntax"}
+LINE_WIDTH = 92
+TITLES = {"functional": "Functional-Style Syntax", "manchester": "Manchester Syntax", "turtle": "Turtle"}
 
 
 class Reader:
@@ -46,6 +47,8 @@ class Reader:
         return Words(self.words(self.bodies[name]), name)
 
     def number(self, word):
+        if word in self.bodies:
+            return int(self.bodies[word], 0)
         return self.numbers[word] if word in self.numbers else int(word, 0)
 
     def whole(self, name, read):
@@ -292,22 +295,26 @@ class Table:
             sys.exit("make_table: too many states or classes")
 
     def rust(self, language):
+        rows = "".join(f"    [{', '.join(map(str, row))}],\n" for row in self.rows)
         return f"""//! The table of the automaton of {TITLES[language]}, made by `tools/make_table.py`.
 
 /// The last character of each interval, and the class of its characters.
+#[rattlefmt::skip]
 pub const INTERVALS: [(u32, u8); {len(self.intervals)}] = [
-{lines([f"({last}, {number})" for last, number in self.intervals])}];
+{filled([f"({last}, {number})" for last, number in self.intervals])}];
 
 /// The class of the characters behind the last interval.
 pub const OTHERS: u8 = {self.others};
 
 /// For each state and class the state to which the class leads.
+#[rattlefmt::skip]
 pub const ROWS: [[u8; {len(self.bits)}]; {len(self.rows)}] = [
-{"".join(row_lines(row) for row in self.rows)}];
+{rows}];
 
 /// The kind of lexeme that is whole at each state.
+#[rattlefmt::skip]
 pub const KINDS: [u8; {len(self.kinds)}] = [
-{filled(self.kinds, 4)}];
+{filled(self.kinds)}];
 """
 
     def origin(self, language):
@@ -325,30 +332,15 @@ unfoldable pub {language}_origin : Origin
 """
 
 
-# the layout of `rt fmt`
-
-LINE_WIDTH = 99
-ARRAY_WIDTH = 60
-
-
-def filled(numbers, indent):
-    """As many numbers a line as stand in it."""
+def filled(items):
+    """As many items a line as stand in it."""
     text, line = "", ""
-    for number in numbers:
-        if line and indent + len(line) + len(f" {number},") > LINE_WIDTH:
-            text += " " * indent + line + "\n"
+    for item in items:
+        if line and len(line) + len(f" {item},") > LINE_WIDTH:
+            text += "    " + line + "\n"
             line = ""
-        line += f"{' ' if line else ''}{number},"
-    return text + " " * indent + line + "\n"
-
-
-def lines(items):
-    return "".join(f"    {item},\n" for item in items)
-
-
-def row_lines(row):
-    line = ", ".join(map(str, row))
-    return f"    [{line}],\n" if len(line) <= ARRAY_WIDTH else f"    [\n{filled(row, 8)}    ],\n"
+        line += f"{' ' if line else ''}{item},"
+    return text + "    " + line + "\n"
 
 
 def main():

@@ -1,0 +1,20 @@
+#!/usr/bin/env bash
+# Makes the tables of all grammars of lexemes: tools/make_tables.sh. With --check
+# nothing is written: it fails where a table is not that of its grammar.
+set -euo pipefail
+cd -- "$(dirname -- "$(readlink -f -- "${BASH_SOURCE[0]}")")/.."
+
+# The grammar's name, its crate, the names of the table's files, and its sources.
+make_table() {
+    local grammar=$1 crate=crates/$2 table=$3 origin=$4
+    shift 4
+    python3 tools/make_table.py ${check:+"$check"} "$grammar" "$crate/src/$table.rt" "$crate/specs/$origin.antt" "$@"
+}
+
+check=${1:-}
+tokens=crates/owl_tokens
+shared=("$tokens/specs/SharedPatterns.antt" "$tokens/src/kinds.rt" crates/owl_text/specs/Names.antt)
+
+make_table functional_grammar owl_tokens functional_table FunctionalOrigin "$tokens/specs/FunctionalGrammar.antt" "${shared[@]}"
+make_table manchester_grammar owl_tokens manchester_table ManchesterOrigin "$tokens/specs/ManchesterGrammar.antt" "${shared[@]}"
+make_table turtle_grammar ttl_tokens table TurtleOrigin crates/ttl_tokens/specs/TurtleGrammar.antt
