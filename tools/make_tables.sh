@@ -13,7 +13,7 @@ make_table() {
 
 check=${1:-}
 tokens=crates/owl_tokens
-shared=("$tokens/specs/SharedPatterns.antt" "$tokens/src/kinds.rt" crates/owl_text/specs/Names.antt)
+shared=("$tokens/specs/SharedPatterns.antt" "$tokens/src/kinds.rt" crates/owl_characters/specs/Names.antt)
 
 make_table functional_grammar owl_tokens functional_table FunctionalOrigin "$tokens/specs/FunctionalGrammar.antt" "${shared[@]}"
 make_table manchester_grammar owl_tokens manchester_table ManchesterOrigin "$tokens/specs/ManchesterGrammar.antt" "${shared[@]}"

@@ -1,7 +1,7 @@
 //! A refusal that is kept, and refusals as texts.
 
 use fss_read::{ReadFault, Reader, Reason};
-use owl_text::NoMemory;
+use owl_characters::NoMemory;
 use std::alloc::Global;
 use std::test::Fail;
 

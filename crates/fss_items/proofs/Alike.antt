@@ -13,8 +13,8 @@ use Rattle.owl_tree.specs.Rows.{row_of, set_start}
 use Rattle.owl_tree.specs.ShapeLaws.{equivalent_shape}
 use Rattle.owl_tree.specs.Tags.{is_axiom}
 use Rattle.owl_tree.specs.Trees.{Tree, kids_of, node, tag_of}
-use Rattle.owl_doc.specs.declared.term.Term.{Term}
-use Rattle.owl_doc.specs.Spelling.{MeetsMinimum}
+use Rattle.fss_terms.specs.declared.term.Term.{Term}
+use Rattle.fss_terms.specs.Spelling.{MeetsMinimum}
 use Rattle.fss_items.specs.declared.items.parts.Stage.TheVariants.{Annotations, Axioms}
 use Rattle.fss_items.specs.declared.items.parts.Stage.{Stage}
 use Rattle.fss_items.specs.Bodies.{Construct, Goes, Remains, Takes, joined, with_annotation, with_axiom}

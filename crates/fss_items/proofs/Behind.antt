@@ -7,10 +7,10 @@ use Rattle.owl_tree.specs.declared.row.AtomSort.{AtomSort}
 use Rattle.owl_tree.specs.Ontologies.{Ontology}
 use Rattle.owl_tree.specs.Rows.{sort_of}
 use Rattle.owl_tree.specs.Trees.{leaf}
-use Rattle.owl_doc.specs.declared.term.Term.{Term}
-use Rattle.owl_doc.specs.declared.term.Term.TheVariants as term
+use Rattle.fss_terms.specs.declared.term.Term.{Term}
+use Rattle.fss_terms.specs.declared.term.Term.TheVariants as term
 use Rattle.owl_doc.specs.Documents.{Document, ontology_of}
-use Rattle.owl_doc.specs.Functional.{IsWithinLimits}
+use Rattle.fss_terms.specs.Functional.{IsWithinLimits}
 use Rattle.fss_items.specs.declared.items.parts.AtomPlace.TheVariants as place
 use Rattle.fss_items.specs.declared.items.parts.Open as kept
 use Rattle.fss_items.specs.declared.items.parts.Stage.{Stage}

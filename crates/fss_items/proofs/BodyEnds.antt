@@ -3,8 +3,8 @@ use Rattle.std.proofs.Common.{◌≡◌, refl, sym, subst, Bool}
 use Rattle.std.specs.Prelude.{List, [], ◌∷◌, codes, length}
 use Rattle.owl_tree.specs.Ontologies.{IsHead, IsSameOntology, Ontology}
 use Rattle.owl_tree.specs.Tags.{keyword_of}
-use Rattle.owl_doc.specs.declared.term.Term.{Term}
-use Rattle.owl_doc.specs.declared.term.Term.TheVariants.{Closing}
+use Rattle.fss_terms.specs.declared.term.Term.{Term}
+use Rattle.fss_terms.specs.declared.term.Term.TheVariants.{Closing}
 use Rattle.owl_doc.specs.Documents.{Document, IsBegun, ontology_of}
 use Rattle.fss_items.specs.declared.items.parts.Open as kept
 use Rattle.fss_items.specs.declared.items.parts.Stage.{Stage}

@@ -2,7 +2,7 @@
 use Rattle.std.proofs.Common.{◌≡◌, ◌≢◌, sym, subst, Bool}
 use Rattle.std.specs.Prelude.{List, [], ◌++◌, Result, Ok, Err, IfOk, IfErr}
 use Rattle.owl_tree.specs.Ontologies.{Ontology}
-use Rattle.owl_doc.specs.declared.term.Term.{Term}
+use Rattle.fss_terms.specs.declared.term.Term.{Term}
 use Rattle.owl_doc.specs.Documents.{Document, ontology_of}
 use Rattle.fss_items.specs.declared.item_fault.ItemFault.{ItemFault}
 use Rattle.fss_items.specs.declared.item_fault.ItemFault.TheVariants.{Memory}

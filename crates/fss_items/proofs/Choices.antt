@@ -18,7 +18,7 @@ use Rattle.owl_tree.specs.Rows.{Row, Leaf, Node, admits, fits, is_of_sort, is_ta
 use Rattle.owl_tree.specs.Tags.{number_of}
 use Rattle.owl_tree.specs.Trees.{Tree, tag_of}
 use Rattle.owl_tree.specs.TreeLaws.{list_of_kids_of}
-use Rattle.owl_doc.specs.Spelling.{MeetsMinimum}
+use Rattle.fss_terms.specs.Spelling.{MeetsMinimum}
 use Rattle.fss_items.specs.Bodies.{Closes}
 use Rattle.fss_items.proofs.Tables.{is_entity}
 use Rattle.fss_items.specs.Places.{group_of, is_pair_sort, leaf_of, may_close, meets_minimum}

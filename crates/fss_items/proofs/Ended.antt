@@ -5,11 +5,11 @@ use Rattle.std.proofs.lemmas.Bool.{true≢false}
 use Rattle.owl_tree.specs.declared.tag.Tag.{Tag}
 use Rattle.owl_tree.specs.Ontologies.{IsSameOntology, Ontology, canonical_ontology}
 use Rattle.owl_tree.specs.Trees.{Tree, kids_of, node}
-use Rattle.owl_doc.specs.declared.term.Term.{Term}
-use Rattle.owl_doc.specs.declared.term.Term.TheVariants.{Closing}
-use Rattle.owl_doc.specs.declared.term.Term.TheVariants as term
-use Rattle.owl_doc.specs.Functional.{import_terms, item_terms}
-use Rattle.owl_doc.specs.Spelling.{closed, spellings}
+use Rattle.fss_terms.specs.declared.term.Term.{Term}
+use Rattle.fss_terms.specs.declared.term.Term.TheVariants.{Closing}
+use Rattle.fss_terms.specs.declared.term.Term.TheVariants as term
+use Rattle.fss_terms.specs.Functional.{import_terms, item_terms}
+use Rattle.fss_terms.specs.Spelling.{closed, spellings}
 use Rattle.fss_items.specs.declared.items.parts.Stage.{Stage}
 use Rattle.fss_items.specs.declared.items.parts.Stage.TheVariants.{Imports, Annotations, Axioms, Ended}
 use Rattle.fss_items.specs.declared.items.parts.Waiting.{Waiting}

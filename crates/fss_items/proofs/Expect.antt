@@ -11,8 +11,8 @@ use Rattle.owl_tree.specs.OrderLaws.{same_number}
 use Rattle.owl_tree.specs.Rows.{admits, is_tag, row_of}
 use Rattle.owl_tree.specs.Tags.{is_axiom, keyword_of, number_of}
 use Rattle.owl_tree.specs.Trees.{Tree, kids_of, node, no_kids, tag_of}
-use Rattle.owl_doc.specs.declared.term.Term.{Term}
-use Rattle.owl_doc.specs.declared.term.Term.TheVariants as term
+use Rattle.fss_terms.specs.declared.term.Term.{Term}
+use Rattle.fss_terms.specs.declared.term.Term.TheVariants as term
 use Rattle.fss_items.specs.declared.items.parts.AtomPlace.{AtomPlace}
 use Rattle.fss_items.specs.declared.items.parts.AtomPlace.TheVariants as place
 use Rattle.fss_items.specs.declared.items.parts.Open as kept

@@ -8,10 +8,10 @@ use Rattle.owl_tree.specs.Rows.{is_tag, row_of, is_bare, is_group}
 use Rattle.owl_tree.specs.Tags.{keyword_of}
 use Rattle.owl_tree.specs.Trees.{Tree, Kids, leaf, node, kids_of, list_of, tag_of}
 use Rattle.owl_tree.specs.TreeLaws.{kids_of_list_of, list_of_kids_of}
-use Rattle.owl_doc.specs.declared.term.Term.{Term}
-use Rattle.owl_doc.specs.declared.term.Term.TheVariants.{Keyword, Opening, Closing}
-use Rattle.owl_doc.specs.declared.term.Term.TheVariants as term
-use Rattle.owl_doc.specs.Spelling.{HasMembers, HaveMembers, MeetsMinimum, closed, opened, spelling, spellings}
+use Rattle.fss_terms.specs.declared.term.Term.{Term}
+use Rattle.fss_terms.specs.declared.term.Term.TheVariants.{Keyword, Opening, Closing}
+use Rattle.fss_terms.specs.declared.term.Term.TheVariants as term
+use Rattle.fss_terms.specs.Spelling.{HasMembers, HaveMembers, MeetsMinimum, closed, opened, spelling, spellings}
 use Rattle.owl_tree.specs.Shape.{IsShaped}
 use Rattle.fss_items.specs.Bodies.{Closes, Goes}
 use Rattle.fss_items.specs.Places.{May, next_of}

@@ -2,7 +2,7 @@
 use Rattle.std.proofs.Common.{◌≡◌, refl, sym, ap, subst}
 use Rattle.std.specs.Prelude.{◌↔◌, Option, List, [], false, length}
 use Rattle.owl_tree.specs.Ontologies.{Ontology, OntologyName}
-use Rattle.owl_doc.specs.declared.term.Term.{Term}
+use Rattle.fss_terms.specs.declared.term.Term.{Term}
 use Rattle.fss_items.specs.declared.items.parts.Stage.TheVariants.{Imports}
 use Rattle.owl_arena.specs.Held.{trees_at}
 use Rattle.owl_doc.specs.Documents.{Document, ontology_of}

@@ -3,8 +3,8 @@ use Rattle.std.proofs.Common.{◌≡◌, ◌⊎◌, inl, inr, refl, sym, ap, sub
 use Rattle.std.specs.Prelude.{List, [], ◌∷◌, ◌++◌}
 use Rattle.owl_tree.specs.declared.tag.Tag.{Tag}
 use Rattle.owl_tree.specs.Trees.{Tree, node, kids_of}
-use Rattle.owl_doc.specs.declared.term.Term.{Term}
-use Rattle.owl_doc.specs.Spelling.{HasMembers, closed, spelling, spellings}
+use Rattle.fss_terms.specs.declared.term.Term.{Term}
+use Rattle.fss_terms.specs.Spelling.{HasMembers, closed, spelling, spellings}
 use Rattle.fss_items.specs.Bodies.{Closes, Goes}
 
 -- what is said of a tree and of the terms behind it

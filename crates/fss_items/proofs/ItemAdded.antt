@@ -17,7 +17,7 @@ use Rattle.owl_tree.specs.Order.{tree_cmp}
 use Rattle.owl_tree.specs.OrderLaws.{only_equal_trees_tie, trees_total}
 use Rattle.owl_tree.specs.Tags.{is_axiom, number_of}
 use Rattle.owl_tree.specs.Trees.{Tree, tag_of}
-use Rattle.owl_doc.specs.declared.term.Term.{Term}
+use Rattle.fss_terms.specs.declared.term.Term.{Term}
 use Rattle.owl_doc.specs.Documents.{Document, IsAnnotationAt, IsAxiomAt, IsBegun, PassesWeight, ontology_of, with_note}
 use Rattle.owl_doc.specs.Documents as document
 use Rattle.owl_doc.proofs.Collections.{told}

@@ -11,8 +11,8 @@ use Rattle.owl_tree.specs.OrderLaws.{same_number}
 use Rattle.owl_tree.specs.Rows.{Row, Leaf, Node, admits, fits, is_tag, row_of, takes}
 use Rattle.owl_tree.specs.Tags.{keyword_of, number_of}
 use Rattle.owl_tree.specs.Trees.{Tree, Kids, kids_of, leaf, node, tag_of}
-use Rattle.owl_doc.specs.declared.term.Term.{Term}
-use Rattle.owl_doc.specs.declared.term.Term.TheVariants.{Keyword}
+use Rattle.fss_terms.specs.declared.term.Term.{Term}
+use Rattle.fss_terms.specs.declared.term.Term.TheVariants.{Keyword}
 use Rattle.owl_tree.specs.Places.{counts}
 use Rattle.owl_tree.specs.PlacesLaws.{fits_by_place}
 use Rattle.fss_items.specs.declared.items.places.Next.{Next}
@@ -20,7 +20,7 @@ use Rattle.fss_items.specs.declared.items.places.Next.TheVariants as next
 use Rattle.fss_items.specs.Bodies.{Barred, Closes, Construct, Goes, IsReady, Takes}
 use Rattle.fss_items.specs.Places.{May, has_keyword, is_leaf_row, keyword_next, may_begin, next_of}
 use Rattle.owl_arena.specs.Held.{trees_at}
-use Rattle.owl_doc.specs.Functional.{IsWithinLimits}
+use Rattle.fss_terms.specs.Functional.{IsWithinLimits}
 use Rattle.owl_tree.proofs.Keywords.{same_keyword}
 use Rattle.owl_tree.specs.Ontologies.{Ontology}
 use Rattle.fss_items.specs.declared.items.parts.Open as kept

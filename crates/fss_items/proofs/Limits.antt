@@ -15,8 +15,8 @@ use Rattle.owl_tree.specs.Order.{tree_cmp}
 use Rattle.owl_tree.specs.OrderLaws.{only_equal_trees_tie, trees_total}
 use Rattle.owl_tree.specs.Rows.{row_of, set_start}
 use Rattle.owl_tree.specs.Trees.{Tree, depth, kids_of, most_depth, node, sum_weight, weight}
-use Rattle.owl_doc.specs.declared.term.Term.{Term}
-use Rattle.owl_doc.specs.Functional.{IsWithinLimits}
+use Rattle.fss_terms.specs.declared.term.Term.{Term}
+use Rattle.fss_terms.specs.Functional.{IsWithinLimits}
 use Rattle.fss_items.specs.declared.items.parts.Stage.{Stage}
 use Rattle.fss_items.specs.Bodies.{Construct, Takes, joined, with_annotation, with_axiom}
 

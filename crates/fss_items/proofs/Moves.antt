@@ -13,9 +13,9 @@ use Rattle.owl_tree.specs.Rows.{admits, is_tag, row_of, is_bare, is_group}
 use Rattle.owl_tree.specs.Shape.{IsShaped}
 use Rattle.owl_tree.specs.Tags.{is_axiom, keyword_of, number_of}
 use Rattle.owl_tree.specs.Trees.{Tree, Kids, kids_of, leaf, node}
-use Rattle.owl_doc.specs.declared.term.Term.{Term}
-use Rattle.owl_doc.specs.declared.term.Term.TheVariants.{Keyword, Opening, Closing}
-use Rattle.owl_doc.specs.declared.term.Term.TheVariants as term
+use Rattle.fss_terms.specs.declared.term.Term.{Term}
+use Rattle.fss_terms.specs.declared.term.Term.TheVariants.{Keyword, Opening, Closing}
+use Rattle.fss_terms.specs.declared.term.Term.TheVariants as term
 use Rattle.fss_items.specs.declared.items.parts.Stage.{Stage}
 use Rattle.fss_items.specs.Bodies.{Completion, Construct, Goes, IsReady, Takes}
 use Rattle.fss_items.specs.Places.{May, has_notes, next_of}

@@ -14,11 +14,11 @@ use Rattle.owl_tree.specs.Rows.{admits, is_tag, row_of, sort_of, takes, is_bare}
 use Rattle.owl_tree.specs.Shape.{IsShaped}
 use Rattle.owl_tree.specs.Tags.{keyword_of, number_of}
 use Rattle.owl_tree.specs.Trees.{Tree, kids_of, leaf, tag_of}
-use Rattle.owl_doc.specs.declared.term.Term.{Term}
-use Rattle.owl_doc.specs.declared.term.Term.TheVariants.{Closing}
-use Rattle.owl_doc.specs.declared.term.Term.TheVariants as term
+use Rattle.fss_terms.specs.declared.term.Term.{Term}
+use Rattle.fss_terms.specs.declared.term.Term.TheVariants.{Closing}
+use Rattle.fss_terms.specs.declared.term.Term.TheVariants as term
 use Rattle.owl_doc.specs.Documents.{Document, ontology_of}
-use Rattle.owl_doc.specs.Spelling.{closed, spellings}
+use Rattle.fss_terms.specs.Spelling.{closed, spellings}
 use Rattle.fss_items.specs.declared.item_fault.ItemFault.{ItemFault}
 use Rattle.fss_items.specs.declared.item_fault.ItemFault.TheVariants.{Memory}
 use Rattle.fss_items.specs.declared.items.parts.Open as kept

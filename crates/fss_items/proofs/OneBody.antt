@@ -12,11 +12,11 @@ use Rattle.owl_tree.specs.OntologyLaws.{same_ontology_refl, same_ontology_sym, s
 use Rattle.owl_tree.specs.Rows.{is_tag, row_of}
 use Rattle.owl_tree.specs.Tags.{is_axiom, keyword_of, number_of}
 use Rattle.owl_tree.specs.Trees.{Tree, leaf, node, tag_of}
-use Rattle.owl_doc.specs.declared.term.Term.{Term}
-use Rattle.owl_doc.specs.declared.term.Term.TheVariants.{Keyword, Opening, Closing}
-use Rattle.owl_doc.specs.declared.term.Term.TheVariants as term
-use Rattle.owl_doc.specs.Functional.{IsWrittenAnnotation, IsWrittenAxiom, IsWrittenOntology, body_terms, iri_term, name_terms, ontology_terms, version_terms}
-use Rattle.owl_doc.specs.Spelling.{IsWritten, closed, spelling, spellings}
+use Rattle.fss_terms.specs.declared.term.Term.{Term}
+use Rattle.fss_terms.specs.declared.term.Term.TheVariants.{Keyword, Opening, Closing}
+use Rattle.fss_terms.specs.declared.term.Term.TheVariants as term
+use Rattle.fss_terms.specs.Functional.{IsWrittenAnnotation, IsWrittenAxiom, IsWrittenOntology, body_terms, iri_term, name_terms, ontology_terms, version_terms}
+use Rattle.fss_terms.specs.Spelling.{IsWritten, closed, spelling, spellings}
 use Rattle.fss_items.specs.Bodies.{IsBodyOf}
 use Rattle.fss_items.specs.Places.{has_notes, is_leaf_row}
 use Rattle.fss_items.proofs.Firsts.{head_is, opened_keyword, tail_is}

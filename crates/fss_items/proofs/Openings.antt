@@ -10,9 +10,9 @@ use Rattle.owl_tree.specs.Ontologies.{Ontology}
 use Rattle.owl_tree.specs.Tags.{keyword_of, number_of}
 use Rattle.owl_tree.specs.Trees.{Tree, kids_of, node}
 use Rattle.owl_tree.specs.Rows.{is_bare, is_group}
-use Rattle.owl_doc.specs.declared.term.Term.{Term}
-use Rattle.owl_doc.specs.declared.term.Term.TheVariants.{Keyword, Opening, Closing}
-use Rattle.owl_doc.specs.Functional.{IsWithinLimits}
+use Rattle.fss_terms.specs.declared.term.Term.{Term}
+use Rattle.fss_terms.specs.declared.term.Term.TheVariants.{Keyword, Opening, Closing}
+use Rattle.fss_terms.specs.Functional.{IsWithinLimits}
 use Rattle.fss_items.specs.declared.item_fault.ItemFault.{ItemFault}
 use Rattle.fss_items.specs.declared.items.parts.Open as kept
 use Rattle.fss_items.specs.declared.items.parts.Stage.{Stage}

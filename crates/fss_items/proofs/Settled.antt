@@ -11,9 +11,9 @@ use Rattle.owl_tree.specs.Rows.{admits, fits, row_of, is_bare, is_group}
 use Rattle.owl_tree.specs.Shape.{IsShaped}
 use Rattle.owl_tree.specs.Tags.{keyword_of, number_of}
 use Rattle.owl_tree.specs.Trees.{Tree, kids_of, leaf, node, tag_of}
-use Rattle.owl_doc.specs.declared.term.Term.{Term}
-use Rattle.owl_doc.specs.declared.term.Term.TheVariants.{Keyword}
-use Rattle.owl_doc.specs.Spelling.{HasMembers, closed, spelling, spellings}
+use Rattle.fss_terms.specs.declared.term.Term.{Term}
+use Rattle.fss_terms.specs.declared.term.Term.TheVariants.{Keyword}
+use Rattle.fss_terms.specs.Spelling.{HasMembers, closed, spelling, spellings}
 use Rattle.fss_items.specs.declared.items.places.Next.{Next}
 use Rattle.fss_items.specs.declared.items.places.Next.TheVariants as next
 use Rattle.fss_items.specs.Bodies.{Closes, Goes}

@@ -9,9 +9,9 @@ use Rattle.owl_tree.specs.declared.tag.Tag.TheVariants as tag
 use Rattle.owl_tree.specs.Rows.{row_of, is_bare}
 use Rattle.owl_tree.specs.Tags.{keyword_of}
 use Rattle.owl_tree.specs.Trees.{Tree, kids_of, node}
-use Rattle.owl_doc.specs.declared.term.Term.{Term}
-use Rattle.owl_doc.specs.declared.term.Term.TheVariants.{Keyword}
-use Rattle.owl_doc.specs.Spelling.{MeetsMinimum}
+use Rattle.fss_terms.specs.declared.term.Term.{Term}
+use Rattle.fss_terms.specs.declared.term.Term.TheVariants.{Keyword}
+use Rattle.fss_terms.specs.Spelling.{MeetsMinimum}
 use Rattle.fss_items.specs.Bodies.{Barred, Closes, Construct, Goes, Takes}
 use Rattle.fss_items.specs.Changes.{Settles}
 use Rattle.fss_items.specs.InHand.{shut_in}

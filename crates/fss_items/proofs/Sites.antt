@@ -12,8 +12,8 @@ use Rattle.owl_tree.specs.declared.tag.Tag.TheVariants as tag
 use Rattle.owl_tree.specs.Rows.{admits, row_of, sort_of, takes}
 use Rattle.owl_tree.specs.Tags.{keyword_of, number_of}
 use Rattle.owl_tree.specs.Trees.{Tree, leaf, tag_of}
-use Rattle.owl_doc.specs.declared.term.Term.{Term}
-use Rattle.owl_doc.specs.declared.term.Term.TheVariants as term
+use Rattle.fss_terms.specs.declared.term.Term.{Term}
+use Rattle.fss_terms.specs.declared.term.Term.TheVariants as term
 use Rattle.fss_items.specs.declared.items.parts.AtomPlace.{AtomPlace}
 use Rattle.fss_items.specs.declared.items.parts.AtomPlace.TheVariants as place
 use Rattle.fss_items.specs.declared.items.places.Next.{Next}

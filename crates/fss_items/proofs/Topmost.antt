@@ -11,11 +11,11 @@ use Rattle.owl_tree.specs.Shape.{IsShaped}
 use Rattle.owl_tree.specs.Tags.{keyword_of, number_of}
 use Rattle.owl_tree.specs.Trees.{Tree, Kids, kids_of, leaf, list_of, node, tag_of}
 use Rattle.owl_tree.specs.TreeLaws.{kids_of_list_of, list_of_kids_of}
-use Rattle.owl_doc.specs.declared.term.Term.{Term}
-use Rattle.owl_doc.specs.declared.term.Term.TheVariants.{Keyword, Opening, Closing}
-use Rattle.owl_doc.specs.declared.term.Term.TheVariants as term
-use Rattle.owl_doc.specs.Functional.{iri_term}
-use Rattle.owl_doc.specs.Spelling.{HaveMembers, IsWritten, MeetsMinimum, closed, spelling, spellings}
+use Rattle.fss_terms.specs.declared.term.Term.{Term}
+use Rattle.fss_terms.specs.declared.term.Term.TheVariants.{Keyword, Opening, Closing}
+use Rattle.fss_terms.specs.declared.term.Term.TheVariants as term
+use Rattle.fss_terms.specs.Functional.{iri_term}
+use Rattle.fss_terms.specs.Spelling.{HaveMembers, IsWritten, MeetsMinimum, closed, spelling, spellings}
 use Rattle.fss_items.specs.declared.items.parts.Stage.{Stage}
 use Rattle.fss_items.specs.declared.items.parts.Stage.TheVariants.{Imports}
 use Rattle.fss_items.specs.Bodies.{EndsWith, Goes, MayAdd, Remains, Takes, with_import}

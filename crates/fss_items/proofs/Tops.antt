@@ -1,18 +1,18 @@
 -- What the next term of an ontology begins or ends.
 use Rattle.std.proofs.Common.{◌≡◌, inl, inr, refl, sym, ap, ◌∙◌, subst, true, false, Bool, append_assoc}
 use Rattle.std.specs.Prelude.{ℕ, Option, List, [], ◌∷◌, ◌++◌, flat_map, codes, if◌then◌else◌}
-use Rattle.owl_text.specs.Iri.{IsIri}
+use Rattle.owl_characters.specs.Iri.{IsIri}
 use Rattle.owl_tree.specs.declared.tag.Tag.{Tag}
 use Rattle.owl_tree.specs.declared.tag.Tag.TheVariants as tag
 use Rattle.owl_tree.specs.Ontologies.{IsHead, IsSameOntology, Ontology, OntologyName}
 use Rattle.owl_tree.specs.Rows.{is_tag, is_bare, is_group}
 use Rattle.owl_tree.specs.Tags.{keyword_of}
 use Rattle.owl_tree.specs.Trees.{Tree, Kids, leaf, node, no_kids, kid, tag_of}
-use Rattle.owl_doc.specs.declared.term.Term.{Term}
-use Rattle.owl_doc.specs.declared.term.Term.TheVariants.{Keyword, Opening, Closing}
-use Rattle.owl_doc.specs.declared.term.Term.TheVariants as term
-use Rattle.owl_doc.specs.Functional.{IsWrittenOntology, body_terms, import_terms, iri_term, item_terms}
-use Rattle.owl_doc.specs.Spelling.{IsWritten, closed, opened, spelling, spellings}
+use Rattle.fss_terms.specs.declared.term.Term.{Term}
+use Rattle.fss_terms.specs.declared.term.Term.TheVariants.{Keyword, Opening, Closing}
+use Rattle.fss_terms.specs.declared.term.Term.TheVariants as term
+use Rattle.fss_terms.specs.Functional.{IsWrittenOntology, body_terms, import_terms, iri_term, item_terms}
+use Rattle.fss_terms.specs.Spelling.{IsWritten, closed, opened, spelling, spellings}
 use Rattle.fss_items.specs.declared.items.parts.Stage.{Stage}
 use Rattle.fss_items.specs.declared.items.parts.Stage.TheVariants.{Imports, Annotations, Axioms, Ended}
 use Rattle.fss_items.specs.Bodies.{EndsWith, IsStill, MayAdd, MayAnnotate, Remains, Takes, joined, with_import}

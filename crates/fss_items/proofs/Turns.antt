@@ -11,10 +11,10 @@ use Rattle.owl_tree.specs.Rows.{admits, is_tag, row_of, is_bare, is_group}
 use Rattle.owl_tree.specs.Shape.{IsShaped}
 use Rattle.owl_tree.specs.Tags.{keyword_of}
 use Rattle.owl_tree.specs.Trees.{Tree, Kids, leaf, node, kids_of, tag_of}
-use Rattle.owl_doc.specs.declared.term.Term.{Term}
-use Rattle.owl_doc.specs.declared.term.Term.TheVariants.{Keyword, Opening, Closing}
-use Rattle.owl_doc.specs.declared.term.Term.TheVariants as term
-use Rattle.owl_doc.specs.Spelling.{HasMembers, closed, spellings}
+use Rattle.fss_terms.specs.declared.term.Term.{Term}
+use Rattle.fss_terms.specs.declared.term.Term.TheVariants.{Keyword, Opening, Closing}
+use Rattle.fss_terms.specs.declared.term.Term.TheVariants as term
+use Rattle.fss_terms.specs.Spelling.{HasMembers, closed, spellings}
 use Rattle.fss_items.specs.Bodies.{Closes, Goes, IsReady}
 use Rattle.fss_items.specs.Places.{May, has_notes, next_of}
 use Rattle.fss_items.proofs.Firsts.{BeginsTree, an_atom, an_entity, a_bare, a_group, a_construct, begins, closed_bare, closed_bracket, head_is, into, last_shaped, last_stands, tail_is}

@@ -10,11 +10,11 @@ use Rattle.owl_tree.specs.Rows.{row_of, sort_of}
 use Rattle.owl_tree.specs.Shape.{IsShaped}
 use Rattle.owl_tree.specs.Tags.{is_axiom, keyword_of}
 use Rattle.owl_tree.specs.Trees.{Tree, kids_of, node, tag_of}
-use Rattle.owl_doc.specs.declared.term.Term.{Term}
-use Rattle.owl_doc.specs.declared.term.Term.TheVariants as term
+use Rattle.fss_terms.specs.declared.term.Term.{Term}
+use Rattle.fss_terms.specs.declared.term.Term.TheVariants as term
 use Rattle.owl_doc.specs.Documents.{Document}
-use Rattle.owl_doc.specs.Functional.{IsWithinLimits, IsWrittenOntology, body_terms}
-use Rattle.owl_doc.specs.Spelling.{HaveMembers, MeetsMinimum, closed, spellings}
+use Rattle.fss_terms.specs.Functional.{IsWithinLimits, IsWrittenOntology, body_terms}
+use Rattle.fss_terms.specs.Spelling.{HaveMembers, MeetsMinimum, closed, spellings}
 use Rattle.fss_items.specs.Places.{has_notes}
 use Rattle.fss_items.specs.declared.items.parts.Stage.{Stage}
 use Rattle.fss_items.specs.declared.items.parts.Stage.TheVariants.{Imports, Annotations, Axioms, Ended}

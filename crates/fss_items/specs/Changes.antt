@@ -5,9 +5,9 @@ use Rattle.owl_tree.specs.declared.tag.Tag.TheVariants as tag
 use Rattle.owl_tree.specs.Ontologies.{Ontology}
 use Rattle.owl_tree.specs.Rows.{is_tag}
 use Rattle.owl_tree.specs.Tags.{keyword_of}
-use Rattle.owl_doc.specs.declared.term.Term.{Term}
-use Rattle.owl_doc.specs.declared.term.Term.TheVariants as term
-use Rattle.owl_doc.specs.Functional.{IsWithinLimits}
+use Rattle.fss_terms.specs.declared.term.Term.{Term}
+use Rattle.fss_terms.specs.declared.term.Term.TheVariants as term
+use Rattle.fss_terms.specs.Functional.{IsWithinLimits}
 use Rattle.fss_items.specs.declared.items.parts.Stage.{Stage}
 use Rattle.fss_items.specs.declared.items.settle.Change.{Change}
 use Rattle.fss_items.specs.declared.items.settle.Change.TheVariants as change

@@ -1,7 +1,7 @@
 -- What comes of an item that ends.
 use Rattle.std.specs.Prelude.{List, []}
-use Rattle.owl_doc.specs.declared.term.Term.{Term}
-use Rattle.owl_doc.specs.Functional.{IsWithinLimits}
+use Rattle.fss_terms.specs.declared.term.Term.{Term}
+use Rattle.fss_terms.specs.Functional.{IsWithinLimits}
 use Rattle.owl_tree.specs.Ontologies.{Ontology}
 use Rattle.owl_tree.specs.Trees.{Tree}
 use Rattle.fss_items.specs.declared.items.parts.Stage.{Stage}

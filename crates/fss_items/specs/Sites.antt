@@ -8,8 +8,8 @@ use Rattle.owl_tree.specs.declared.tag.Tag.TheVariants as tag
 use Rattle.owl_tree.specs.Ontologies.{Ontology}
 use Rattle.owl_tree.specs.Rows.{admits, is_tag, sort_of}
 use Rattle.owl_tree.specs.Trees.{Tree, tag_of}
-use Rattle.owl_doc.specs.declared.term.Term.{Term}
-use Rattle.owl_doc.specs.declared.term.Term.TheVariants as term
+use Rattle.fss_terms.specs.declared.term.Term.{Term}
+use Rattle.fss_terms.specs.declared.term.Term.TheVariants as term
 use Rattle.fss_items.specs.declared.items.parts.AtomPlace.{AtomPlace}
 use Rattle.fss_items.specs.declared.items.parts.Site.{Site}
 use Rattle.fss_items.specs.declared.items.parts.Stage.{Stage}

@@ -3,7 +3,7 @@
 ghost use Rattle.std.specs.Prelude.{◌≡◌};
 ghost use Rattle.fss_items.specs.declared.item_fault.ItemFault.TheVariants.{Memory};
 
-use owl_text::NoMemory;
+use owl_characters::NoMemory;
 use std::alloc::AllocError;
 
 /// Why a term is not taken.

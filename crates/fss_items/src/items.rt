@@ -1,16 +1,17 @@
 //! The body of a document, read term by term.
 
 ghost use Rattle.std.specs.Prelude.{◌≡◌, ◌≢◌, ◌≤◌, ◌+◌, ◌^◌, ◌⊎◌, ◌↔◌, [], IfErr, IfSome, IsNone, List, OnOk, false, true};
-ghost use Rattle.owl_doc.specs.declared.term.Term.{Term};
+ghost use Rattle.fss_terms.specs.declared.term.Term.{Term};
 ghost use Rattle.owl_doc.specs.Documents.{ontology_of};
-ghost use Rattle.owl_doc.specs.Functional.{IsWithinLimits};
+ghost use Rattle.fss_terms.specs.Functional.{IsWithinLimits};
 ghost use Rattle.owl_tree.specs.Ontologies.{IsSameOntology, Ontology};
 ghost use Rattle.fss_items.specs.Bodies.{Bars, BarsAtoms, Completes, IsBodyOf, IsNothingBut, Steps};
 ghost use Rattle.fss_items.specs.declared.item_fault.ItemFault.{ItemFault};
 ghost use Rattle.fss_items.specs.declared.item_fault.ItemFault.TheVariants.{NotHere, TooDeep};
 
 use crate::item_fault::ItemFault;
-use owl_doc::{Builder, Doc, Term};
+use fss_terms::Term;
+use owl_doc::{Builder, Doc};
 use owl_tree::AtomSort;
 use std::alloc::Global;
 use std::marker::Model;

@@ -2,8 +2,8 @@
 
 ghost use Rattle.std.specs.Prelude.{◌≡◌, List, Option};
 ghost use Rattle.fss_items.specs.Bodies.{IsBodyOf};
-ghost use Rattle.owl_doc.specs.Functional.{IsWrittenOntology, ontology_terms};
-ghost use Rattle.owl_doc.specs.declared.term.Term.{Term};
+ghost use Rattle.fss_terms.specs.Functional.{IsWrittenOntology, ontology_terms};
+ghost use Rattle.fss_terms.specs.declared.term.Term.{Term};
 ghost use Rattle.owl_tree.specs.Ontologies.{IsSameOntology, Ontology, OntologyName};
 
 /// Law: the terms behind a header spell one ontology at most, up to

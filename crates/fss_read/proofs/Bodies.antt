@@ -3,9 +3,9 @@ use Rattle.std.proofs.Common.{◌≡◌, ◌≢◌, ◌<◌, ◌≤◌, ◌^◌,
 use Rattle.std.specs.Str.Parse.{digits_value}
 use Rattle.std.specs.Prelude.{not}
 use Rattle.std.specs.List.{AllByRecursion}
-use Rattle.owl_text.specs.declared.token.Token.{Token}
-use Rattle.owl_text.specs.declared.token.Token.TheVariants as token
-use Rattle.owl_text.specs.declared.token.Sign.TheVariants as sign
+use Rattle.owl_tokens.specs.declared.token.Token.{Token}
+use Rattle.owl_tokens.specs.declared.token.Token.TheVariants as token
+use Rattle.owl_tokens.specs.declared.token.Sign.TheVariants as sign
 use Rattle.owl_atom.specs.declared.prefixes.Prefix.{Prefix}
 use Rattle.owl_atom.specs.declared.fault.LiteralFault.{LiteralFault}
 use Rattle.owl_atom.specs.declared.fault.LiteralFault.TheVariants as literal_fault
@@ -16,10 +16,10 @@ use Rattle.owl_tree.specs.declared.row.AtomSort.{AtomSort}
 use Rattle.owl_tree.specs.declared.row.AtomSort.TheVariants as sort
 use Rattle.owl_tree.specs.Ontologies.{Ontology}
 use Rattle.owl_tree.specs.Rows.{sort_of}
-use Rattle.owl_doc.specs.Functional.{IsWithinLimits}
-use Rattle.owl_doc.specs.Terms.{AreTerms, iri_of_token, plain, tagged, typed}
-use Rattle.owl_doc.specs.declared.term.Term.{Term}
-use Rattle.owl_doc.specs.declared.term.Term.TheVariants as term
+use Rattle.fss_terms.specs.Functional.{IsWithinLimits}
+use Rattle.fss_terms.specs.Terms.{AreTerms, iri_of_token, plain, tagged, typed}
+use Rattle.fss_terms.specs.declared.term.Term.{Term}
+use Rattle.fss_terms.specs.declared.term.Term.TheVariants as term
 use Rattle.fss_items.specs.Bodies.{Bars, BarsAtoms, Body, Completes, Steps}
 use Rattle.fss_read.specs.Faults.{of_literal}
 use Rattle.fss_read.specs.Parsing.{BodyBlocks, BodyPasses, FitsLeaf, SpellsBody, StringBlocks, StringPasses, count_stage, ends_string, goes_on, held_tokens, is_iri_token}

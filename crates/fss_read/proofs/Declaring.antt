@@ -5,11 +5,11 @@ use Rattle.std.specs.List.{AllByRecursion}
 use Rattle.std.specs.Option.{option_map}
 use Rattle.std.proofs.lemmas.Slice.Eq.{bytes_eq-Decides}
 use Rattle.owl_list.specs.AscendingLaws.{all_later, in_cases, in_head, in_none, in_tail}
-use Rattle.owl_text.specs.Order.{text_eq}
+use Rattle.owl_characters.specs.Order.{text_eq}
 use Rattle.owl_atom.specs.declared.prefixes.Prefix.{Prefix}
 use Rattle.owl_atom.specs.Prefixes.{IsTable, fixed_prefixes, is_declared, is_fixed, prefix_in}
 use Rattle.owl_atom.specs.PrefixLaws.{tables_are_told_by_names}
-use Rattle.owl_doc.specs.Functional.{AreDeclarable, IsDeclarable, IsTableOf, PrefixDeclaration, declaration_of, declared_prefix}
+use Rattle.fss_terms.specs.Functional.{AreDeclarable, IsDeclarable, IsTableOf, PrefixDeclaration, declaration_of, declared_prefix}
 use Rattle.fss_read.specs.Parsing.{IsDeclarableIn, Makes, MakesOne, declared_in}
 
 abbrev names_of : List PrefixDeclaration → List (List ℕ)

@@ -1,16 +1,16 @@
 -- A body as a stage, and the end of what was read.
 use Rattle.std.proofs.Common.{◌≡◌, ◌↔◌, ℕ, List, [], ◌∷◌, ◌++◌, Result, Ok, Err, IfOk, refl, sym, ◌∙◌, subst}
 use Rattle.std.proofs.lemmas.List.{append_assoc}
-use Rattle.owl_text.specs.declared.token.Token.{Token}
+use Rattle.owl_tokens.specs.declared.token.Token.{Token}
 use Rattle.owl_atom.specs.declared.prefixes.Prefix.{Prefix}
 use Rattle.owl_tree.specs.Ontologies.{IsSameOntology, Ontology}
 use Rattle.owl_tree.specs.declared.atom.Atom.TheVariants as atom
 use Rattle.owl_doc.specs.Documents.{Document, ontology_of}
-use Rattle.owl_doc.specs.Functional.{IsWithinLimits}
-use Rattle.owl_doc.specs.Terms.{AreTerms, BeginsLiteral, plain, tagged, typed}
+use Rattle.fss_terms.specs.Functional.{IsWithinLimits}
+use Rattle.fss_terms.specs.Terms.{AreTerms, BeginsLiteral, plain, tagged, typed}
 use Rattle.owl_atom.specs.Literals.{LiteralParts}
-use Rattle.owl_doc.specs.declared.term.Term.{Term}
-use Rattle.owl_doc.specs.declared.term.Term.TheVariants as term
+use Rattle.fss_terms.specs.declared.term.Term.{Term}
+use Rattle.fss_terms.specs.declared.term.Term.TheVariants as term
 use Rattle.fss_items.specs.Bodies.{Body, Completes}
 use Rattle.fss_read.specs.Parsing.{Blocks, BodyBlocks, BodyPasses, EndsAs, EndsInNothing, Parse, Passes, SpellsBody, StringBlocks, StringPasses, held_tokens}
 use Rattle.fss_read.specs.declared.stage.Held.{Held}

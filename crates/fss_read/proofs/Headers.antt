@@ -2,13 +2,13 @@
 use Rattle.std.proofs.Common.{◌≡◌, ◌↔◌, ℕ, Bool, true, false, Option, Some, None, List, [], ◌∷◌, ◌++◌, refl, sym, ap, ◌∙◌, subst}
 use Rattle.std.specs.Prelude.{map, not}
 use Rattle.std.specs.List.{AllByRecursion}
-use Rattle.owl_text.specs.declared.token.Token.{Token}
-use Rattle.owl_text.specs.declared.token.Token.TheVariants as token
+use Rattle.owl_tokens.specs.declared.token.Token.{Token}
+use Rattle.owl_tokens.specs.declared.token.Token.TheVariants as token
 use Rattle.owl_atom.specs.declared.prefixes.Prefix.{Prefix}
 use Rattle.owl_tree.specs.Ontologies.{Ontology, OntologyName}
-use Rattle.owl_doc.specs.Functional.{body_terms, iri_term, name_terms, version_terms}
-use Rattle.owl_doc.specs.Terms.{AreTerms, iri_of_token}
-use Rattle.owl_doc.specs.declared.term.Term.{Term}
+use Rattle.fss_terms.specs.Functional.{body_terms, iri_term, name_terms, version_terms}
+use Rattle.fss_terms.specs.Terms.{AreTerms, iri_of_token}
+use Rattle.fss_terms.specs.declared.term.Term.{Term}
 use Rattle.fss_items.specs.Bodies.{Body, Completes, IsBodyOf}
 use Rattle.fss_read.specs.Parsing.{Blocks, EndsInNothing, FitsLeaf, Passes, SpellsBody, SpellsHeaded, ends_header, header_iris, header_name, is_iri_token}
 use Rattle.fss_read.specs.declared.stage.Header.{Header}
@@ -129,6 +129,7 @@ not_iri prefixes (token.Str text) iri h e = cc
 not_iri prefixes (token.At tag) iri h e = cc
 not_iri prefixes (token.Word word) iri h e = cc
 not_iri prefixes (token.Int digits) iri h e = cc
+not_iri prefixes (token.Dec number) iri h e = cc
 not_iri prefixes (token.Sign mark) iri h e = cc
 
 no_iri_term : (prefixes : List Prefix) (t : Token) (more : List Token) (terms : List Term) → is_iri_token t ≡ false → AreTerms prefixes (t ∷ more) terms → BeginsWithIri terms → ⊥

@@ -7,7 +7,7 @@ use Rattle.std.specs.Str.Parse.{AllDigits, ParsesUnsigned, digits_value}
 use Rattle.std.proofs.lemmas.Fmt.{IsAscii-from_digits}
 use Rattle.std.proofs.lemmas.Str.{encodes-IsAscii}
 use Rattle.std.proofs.lemmas.Str.Parse.{numerals_by_value, parse_digits, tells_digits}
-use Rattle.owl_text.specs.Names.{IsRunOf}
+use Rattle.owl_characters.specs.Names.{IsRunOf}
 use Rattle.owl_atom.proofs.LexicalForms.{run_numeral}
 
 large_from : (n v : ℕ) → 0 < n → ((0 < n) × (v < 2 ^ 64) → ⊥) → 2 ^ 64 ≤ v

@@ -3,22 +3,22 @@ use Rattle.std.proofs.Common.{◌≡◌, ◌≢◌, ℕ, Bool, true, false, Opti
 use Rattle.std.specs.Prelude.{flat_map}
 use Rattle.std.proofs.lemmas.Bool.{false_from_ne_true}
 use Rattle.std.proofs.lemmas.Slice.Eq.{bytes_eq-Decides}
-use Rattle.owl_text.specs.Iri.{IsIri}
-use Rattle.owl_text.specs.Names.{IsPrefixName}
-use Rattle.owl_text.specs.Order.{text_eq}
-use Rattle.owl_text.specs.Tokens.{IsToken}
-use Rattle.owl_text.specs.declared.token.Token.{Token}
-use Rattle.owl_text.specs.declared.token.Token.TheVariants as token
-use Rattle.owl_text.specs.declared.token.Sign.{Sign}
-use Rattle.owl_text.specs.declared.token.Sign.TheVariants as sign
+use Rattle.owl_characters.specs.Iri.{IsIri}
+use Rattle.owl_characters.specs.Names.{IsPrefixName}
+use Rattle.owl_characters.specs.Order.{text_eq}
+use Rattle.owl_tokens.specs.Tokens.{IsToken}
+use Rattle.owl_tokens.specs.declared.token.Token.{Token}
+use Rattle.owl_tokens.specs.declared.token.Token.TheVariants as token
+use Rattle.owl_tokens.specs.declared.token.Sign.{Sign}
+use Rattle.owl_tokens.specs.declared.token.Sign.TheVariants as sign
 use Rattle.owl_atom.specs.declared.prefixes.Prefix.{Prefix}
 use Rattle.owl_atom.specs.declared.fault.DeclareFault.{DeclareFault}
 use Rattle.owl_atom.specs.declared.fault.DeclareFault.TheVariants as declare
 use Rattle.owl_atom.specs.Prefixes.{IsTable, fixed_prefixes, iri_of, is_declared, is_fixed, prefix_in}
 use Rattle.owl_tree.specs.Ontologies.{Ontology}
-use Rattle.owl_doc.specs.Functional.{PrefixDeclaration, body_terms, declaration_tokens, name_terms, ontology_terms}
-use Rattle.owl_doc.specs.declared.term.Term.{Term}
-use Rattle.owl_doc.specs.Terms.{AreTerms}
+use Rattle.fss_terms.specs.Functional.{PrefixDeclaration, body_terms, declaration_tokens, name_terms, ontology_terms}
+use Rattle.fss_terms.specs.declared.term.Term.{Term}
+use Rattle.fss_terms.specs.Terms.{AreTerms}
 use Rattle.fss_read.specs.Faults.{of_declaring}
 use Rattle.fss_read.specs.declared.token_fault.TokenFault.{TokenFault}
 use Rattle.fss_read.specs.declared.token_fault.TokenFault.TheVariants.{Memory}

@@ -1,6 +1,6 @@
 -- What tokens in turn make of a parse.
 use Rattle.std.proofs.Common.{◌≡◌, ◌≢◌, ◌≤◌, ℕ, List, [], ◌∷◌, ◌++◌, Result, Ok, Err, IfOk, IfErr, sym, subst, arith}
-use Rattle.owl_text.specs.declared.token.Token.{Token}
+use Rattle.owl_tokens.specs.declared.token.Token.{Token}
 use Rattle.owl_atom.specs.declared.prefixes.Prefix.{Prefix}
 use Rattle.owl_doc.specs.Documents.{Document}
 use Rattle.fss_read.specs.Parsing.{Blocks, EndsInNothing, Parse, Passes, count_stage}

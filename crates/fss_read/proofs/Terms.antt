@@ -1,16 +1,17 @@
 -- Which terms begin with a token.
-use Rattle.std.proofs.Common.{◌≡◌, ℕ, Bool, true, false, Option, Some, None, List, [], ◌∷◌, refl, sym, ap, ◌∙◌, subst}
+use Rattle.std.proofs.Common.{◌≡◌, ◌≢◌, ℕ, Bool, true, false, Option, Some, None, List, [], ◌∷◌, refl, sym, ap, ◌∙◌, subst}
 use Rattle.std.specs.Option.{option_map}
 use Rattle.std.specs.Str.Parse.{digits_value}
-use Rattle.owl_text.specs.declared.token.Token.{Token}
-use Rattle.owl_text.specs.declared.token.Token.TheVariants as token
-use Rattle.owl_text.specs.declared.token.Sign.TheVariants as sign
+use Rattle.owl_tokens.specs.declared.token.Token.{Token}
+use Rattle.owl_tokens.specs.declared.token.Token.TheVariants as token
+use Rattle.owl_tokens.specs.declared.token.Sign.{Sign}
+use Rattle.owl_tokens.specs.declared.token.Sign.TheVariants as sign
 use Rattle.owl_atom.specs.declared.prefixes.Prefix.{Prefix}
 use Rattle.owl_atom.specs.Literals.{DenotesLiteral, LiteralParts}
 use Rattle.owl_tree.specs.declared.atom.Atom.TheVariants as atom
-use Rattle.owl_doc.specs.Terms.{AreTerms, BeginsLiteral, iri_of_token, plain, tagged, typed}
-use Rattle.owl_doc.specs.declared.term.Term.{Term}
-use Rattle.owl_doc.specs.declared.term.Term.TheVariants as term
+use Rattle.fss_terms.specs.Terms.{AreTerms, BeginsLiteral, iri_of_token, plain, tagged, typed}
+use Rattle.fss_terms.specs.declared.term.Term.{Term}
+use Rattle.fss_terms.specs.declared.term.Term.TheVariants as term
 use Rattle.fss_read.specs.Parsing.{ends_string, is_iri_token}
 
 abbrev pub is_string : Token → Bool
@@ -21,6 +22,7 @@ is_string (token.Str text) = true
 is_string (token.At tag) = false
 is_string (token.Word word) = false
 is_string (token.Int digits) = false
+is_string (token.Dec number) = false
 is_string (token.Sign mark) = false
 
 -- the term that is one token
@@ -32,10 +34,16 @@ term_of prefixes (token.Str text) = None
 term_of prefixes (token.At tag) = None
 term_of prefixes (token.Word word) = Some (term.Keyword word)
 term_of prefixes (token.Int digits) = Some (term.Atom (atom.Number (digits_value 10 digits)))
+term_of prefixes (token.Dec number) = None
 term_of prefixes (token.Sign sign.Open) = Some term.Opening
 term_of prefixes (token.Sign sign.Close) = Some term.Closing
-term_of prefixes (token.Sign sign.Equals) = None
-term_of prefixes (token.Sign sign.Carets) = None
+term_of prefixes (token.Sign mark) = None
+
+-- no term is a mark that is no bracket
+pub no_bracket : (prefixes : List Prefix) (mark : Sign) → mark ≢ sign.Open → mark ≢ sign.Close → term_of prefixes (token.Sign mark) ≡ None
+no_bracket prefixes sign.Open n m = absurd (n refl)
+no_bracket prefixes sign.Close n m = absurd (m refl)
+no_bracket prefixes mark n m = refl
 
 -- The terms are this one and others, which are the tokens that follow.
 pub record First (prefixes : List Prefix) (x : Term) (more : List Token) (terms : List Term) : Type 0 where
@@ -56,6 +64,7 @@ iri_term_of prefixes (token.Str text) iri e = cc
 iri_term_of prefixes (token.At tag) iri e = cc
 iri_term_of prefixes (token.Word word) iri e = cc
 iri_term_of prefixes (token.Int digits) iri e = cc
+iri_term_of prefixes (token.Dec number) iri e = cc
 iri_term_of prefixes (token.Sign mark) iri e = cc
 
 module _ (prefixes : List Prefix) (t : Token) (more : List Token) where
@@ -117,10 +126,10 @@ module _ (prefixes : List Prefix) (more : List Token) (others : List Term) (are 
   single_only (token.At tag) x e = absurd (cc)
   single_only (token.Word word) x e = put (token.Word word) (term.Keyword word) x e (more, refl, are)
   single_only (token.Int digits) x e = put (token.Int digits) (term.Atom (atom.Number (digits_value 10 digits))) x e (more, (digits, refl, refl), are)
+  single_only (token.Dec number) x e = absurd (cc)
   single_only (token.Sign sign.Open) x e = put (token.Sign sign.Open) term.Opening x e (more, refl, are)
   single_only (token.Sign sign.Close) x e = put (token.Sign sign.Close) term.Closing x e (more, refl, are)
-  single_only (token.Sign sign.Equals) x e = absurd (cc)
-  single_only (token.Sign sign.Carets) x e = absurd (cc)
+  single_only (token.Sign mark) x e = absurd (cc)
 
 -- no term begins with the token
 pub no_term : (prefixes : List Prefix) (t : Token) (more : List Token) (terms : List Term) → is_string t ≡ false → term_of prefixes t ≡ None → AreTerms prefixes (t ∷ more) terms → ⊥
@@ -134,6 +143,7 @@ no_name_at prefixes (token.Str text) h e = absurd (cc)
 no_name_at prefixes (token.At tag) h e = absurd (cc)
 no_name_at prefixes (token.Word word) h e = absurd (cc)
 no_name_at prefixes (token.Int digits) h e = absurd (cc)
+no_name_at prefixes (token.Dec number) h e = absurd (cc)
 no_name_at prefixes (token.Sign mark) h e = absurd (cc)
 
 pub iri_no_string : (t : Token) → is_iri_token t ≡ true → is_string t ≡ false
@@ -144,6 +154,7 @@ iri_no_string (token.Str text) h = absurd (cc)
 iri_no_string (token.At tag) h = refl
 iri_no_string (token.Word word) h = refl
 iri_no_string (token.Int digits) h = refl
+iri_no_string (token.Dec number) h = refl
 iri_no_string (token.Sign mark) h = refl
 
 pub no_name : (prefixes : List Prefix) (t : Token) (more : List Token) (terms : List Term) → is_iri_token t ≡ true → iri_of_token prefixes t ≡ None → AreTerms prefixes (t ∷ more) terms → ⊥

@@ -14,10 +14,10 @@ use Rattle.owl_tree.specs.Rows.{Row, Leaf, Node, is_tag, row_of, takes, is_bare,
 use Rattle.owl_tree.specs.Shape.{AreShaped, IsShaped}
 use Rattle.owl_tree.specs.Tags.{is_axiom, keyword_of, number_of}
 use Rattle.owl_tree.specs.Trees.{Tree, Kids, leaf, node, no_kids, kid, tag_of}
-use Rattle.owl_doc.specs.Functional.{IsWrittenAnnotation, IsWrittenAxiom, IsWrittenOntology, body_terms, import_terms, iri_term, item_terms}
-use Rattle.owl_doc.specs.Spelling.{closed, leaf_spelling, opened, spelling, spellings}
-use Rattle.owl_doc.specs.declared.term.Term.{Term}
-use Rattle.owl_doc.specs.declared.term.Term.TheVariants as term
+use Rattle.fss_terms.specs.Functional.{IsWrittenAnnotation, IsWrittenAxiom, IsWrittenOntology, body_terms, import_terms, iri_term, item_terms}
+use Rattle.fss_terms.specs.Spelling.{closed, leaf_spelling, opened, spelling, spellings}
+use Rattle.fss_terms.specs.declared.term.Term.{Term}
+use Rattle.fss_terms.specs.declared.term.Term.TheVariants as term
 use Rattle.fss_read.specs.Parsing.{FitsLeaf}
 
 abbrev Fit : List Term → Type 0

@@ -3,20 +3,20 @@
 use Rattle.std.specs.Prelude.{◌≡◌, ◌≢◌, ◌+◌, ◌*◌, ◌<◌, ◌^◌, ℕ, Bool, true, false, not, List, [], ◌∷◌, ◌++◌, length, map, codes, flat_map, Option, None, Some}
 use Rattle.std.specs.List.{AllByRecursion}
 use Rattle.owl_list.specs.Ascending.{AreApart}
-use Rattle.owl_text.specs.Iri.{IsIri}
-use Rattle.owl_text.specs.Names.{IsPrefixName}
-use Rattle.owl_text.specs.declared.token.Token.{Token}
-use Rattle.owl_text.specs.declared.token.Token.TheVariants as token
-use Rattle.owl_text.specs.declared.token.Sign.TheVariants as sign
+use Rattle.owl_characters.specs.Iri.{IsIri}
+use Rattle.owl_characters.specs.Names.{IsPrefixName}
+use Rattle.owl_tokens.specs.declared.token.Token.{Token}
+use Rattle.owl_tokens.specs.declared.token.Token.TheVariants as token
+use Rattle.owl_tokens.specs.declared.token.Sign.TheVariants as sign
 use Rattle.owl_atom.specs.declared.prefixes.Prefix.{Prefix}
 use Rattle.owl_atom.specs.Prefixes.{IsTable, fixed_prefixes, iri_of, is_declared, is_fixed, prefix_in}
 use Rattle.owl_tree.specs.declared.atom.Atom.TheVariants.{Iri, Label, Literal, Number}
 use Rattle.owl_tree.specs.Ontologies.{IsSameOntology, Ontology, OntologyName}
 use Rattle.owl_doc.specs.Documents.{Document, ontology_of}
-use Rattle.owl_doc.specs.Functional.{PrefixDeclaration, IsWithinLimits, IsWrittenOntology, body_terms, declaration_of, declaration_tokens, iri_term, name_terms, ontology_terms}
-use Rattle.owl_doc.specs.Terms.{AreTerms}
-use Rattle.owl_doc.specs.declared.term.Term.{Term}
-use Rattle.owl_doc.specs.declared.term.Term.TheVariants as term
+use Rattle.fss_terms.specs.Functional.{PrefixDeclaration, IsWithinLimits, IsWrittenOntology, body_terms, declaration_of, declaration_tokens, iri_term, name_terms, ontology_terms}
+use Rattle.fss_terms.specs.Terms.{AreTerms}
+use Rattle.fss_terms.specs.declared.term.Term.{Term}
+use Rattle.fss_terms.specs.declared.term.Term.TheVariants as term
 use Rattle.fss_items.specs.Bodies.{Body, Completes}
 use Rattle.fss_read.specs.declared.parser.Parser.{Parser}
 use Rattle.fss_read.specs.declared.stage.Header.{Header}
@@ -37,6 +37,7 @@ is_iri_token (token.Str text) = false
 is_iri_token (token.At tag) = false
 is_iri_token (token.Word word) = false
 is_iri_token (token.Int digits) = false
+is_iri_token (token.Dec number) = false
 is_iri_token (token.Sign mark) = false
 
 -- a literal goes on with this token behind its string
@@ -48,10 +49,9 @@ goes_on (token.Str text) = false
 goes_on (token.At tag) = true
 goes_on (token.Word word) = false
 goes_on (token.Int digits) = false
-goes_on (token.Sign sign.Open) = false
-goes_on (token.Sign sign.Close) = false
-goes_on (token.Sign sign.Equals) = false
+goes_on (token.Dec number) = false
 goes_on (token.Sign sign.Carets) = true
+goes_on (token.Sign mark) = false
 
 -- a literal is whole with its string before these tokens
 abbrev pub ends_string : List Token → Bool

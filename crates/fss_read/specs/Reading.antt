@@ -1,12 +1,14 @@
 -- What a reader has in hand, and which documents can still come of it.
 use Rattle.std.specs.Prelude.{◌≡◌, ◌≤◌, ◌+◌, ◌*◌, ℕ, Option, None, List, [], ◌++◌, length}
-use Rattle.owl_text.specs.Lexing.{Begun, Continues, Lexing}
-use Rattle.owl_text.specs.declared.token.Placed.{Placed}
-use Rattle.owl_text.specs.Limit.{most_bytes}
+use Rattle.owl_lexer.specs.Lexing.{Begun, Continues, Lexing, end_of}
+use Rattle.owl_lexer.specs.declared.placed.Placed.{Placed}
+use Rattle.owl_tokens.specs.Tokens.{Spells}
+use Rattle.owl_tokens.specs.declared.token.Token.{Token}
+use Rattle.owl_characters.specs.Limit.{most_bytes}
 use Rattle.owl_atom.specs.declared.prefixes.Prefix.{Prefix}
 use Rattle.owl_tree.specs.Ontologies.{Ontology}
-use Rattle.owl_doc.specs.Functional.{IsWithinLimits, ReadsFunctional}
-use Rattle.owl_doc.specs.Terms.{tokens_of}
+use Rattle.fss_terms.specs.Functional.{IsWithinLimits, ReadsFunctional}
+use Rattle.fss_terms.specs.Terms.{tokens_of}
 use Rattle.fss_read.specs.Parsing.{IsWell, Parse, Takes, count_of}
 use Rattle.fss_read.specs.declared.fault.ReadFault.{ReadFault}
 
@@ -19,9 +21,9 @@ pub record Reading : Type 0 where
 
 -- When these bytes follow what was fed, and then the end, they are a document with these prefixes that says this ontology.
 pub record AwaitsAt (begun : Begun) (parse : Parse) (fed : ℕ) (more : List ℕ) (prefixes : List Prefix) (o : Ontology) : Type 0 where
-  pub placed : List Placed
+  pub placed : List (Placed Token)
   pub few : fed + length more ≤ most_bytes
-  pub continues : Continues begun more placed None
+  pub continues : Continues Spells begun more placed None
   pub takes : Takes parse (tokens_of placed) prefixes o
   pub within : IsWithinLimits o
 
@@ -62,6 +64,6 @@ IsNone begun parse fed = (prefixes : List Prefix) (o : Ontology) → AwaitsAt be
 -- what a reader keeps that has not refused
 pub record IsOpen (lexer : Lexing) (parse : Parse) (fed : ℕ) : Type 0 where
   pub lexer_open : lexer.refused ≡ None
-  pub lexer_fed : lexer.fed ≡ fed
+  pub lexer_fed : end_of lexer.begun ≡ fed
   pub well : IsWell parse
   pub count : count_of parse + 2 * length lexer.begun.held ≤ 2 * fed

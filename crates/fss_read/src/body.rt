@@ -1,16 +1,16 @@
 //! The tokens behind the header, which make terms.
 
 ghost use Rattle.std.specs.Prelude.{◌≡◌, ◌≢◌, ◌↔◌, ◌+◌, ◌<◌, ◌≤◌, ◌^◌, ◌∷◌, ◌++◌, [], List, false, IfOk, IfErr, MatchOption, OnOk, true};
-ghost use Rattle.owl_text.specs.Names.{IsLabel, IsLanguageTag, IsRunOf};
+ghost use Rattle.owl_characters.specs.Names.{IsLabel, IsLanguageTag, IsRunOf};
 ghost use Rattle.std.specs.Char.{is_ascii_digit};
-ghost use Rattle.owl_text.specs.Tokens.{IsToken};
-ghost use Rattle.owl_text.specs.declared.token.Token.TheVariants as lexeme;
-ghost use Rattle.owl_text.specs.declared.token.Sign.TheVariants as mark;
+ghost use Rattle.owl_tokens.specs.Tokens.{IsToken};
+ghost use Rattle.owl_tokens.specs.declared.token.Token.TheVariants as lexeme;
+ghost use Rattle.owl_tokens.specs.declared.token.Sign.TheVariants as mark;
 ghost use Rattle.std.specs.Str.Parse.{digits_value};
 ghost use Rattle.owl_atom.specs.declared.prefixes.Prefix.{Prefix};
 ghost use Rattle.owl_tree.specs.Ontologies.{IsSameOntology, Ontology};
 ghost use Rattle.owl_doc.specs.Documents.{ontology_of};
-ghost use Rattle.owl_doc.specs.Functional.{IsWithinLimits};
+ghost use Rattle.fss_terms.specs.Functional.{IsWithinLimits};
 ghost use Rattle.fss_items.specs.Bodies.{Bars, Completes, Steps};
 ghost use Rattle.fss_read.specs.Parsing.{Blocks, BodyBlocks, BodyPasses, EndsAs, EndsInNothing, IsWellStage, Passes, StringBlocks, StringPasses, count_stage, goes_on, held_tokens, is_iri_token};
 ghost use Rattle.fss_read.specs.declared.stage.Held.TheVariants as held;
@@ -22,9 +22,11 @@ use crate::names::expand;
 use crate::stage::{Held, Stage};
 use crate::token_fault::TokenFault;
 use fss_items::{ItemFault, Items};
+use fss_terms::Term;
 use owl_atom::{Label, Literal, Prefixes};
-use owl_doc::{Doc, Term};
-use owl_text::{NoMemory, Sign, Text, Token};
+use owl_characters::{NoMemory, Text};
+use owl_doc::Doc;
+use owl_tokens::{Sign, Token};
 use owl_tree::{Atom, AtomSort};
 use std::alloc::Global;
 
@@ -94,6 +96,7 @@ fn fresh(
         Token::Sign(sign) => bracket(items, sign),
         Token::Str(form) => string(items, form),
         Token::Int(digits) => number(items, &digits),
+        Token::Dec(_) => Err(NOT_HERE),
         Token::Blank(label) => blank(alloc, items, &label),
         Token::At(_) => Err(NOT_HERE),
         Token::Iri(iri) => name(alloc, prefixes, items, &Token::Iri(iri)),
@@ -125,8 +128,7 @@ fn bracket(items: &mut Items, sign: Sign) -> Result<Held, TokenFault>
     match sign {
         Sign::Open => given(items, Term::Opening),
         Sign::Close => given(items, Term::Closing),
-        Sign::Equals => Err(NOT_HERE),
-        Sign::Carets => Err(NOT_HERE),
+        _ => Err(NOT_HERE),
     }
 }
 

@@ -1,9 +1,9 @@
 //! The header of an ontology.
 
 ghost use Rattle.std.specs.Prelude.{◌≡◌, ◌≢◌, ◌↔◌, ◌+◌, ◌≤◌, ◌^◌, ◌∷◌, [], List, IfOk, IfErr, false, true};
-ghost use Rattle.owl_text.specs.Tokens.{IsToken};
+ghost use Rattle.owl_tokens.specs.Tokens.{IsToken};
 ghost use Rattle.owl_doc.specs.Heads.{StandsBeside, name_of};
-ghost use Rattle.owl_doc.specs.declared.term.Term.{Term};
+ghost use Rattle.fss_terms.specs.declared.term.Term.{Term};
 ghost use Rattle.owl_tree.specs.Ontologies.{Ontology};
 ghost use Rattle.fss_items.specs.Bodies.{Completes, IsBodyOf};
 ghost use Rattle.fss_read.specs.Parsing.{Blocks, IsWellStage, Passes, count_stage, ends_header, header_name};
@@ -19,8 +19,9 @@ use crate::token_fault::TokenFault;
 use fss_items::Items;
 use owl_arena::Arena;
 use owl_atom::{Iri, Prefixes};
+use owl_characters::NoMemory;
 use owl_doc::Builder;
-use owl_text::{NoMemory, Token};
+use owl_tokens::Token;
 use std::alloc::Global;
 
 /// Whether the header ends before the token: it takes two IRIs at most.

@@ -2,17 +2,18 @@
 
 ghost use Rattle.std.specs.Prelude.{◌≡◌, ◌≢◌, ◌↔◌, IsTrue, IfOk, IfErr, MatchOption, List, [], ℕ, Some, None};
 ghost use Rattle.std.specs.Str.{chars};
-ghost use Rattle.owl_text.specs.Iri.{IsIri};
-ghost use Rattle.owl_text.specs.Tokens.{IsToken};
-ghost use Rattle.owl_text.specs.declared.token.Token.TheVariants as lexeme;
-ghost use Rattle.owl_doc.specs.Terms.{iri_of_token};
+ghost use Rattle.owl_characters.specs.Iri.{IsIri};
+ghost use Rattle.owl_tokens.specs.Tokens.{IsToken};
+ghost use Rattle.owl_tokens.specs.declared.token.Token.TheVariants as lexeme;
+ghost use Rattle.fss_terms.specs.Terms.{iri_of_token};
 ghost use Rattle.fss_read.specs.Parsing.{is_iri_token};
 ghost use Rattle.fss_read.specs.declared.token_fault.TokenFault.{TokenFault};
 
 use crate::fault::Reason;
 use crate::token_fault::TokenFault;
 use owl_atom::{Iri, Prefixes};
-use owl_text::{NoMemory, Sign, Text, Token};
+use owl_characters::{NoMemory, Text};
+use owl_tokens::{Sign, Token};
 use std::alloc::Global;
 
 /// Whether the token is this word.

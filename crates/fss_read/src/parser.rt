@@ -1,11 +1,11 @@
 //! Reads the tokens of a document one by one.
 
 ghost use Rattle.std.specs.Prelude.{◌≡◌, ◌≢◌, ◌+◌, ◌*◌, ◌≤◌, ◌^◌, ◌∷◌, [], List, length, IfOk, IfErr, OnOk};
-ghost use Rattle.owl_text.specs.Lexing.{AreTokens};
-ghost use Rattle.owl_text.specs.declared.fault.LexFault.TheVariants as lex;
+ghost use Rattle.owl_tokens.specs.Tokens.{AreTokens};
+ghost use Rattle.owl_lexer.specs.declared.fault.LexFault.TheVariants as lex;
 ghost use Rattle.owl_atom.specs.declared.prefixes.Prefix.{Prefix};
-ghost use Rattle.owl_text.specs.Tokens.{IsToken};
-ghost use Rattle.owl_doc.specs.Terms.{tokens_of};
+ghost use Rattle.owl_tokens.specs.Tokens.{IsToken};
+ghost use Rattle.fss_terms.specs.Terms.{tokens_of};
 ghost use Rattle.fss_read.specs.Parsing.{Blocks, EndsAs, EndsInNothing, IsWell, IsWellStage, Passes, count_of, count_stage, parse_of, start};
 ghost use Rattle.fss_read.specs.declared.fault.ReadFault.{ReadFault};
 ghost use Rattle.fss_read.specs.declared.token_fault.TokenFault.{TokenFault};
@@ -17,8 +17,10 @@ use crate::prologue::in_prologue;
 use crate::stage::{Held, Prologue, Stage};
 use crate::token_fault::TokenFault;
 use owl_atom::Prefixes;
+use owl_characters::NoMemory;
 use owl_doc::Doc;
-use owl_text::{LexFault, NoMemory, Placed, Token};
+use owl_lexer::{LexFault, Placed};
+use owl_tokens::Token;
 use std::alloc::Global;
 use std::mem;
 
@@ -45,7 +47,7 @@ impl Parser {
     }
 
     /// Takes the next token.
-    fn take(&mut self, placed: Placed) -> Result<(), ReadFault>
+    fn take(&mut self, placed: Placed<Token>) -> Result<(), ReadFault>
         requires well { IsWell (parse_of self.old) }
         requires room { count_of (parse_of self.old) + 2 ≤ 2 ^ 28 }
         requires token { IsToken placed.token }
@@ -70,7 +72,7 @@ impl Parser {
     }
 
     /// Takes tokens in turn.
-    pub fn take_all(&mut self, tokens: Vec<Placed>) -> Result<(), ReadFault>
+    pub fn take_all(&mut self, tokens: Vec<Placed<Token>>) -> Result<(), ReadFault>
         requires well { IsWell (parse_of self.old) }
         requires room { count_of (parse_of self.old) + 2 * length tokens.items ≤ 2 ^ 28 }
         requires tokens { AreTokens tokens.items }

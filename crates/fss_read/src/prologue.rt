@@ -1,11 +1,11 @@
 //! Declarations of prefixes.
 
 ghost use Rattle.std.specs.Prelude.{◌≡◌, ◌≢◌, ◌∷◌, [], List, IfOk, IfErr};
-ghost use Rattle.owl_text.specs.Tokens.{IsToken};
+ghost use Rattle.owl_tokens.specs.Tokens.{IsToken};
 ghost use Rattle.owl_atom.specs.declared.prefixes.Prefix.{Prefix};
-ghost use Rattle.owl_text.specs.Names.{IsPrefixName};
-ghost use Rattle.owl_text.specs.declared.token.Token.TheVariants as lexeme;
-ghost use Rattle.owl_text.specs.declared.token.Sign.TheVariants as mark;
+ghost use Rattle.owl_characters.specs.Names.{IsPrefixName};
+ghost use Rattle.owl_tokens.specs.declared.token.Token.TheVariants as lexeme;
+ghost use Rattle.owl_tokens.specs.declared.token.Sign.TheVariants as mark;
 ghost use Rattle.fss_read.specs.Parsing.{Blocks, IsWellPrologue, IsWellStage, Passes, count_stage};
 ghost use Rattle.fss_read.specs.declared.stage.Prologue.TheVariants as prologue;
 ghost use Rattle.fss_read.specs.declared.stage.Header.TheVariants as header;
@@ -17,7 +17,8 @@ use crate::names::{full_iri, iri_of, is_sign, is_word, prefix_name};
 use crate::stage::{Header, Prologue, Stage};
 use crate::token_fault::TokenFault;
 use owl_atom::Prefixes;
-use owl_text::{Sign, Text, Token};
+use owl_characters::Text;
+use owl_tokens::{Sign, Token};
 use std::alloc::Global;
 
 const NOT_HERE: TokenFault = TokenFault::Defect(Reason::NotHere);

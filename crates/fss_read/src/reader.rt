@@ -4,19 +4,21 @@ ghost use Rattle.std.specs.Prelude.{◌≡◌, ◌≢◌, ◌+◌, ◌*◌, ◌^
 ghost use Rattle.owl_atom.specs.declared.prefixes.Prefix.{Prefix};
 ghost use Rattle.owl_tree.specs.Ontologies.{IsSameOntology, Ontology};
 ghost use Rattle.owl_doc.specs.Documents.{ontology_of};
-ghost use Rattle.owl_doc.specs.Functional.{IsWithinLimits};
-ghost use Rattle.owl_doc.specs.Terms.{tokens_of};
-ghost use Rattle.owl_text.specs.Lexing.{AreTokens};
-ghost use Rattle.owl_text.specs.Limit.{most_bytes};
-ghost use Rattle.owl_text.specs.declared.fault.LexFault.{LexFault};
+ghost use Rattle.fss_terms.specs.Functional.{IsWithinLimits};
+ghost use Rattle.fss_terms.specs.Terms.{tokens_of};
+ghost use Rattle.owl_tokens.specs.Tokens.{AreTokens};
+ghost use Rattle.owl_characters.specs.Limit.{most_bytes};
+ghost use Rattle.owl_lexer.specs.declared.fault.LexFault.{LexFault};
 ghost use Rattle.fss_read.specs.Parsing.{EndsInNothingWith, EndsWith, IsWell, count_of, parse_of};
 ghost use Rattle.fss_read.specs.Reading.{Awaits, AwaitsAt, EndsInNone, IsOpen, IsNone, IsRefused, LeadTo, Leads, Refuses, Starts};
 ghost use Rattle.fss_read.specs.declared.fault.ReadFault.{ReadFault};
 
 use crate::fault::ReadFault;
 use crate::parser::Parser;
+use owl_characters::{MOST_BYTES, NoMemory};
 use owl_doc::Doc;
-use owl_text::{Dialect, LexFault, Lexer, MOST_BYTES, NoMemory, Placed};
+use owl_lexer::{LexFault, Lexer, Placed, tokens_come_one_way};
+use owl_tokens::{Functional, Token};
 use std::alloc::Global;
 use std::marker::Model;
 
@@ -27,7 +29,7 @@ use std::marker::Model;
 #[derive(Drop)]
 pub struct Reader {
     alloc: Global,
-    lexer: Lexer,
+    lexer: Lexer<Functional>,
     parser: Parser,
     fed: u64,
     refused: Option<ReadFault>,
@@ -44,7 +46,7 @@ impl Model for Reader {
     ghost coded = { Prim.hlevel (codes, coded_tree) };
 
     ghost use Rattle.std.specs.Prelude.{◌≡◌, ◌≤◌, None};
-    ghost use Rattle.owl_text.specs.Limit.{most_bytes};
+    ghost use Rattle.owl_characters.specs.Limit.{most_bytes};
     ghost use Rattle.fss_read.specs.Parsing.{parse_of};
     ghost use Rattle.fss_read.specs.Reading.{IsOpen};
 
@@ -62,7 +64,7 @@ impl Reader {
     {
         Ok(Reader {
             alloc,
-            lexer: Lexer::new(alloc, Dialect::Functional),
+            lexer: Lexer::new(alloc),
             parser: Parser::new(alloc)?,
             fed: 0,
             refused: None,
@@ -139,7 +141,7 @@ impl Reader {
 /// Reads the next bytes, as many as a document may have.
 fn read(
     alloc: Global,
-    lexer: &mut Lexer,
+    lexer: &mut Lexer<Functional>,
     parser: &mut Parser,
     fed: u64,
     piece: &[u8],
@@ -163,7 +165,7 @@ fn read(
 /// Cuts the next bytes into tokens, and takes these.
 fn take(
     alloc: Global,
-    lexer: &mut Lexer,
+    lexer: &mut Lexer<Functional>,
     parser: &mut Parser,
     fed: u64,
     piece: &[u8],
@@ -175,6 +177,7 @@ fn take(
     ensures open_yet { OnOk result (IsOpen lexer.new (parse_of parser.new) (fed + length piece.now)) }
     ensures short { IfErr result (λ fault. fault ≢ ReadFault.TooLong) }
 {
+    tokens_come_one_way::<Functional>();
     let mut tokens = Vec::new(alloc);
     match lexer.feed(piece, &mut tokens) {
         Ok(()) => parser.take_all(tokens),
@@ -183,7 +186,7 @@ fn take(
 }
 
 /// The refusal where the bytes behind these tokens are none. A token may be refused before.
-fn refused(parser: &mut Parser, tokens: Vec<Placed>, fault: LexFault) -> ReadFault
+fn refused(parser: &mut Parser, tokens: Vec<Placed<Token>>, fault: LexFault) -> ReadFault
     requires well { IsWell (parse_of parser.old) }
     requires room { fault ≢ LexFault.Memory → count_of (parse_of parser.old) + 2 * length tokens.items ≤ 2 ^ 28 }
     requires tokens { AreTokens tokens.items }
@@ -198,7 +201,7 @@ fn refused(parser: &mut Parser, tokens: Vec<Placed>, fault: LexFault) -> ReadFau
 }
 
 /// The refusal of a token, or else of what stands behind all of them.
-fn first_of(parser: &mut Parser, tokens: Vec<Placed>, fault: LexFault) -> ReadFault
+fn first_of(parser: &mut Parser, tokens: Vec<Placed<Token>>, fault: LexFault) -> ReadFault
     requires well { IsWell (parse_of parser.old) }
     requires room { count_of (parse_of parser.old) + 2 * length tokens.items ≤ 2 ^ 28 }
     requires tokens { AreTokens tokens.items }
@@ -211,7 +214,12 @@ fn first_of(parser: &mut Parser, tokens: Vec<Placed>, fault: LexFault) -> ReadFa
 }
 
 /// The document that all the bytes fed are.
-fn ended(alloc: Global, lexer: Lexer, parser: Parser, fed: u64) -> Result<Doc, ReadFault>
+fn ended(
+    alloc: Global,
+    lexer: Lexer<Functional>,
+    parser: Parser,
+    fed: u64,
+) -> Result<Doc, ReadFault>
     requires open_yet { IsOpen lexer (parse_of parser) fed }
     requires within { fed ≤ most_bytes }
     ensures ok { IfOk result (λ doc. AwaitsAt lexer.begun (parse_of parser) fed [] doc.prefixes (ontology_of doc)) }
@@ -220,6 +228,7 @@ fn ended(alloc: Global, lexer: Lexer, parser: Parser, fed: u64) -> Result<Doc, R
     ensures short { IfErr result (λ fault. fault ≢ ReadFault.TooLong) }
 {
     let mut lexer = lexer;
+    tokens_come_one_way::<Functional>();
     let mut tokens = Vec::new(alloc);
     match lexer.finish(&mut tokens) {
         Ok(()) => end_of(parser, tokens, fed),
@@ -231,7 +240,7 @@ fn ended(alloc: Global, lexer: Lexer, parser: Parser, fed: u64) -> Result<Doc, R
 }
 
 /// The document that these are the last tokens of.
-fn end_of(parser: Parser, tokens: Vec<Placed>, fed: u64) -> Result<Doc, ReadFault>
+fn end_of(parser: Parser, tokens: Vec<Placed<Token>>, fed: u64) -> Result<Doc, ReadFault>
     requires well { IsWell (parse_of parser) }
     requires room { count_of (parse_of parser) + 2 * length tokens.items ≤ 2 ^ 28 }
     requires tokens { AreTokens tokens.items }

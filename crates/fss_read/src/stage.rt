@@ -2,7 +2,7 @@
 
 use fss_items::Items;
 use owl_atom::Iri;
-use owl_text::Text;
+use owl_characters::Text;
 
 /// How far a declaration of a prefix was read, or the keyword of the ontology.
 #[derive(Debug, Drop)]

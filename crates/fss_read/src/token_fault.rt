@@ -9,7 +9,7 @@ ghost use Rattle.fss_read.specs.Faults.{of_expanding, of_declaring, of_items, of
 use crate::fault::{ReadFault, Reason};
 use fss_items::ItemFault;
 use owl_atom::{DeclareFault, ExpandFault, LiteralFault};
-use owl_text::NoMemory;
+use owl_characters::NoMemory;
 
 /// Why a token is not taken.
 #[derive(Clone, Copy, Debug, PartialEq, Eq)]

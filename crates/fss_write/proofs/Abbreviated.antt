@@ -10,13 +10,13 @@ use Rattle.std.proofs.lemmas.List.Prefix.{front_rest}
 use Rattle.std.proofs.lemmas.Option.{get_or_from_slice_get, slice_get_within}
 use Rattle.std.proofs.lemmas.Slice.Eq.{starts_is}
 use Rattle.owl_list.specs.AscendingLaws.{all_in, in_cases, in_head, in_none, in_tail}
-use Rattle.owl_text.specs.Order.{text_cmp}
-use Rattle.owl_text.specs.OrderLaws.{texts_total}
-use Rattle.owl_text.specs.AllAreLaws.{all_are}
+use Rattle.owl_characters.specs.Order.{text_cmp}
+use Rattle.owl_characters.specs.OrderLaws.{texts_total}
+use Rattle.owl_characters.specs.AllAreLaws.{all_are}
 use Rattle.owl_atom.specs.declared.prefixes.Prefix.{Prefix}
 use Rattle.owl_atom.specs.Prefixes.{AreAscending, Cuts, IsBetter, IsPlainLocal, Shortens, is_plain_character}
 use Rattle.owl_atom.specs.PrefixLaws.{earlier_better}
-use Rattle.owl_doc.specs.Abbreviations.{best_prefix, cuts, is_plain_local, local_behind, longer_of}
+use Rattle.fss_terms.specs.Abbreviations.{best_prefix, cuts, is_plain_local, local_behind, longer_of}
 
 -- the test and the fact that a prefix cuts an IRI
 

@@ -9,16 +9,16 @@ use Rattle.std.proofs.lemmas.Cmp.{tied_itself}
 use Rattle.std.proofs.lemmas.Slice.Eq.{bytes_eq-Decides}
 use Rattle.owl_list.specs.Ascending.{AreApart}
 use Rattle.owl_list.specs.AscendingLaws.{all_from, all_in, in_cases, in_none}
-use Rattle.owl_text.specs.Iri.{IsIri}
-use Rattle.owl_text.specs.Names.{IsPrefixName}
-use Rattle.owl_text.specs.Order.{text_cmp, text_eq}
-use Rattle.owl_text.specs.OrderLaws.{texts_total, equal}
-use Rattle.owl_text.specs.IriLaws.{written_iri}
-use Rattle.owl_text.specs.NameLaws.{written_name}
+use Rattle.owl_characters.specs.Iri.{IsIri}
+use Rattle.owl_characters.specs.Names.{IsPrefixName}
+use Rattle.owl_characters.specs.Order.{text_cmp, text_eq}
+use Rattle.owl_characters.specs.OrderLaws.{texts_total, equal}
+use Rattle.owl_characters.specs.IriLaws.{written_iri}
+use Rattle.owl_characters.specs.NameLaws.{written_name}
 use Rattle.owl_atom.specs.declared.prefixes.Prefix.{Prefix}
 use Rattle.owl_atom.specs.Prefixes.{AreAscending, IsTable, fixed_prefixes, iri_of, is_fixed, prefix_in}
 use Rattle.owl_atom.specs.Vocabulary.{owl, rdf, rdfs, xsd}
-use Rattle.owl_doc.specs.Functional.{AreDeclarable, IsDeclarable, IsTableOf, PrefixDeclaration, declaration_of, declared_prefix}
+use Rattle.fss_terms.specs.Functional.{AreDeclarable, IsDeclarable, IsTableOf, PrefixDeclaration, declaration_of, declared_prefix}
 use Rattle.fss_write.specs.Text.{as_declared, declared_prefixes, with_prefix, written_prefixes}
 use Rattle.fss_write.specs.Parts.{HaveIris}
 use Rattle.fss_write.proofs.WrittenTables.{looked_up, with_prefix_iris, with_prefix_sets, with_prefix_table}

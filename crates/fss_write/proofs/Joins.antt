@@ -6,8 +6,8 @@ use Rattle.std.specs.Result.{IsErrAnd}
 use Rattle.std.proofs.lemmas.Result.{err_from_is_err_and}
 use Rattle.std.proofs.lemmas.List.{append_assoc, append-nil, take_more}
 use Rattle.std.proofs.lemmas.Grind.{flat_map-append}
-use Rattle.owl_text.specs.Utf8.{size}
-use Rattle.owl_text.specs.Utf8Laws.{size_append}
+use Rattle.owl_characters.specs.Utf8.{size}
+use Rattle.owl_characters.specs.Utf8Laws.{size_append}
 use Rattle.owl_list.specs.AscendingLaws.{all_pushed}
 use Rattle.fss_write.specs.Parts.{IsTooLong}
 

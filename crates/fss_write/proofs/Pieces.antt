@@ -2,32 +2,33 @@
 use Rattle.std.proofs.Common.{◌≡◌, ℕ, ◌+◌, true, None, List, [], ◌∷◌, ◌++◌, inl, refl, sym, ap, subst, arith}
 use Rattle.std.specs.Prelude.{codes}
 use Rattle.std.specs.Char.{len_utf8}
-use Rattle.owl_text.specs.Names.{IsNameFrom, is_start}
-use Rattle.owl_text.specs.Tokens.{BeginsToken, Ends as Ending, IsLongest, Spells, SplitsFrom, Stops, is_space}
-use Rattle.owl_text.specs.Utf8.{size}
-use Rattle.owl_text.specs.declared.token.Placed.{Placed}
-use Rattle.owl_text.specs.declared.token.Sign.TheVariants as sign
-use Rattle.owl_text.specs.declared.token.Token.{Token}
-use Rattle.owl_text.specs.declared.token.Token.TheVariants as token
+use Rattle.owl_characters.specs.Names.{IsNameFrom, is_start}
+use Rattle.owl_lexer.specs.Splitting.{BeginsToken, Ends as Ending, IsLongest, SplitsFrom, Stops, is_space}
+use Rattle.owl_tokens.specs.Tokens.{Spells}
+use Rattle.owl_characters.specs.Utf8.{size}
+use Rattle.owl_lexer.specs.declared.placed.Placed.{Placed}
+use Rattle.owl_tokens.specs.declared.token.Sign.TheVariants as sign
+use Rattle.owl_tokens.specs.declared.token.Token.{Token}
+use Rattle.owl_tokens.specs.declared.token.Token.TheVariants as token
 use Rattle.owl_text.specs.LongestTokenLaws.{sign_longest}
 use Rattle.owl_atom.specs.declared.prefixes.Prefix.{Prefix}
-use Rattle.owl_doc.specs.Terms.{AreTerms, tokens_of}
-use Rattle.owl_doc.specs.declared.term.Term.{Term}
-use Rattle.owl_doc.specs.declared.term.Term.TheVariants.{Keyword, Opening, Closing}
+use Rattle.fss_terms.specs.Terms.{AreTerms, tokens_of}
+use Rattle.fss_terms.specs.declared.term.Term.{Term}
+use Rattle.fss_terms.specs.declared.term.Term.TheVariants.{Keyword, Opening, Closing}
 use Rattle.fss_write.proofs.Stops.{token_longest}
 
 -- the characters are cut into tokens of which this is so, wherever they stand
 abbrev pub Cuts : List ℕ → (List Token → Type 0) → Type 0
-Cuts cs fact = (place : ℕ) → (placed : List Placed) × SplitsFrom place cs [] placed None × fact (tokens_of placed)
+Cuts cs fact = (place : ℕ) → (placed : List (Placed Token)) × SplitsFrom Spells place cs [] placed None × fact (tokens_of placed)
 
 pub cuts_none : (fact : List Token → Type 0) → fact [] → Cuts [] fact
 cuts_none fact h = λ place. ([], record { gap = []; rest = []; parts = refl; is_gap = tt; stops = refl }, h)
 
 -- a token, and then what the rest is cut into
-pub cuts_token : (fact next : List Token → Type 0) (token : Token) (spelling rest : List ℕ) → Spells token spelling → IsLongest spelling rest → ((ts : List Token) → next ts → fact (token ∷ ts)) → Cuts rest next → Cuts (spelling ++ rest) fact
+pub cuts_token : (fact next : List Token → Type 0) (token : Token) (spelling rest : List ℕ) → Spells token spelling → IsLongest Spells spelling rest → ((ts : List Token) → next ts → fact (token ∷ ts)) → Cuts rest next → Cuts (spelling ++ rest) fact
 cuts_token fact next token spelling rest h longest step k = λ place.
     let others = k (place + size spelling) in
-    let first : BeginsToken place (spelling ++ rest) (record { token = token; at = place }) (place + size spelling) rest =
+    let first : BeginsToken Spells place (spelling ++ rest) (record { token = token; at = place }) (place + size spelling) rest =
     record { gap = []; spelling = spelling; parts = refl; is_gap = tt; at = omega arith; token = h; longest = longest; ends = refl } in
     (record { token = token; at = place } ∷ others.0, (place + size spelling, rest, first, others.1), step (tokens_of others.0) others.2)
 
@@ -35,16 +36,16 @@ cuts_token fact next token spelling rest h longest step k = λ place.
 moved : (place a b n : ℕ) → place + a + b ≡ n → place + (a + b) ≡ n
 moved place a b n h = omega arith
 
-ends_behind : (place c : ℕ) (cs : List ℕ) → is_space c ≡ true → Ending (place + len_utf8 c) cs [] None → Ending place (c ∷ cs) [] None
+ends_behind : (place c : ℕ) (cs : List ℕ) → is_space c ≡ true → Ending Spells (place + len_utf8 c) cs [] None → Ending Spells place (c ∷ cs) [] None
 ends_behind place c cs h e = record {
   gap = c ∷ e.gap;
   rest = e.rest;
   parts = ap (λ (x : List ℕ). c ∷ x) e.parts;
   is_gap = inl (h, e.is_gap);
-  stops = subst (λ (n : ℕ). Stops n e.rest [] None) (sym (moved place (len_utf8 c) (size e.gap) (place + len_utf8 c + size e.gap) refl)) e.stops;
+  stops = subst (λ (n : ℕ). Stops Spells n e.rest [] None) (sym (moved place (len_utf8 c) (size e.gap) (place + len_utf8 c + size e.gap) refl)) e.stops;
 }
 
-begins_behind : (place c : ℕ) (cs : List ℕ) (first : Placed) (next : ℕ) (rest : List ℕ) → is_space c ≡ true → BeginsToken (place + len_utf8 c) cs first next rest → BeginsToken place (c ∷ cs) first next rest
+begins_behind : (place c : ℕ) (cs : List ℕ) (first : Placed Token) (next : ℕ) (rest : List ℕ) → is_space c ≡ true → BeginsToken Spells (place + len_utf8 c) cs first next rest → BeginsToken Spells place (c ∷ cs) first next rest
 begins_behind place c cs first next rest h b = record {
   gap = c ∷ b.gap;
   spelling = b.spelling;
@@ -56,7 +57,7 @@ begins_behind place c cs first next rest h b = record {
   ends = b.ends;
 }
 
-splits_behind : (place c : ℕ) (cs : List ℕ) (placed : List Placed) → is_space c ≡ true → SplitsFrom (place + len_utf8 c) cs [] placed None → SplitsFrom place (c ∷ cs) [] placed None
+splits_behind : (place c : ℕ) (cs : List ℕ) (placed : List (Placed Token)) → is_space c ≡ true → SplitsFrom Spells (place + len_utf8 c) cs [] placed None → SplitsFrom Spells place (c ∷ cs) [] placed None
 splits_behind place c cs [] h e = ends_behind place c cs h e
 splits_behind place c cs (p ∷ ps) h e = (e.0, e.1, begins_behind place c cs p e.0 e.1 h e.2, e.3)
 

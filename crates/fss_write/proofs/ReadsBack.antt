@@ -8,17 +8,19 @@ use Rattle.std.specs.Str.{all_scalars, encode_utf8_all}
 use Rattle.std.proofs.lemmas.List.{append_assoc, append-nil}
 use Rattle.owl_list.specs.Ascending.{by_order}
 use Rattle.owl_list.specs.AscendingLaws.{all_from, ascending_holds, from_map, hold_same, in_map}
-use Rattle.owl_text.specs.Iri.{IsIri}
-use Rattle.owl_text.specs.Names.{IsPrefixName}
-use Rattle.owl_text.specs.Order.{text_cmp}
-use Rattle.owl_text.specs.Tokens.{Splits, SplitsFrom, behind_mark, mark_size}
-use Rattle.owl_text.specs.declared.token.Placed.{Placed}
-use Rattle.owl_text.specs.declared.token.Sign.TheVariants as sign
-use Rattle.owl_text.specs.declared.token.Token.{Token}
-use Rattle.owl_text.specs.declared.token.Token.TheVariants as token
+use Rattle.owl_characters.specs.Iri.{IsIri}
+use Rattle.owl_characters.specs.Names.{IsPrefixName}
+use Rattle.owl_characters.specs.Order.{text_cmp}
+use Rattle.owl_lexer.specs.Splitting.{Splits, SplitsFrom}
+use Rattle.owl_tokens.specs.Tokens.{Spells}
+use Rattle.owl_characters.specs.Utf8.{behind_mark, mark_size}
+use Rattle.owl_lexer.specs.declared.placed.Placed.{Placed}
+use Rattle.owl_tokens.specs.declared.token.Sign.TheVariants as sign
+use Rattle.owl_tokens.specs.declared.token.Token.{Token}
+use Rattle.owl_tokens.specs.declared.token.Token.TheVariants as token
 use Rattle.owl_text.specs.LongestTokenLaws.{iri_longest, sign_longest}
-use Rattle.owl_text.specs.Limit.{most_bytes}
-use Rattle.owl_text.specs.Utf8Laws.{no_bytes}
+use Rattle.owl_characters.specs.Limit.{most_bytes}
+use Rattle.owl_characters.specs.Utf8Laws.{no_bytes}
 use Rattle.owl_atom.specs.declared.prefixes.Prefix.{Prefix}
 use Rattle.owl_atom.specs.Prefixes.{IsTable}
 use Rattle.owl_atom.specs.Vocabulary.{xsd}
@@ -38,11 +40,11 @@ use Rattle.owl_arena.specs.Held.{AreHeld, trees_at}
 use Rattle.owl_arena.specs.HeldLaws.{entry_at}
 use Rattle.owl_arena.specs.Shared.{AreShared, deepest}
 use Rattle.owl_doc.specs.Documents.{Document, IsDocument, ontology_of}
-use Rattle.owl_doc.specs.Functional.{IsWithinLimits, ReadsFunctional, IsWrittenAnnotation, IsWrittenAxiom, IsWrittenOntology, PrefixDeclaration, SpellsFunctional, body_terms, declaration_tokens, import_terms, iri_term, item_terms, name_terms, ontology_terms, version_terms}
-use Rattle.owl_doc.specs.Spelling.{closed, opened, spelling, spellings}
-use Rattle.owl_doc.specs.Terms.{AreTerms, tokens_of}
-use Rattle.owl_doc.specs.declared.term.Term.{Term}
-use Rattle.owl_doc.specs.declared.term.Term.TheVariants as term
+use Rattle.fss_terms.specs.Functional.{IsWithinLimits, ReadsFunctional, IsWrittenAnnotation, IsWrittenAxiom, IsWrittenOntology, PrefixDeclaration, SpellsFunctional, body_terms, declaration_tokens, import_terms, iri_term, item_terms, name_terms, ontology_terms, version_terms}
+use Rattle.fss_terms.specs.Spelling.{closed, opened, spelling, spellings}
+use Rattle.fss_terms.specs.Terms.{AreTerms, tokens_of}
+use Rattle.fss_terms.specs.declared.term.Term.{Term}
+use Rattle.fss_terms.specs.declared.term.Term.TheVariants as term
 use Rattle.fss_write.specs.Text.{declared_prefixes, full_iri, header_line, import_line, item_line, written_text, name_text, parts, prefix_line, text_of, version_text, with_prefix, written_form, written_prefixes}
 use Rattle.fss_write.proofs.DeclaredTables.{AreKnown, are_declarable, are_known, declaration, declared_table, written_iris, written_table}
 use Rattle.fss_write.proofs.Pieces.{Cuts, SaysTerms, cuts_space, cuts_token, says_close, says_line, says_none, says_opening, says_space}
@@ -253,18 +255,18 @@ unmarked name iri (p ∷ ps) rest = unmarked_by name iri p ps (text_cmp name p.n
 
 -- the text is cut into tokens that are prefixes and then the ontology, or an equivalent one
 pub record SpellsText (prefixes : List Prefix) (o : Ontology) : Type 0 where
-  pub placed : List Placed
-  pub splits : Splits (encode_utf8_all (text_of prefixes o)) placed None
+  pub placed : List (Placed Token)
+  pub splits : Splits Spells (encode_utf8_all (text_of prefixes o)) placed None
   pub spells : SpellsFunctional (declared_prefixes prefixes) o (tokens_of placed)
 
-splits_text : (cs : List ℕ) (placed : List Placed) → IsUnmarked cs → all_scalars cs ≡ true → SplitsFrom 0 cs [] placed None → Splits (encode_utf8_all cs) placed None
+splits_text : (cs : List ℕ) (placed : List (Placed Token)) → IsUnmarked cs → all_scalars cs ≡ true → SplitsFrom Spells 0 cs [] placed None → Splits Spells (encode_utf8_all cs) placed None
 splits_text cs placed unmarked scalars splits = record {
   characters = cs;
   tail = [];
   decodes = record { parts = sym (append-nil (encode_utf8_all cs)); scalars = scalars; stops = no_bytes };
   splits =
-      subst (λ (n : ℕ). SplitsFrom n (behind_mark cs) [] placed None) (sym unmarked.1)
-      (subst (λ (x : List ℕ). SplitsFrom 0 x [] placed None) (sym unmarked.0) splits);
+      subst (λ (n : ℕ). SplitsFrom Spells n (behind_mark cs) [] placed None) (sym unmarked.1)
+      (subst (λ (x : List ℕ). SplitsFrom Spells 0 x [] placed None) (sym unmarked.0) splits);
 }
 
 -- where what is written is a table of IRIs

@@ -4,7 +4,7 @@ use Rattle.std.specs.Prelude.{slice_get}
 use Rattle.std.proofs.Math.Seq.{drop-append_seam}
 use Rattle.std.specs.Str.{all_scalars, chars, encode_utf8_all}
 use Rattle.std.proofs.lemmas.Str.{chars-encodes, encodes-append}
-use Rattle.owl_text.specs.Utf8Laws.{scalars_behind}
+use Rattle.owl_characters.specs.Utf8Laws.{scalars_behind}
 use Rattle.owl_atom.specs.declared.prefixes.Prefix.{Prefix}
 use Rattle.owl_atom.specs.Prefixes.{AreAscending, Shortens}
 use Rattle.fss_write.specs.Text.{iri_text, shortened_by}

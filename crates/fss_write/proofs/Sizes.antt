@@ -8,10 +8,10 @@ use Rattle.std.specs.Str.{IsUtf8, chars, encode_utf8_all}
 use Rattle.std.proofs.lemmas.Bool.Decides.{nat_tests}
 use Rattle.std.proofs.lemmas.Str.{encodes-chars}
 use Rattle.std.specs.Cmp.{first_so, second_so}
-use Rattle.owl_text.specs.Iri.{is_ascii}
-use Rattle.owl_text.specs.Utf8.{size}
-use Rattle.owl_text.specs.Limit.{most_bytes}
-use Rattle.owl_text.specs.Utf8Laws.{size_is}
+use Rattle.owl_characters.specs.Iri.{is_ascii}
+use Rattle.owl_characters.specs.Utf8.{size}
+use Rattle.owl_characters.specs.Limit.{most_bytes}
+use Rattle.owl_characters.specs.Utf8Laws.{size_is}
 use Rattle.fss_write.specs.Parts.{IsTooLong}
 
 pub size_chars : (s : List ℕ) → IsUtf8 s → size (chars s) ≡ length s

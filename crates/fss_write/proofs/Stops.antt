@@ -4,11 +4,12 @@ use Rattle.std.specs.Prelude.{codes, ◌==◌}
 use Rattle.std.specs.Char.{is_ascii_digit}
 use Rattle.std.specs.List.{list_all}
 use Rattle.std.proofs.lemmas.Bool.{and_parts, eqb-true, not-true, or_cases, false≢true}
-use Rattle.owl_text.specs.declared.token.Token.{Token}
-use Rattle.owl_text.specs.declared.token.Token.TheVariants.{Iri, Name, Blank, Str, At, Word, Int, Sign}
-use Rattle.owl_text.specs.Iri.{is_among}
-use Rattle.owl_text.specs.Names.{is_inner, begins_with}
-use Rattle.owl_text.specs.Tokens.{IsLongest, Spells}
+use Rattle.owl_tokens.specs.declared.token.Token.{Token}
+use Rattle.owl_tokens.specs.declared.token.Token.TheVariants.{Iri, Name, Blank, Str, At, Word, Int, Dec, Sign}
+use Rattle.owl_characters.specs.Iri.{is_among}
+use Rattle.owl_characters.specs.Names.{is_inner, begins_with}
+use Rattle.owl_lexer.specs.Splitting.{IsLongest}
+use Rattle.owl_tokens.specs.Tokens.{Spells}
 use Rattle.owl_text.specs.LongestTokenLaws.{blank_longest, int_longest, iri_longest, is_behind_name, is_behind_tag, is_behind_word, name_longest, sign_longest, str_longest, tag_longest, word_longest}
 
 -- a space, a line end, a bracket or an equals sign: no token goes on there
@@ -29,7 +30,7 @@ fails_at test (stop ∷ stops) c h e =
     ]
 
 -- a token of a written text is the longest before a stop
-pub token_longest : (token : Token) (spelling rest : List ℕ) → Spells token spelling → Ends rest → IsLongest spelling rest
+pub token_longest : (token : Token) (spelling rest : List ℕ) → Spells token spelling → Ends rest → IsLongest Spells spelling rest
 token_longest token spelling [] h e = absurd (false≢true e)
 token_longest (Iri iri) spelling (c ∷ rest) h e = iri_longest iri spelling (c ∷ rest) h
 token_longest (Name prefix local) spelling (c ∷ rest) h e = name_longest prefix local spelling (c ∷ rest) h (fails_at is_behind_name (codes " \n()=") c refl e)
@@ -38,4 +39,5 @@ token_longest (Str text) spelling (c ∷ rest) h e = str_longest text spelling (
 token_longest (At tag) spelling (c ∷ rest) h e = tag_longest tag spelling (c ∷ rest) h (fails_at is_behind_tag (codes " \n()=") c refl e)
 token_longest (Word word) spelling (c ∷ rest) h e = word_longest word spelling (c ∷ rest) h (fails_at is_behind_word (codes " \n()=") c refl e)
 token_longest (Int digits) spelling (c ∷ rest) h e = int_longest digits spelling (c ∷ rest) h (fails_at is_ascii_digit (codes " \n()=") c refl e)
+token_longest (Dec number) spelling (c ∷ rest) h e = absurd h
 token_longest (Sign sign) spelling (c ∷ rest) h e = sign_longest sign spelling (c ∷ rest) h

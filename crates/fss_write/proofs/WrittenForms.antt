@@ -26,7 +26,7 @@ use Rattle.owl_tree.specs.Shape.{AreAtMostTwo, AreShaped, FitsRow, IsShaped}
 use Rattle.owl_tree.specs.ShapeLaws.{equivalent_shape}
 use Rattle.owl_tree.specs.TreeLaws.{list_of_kids_of}
 use Rattle.owl_tree.specs.Trees.{Tree, Kids, leaf, node, no_kids, kid, kids_of, list_of, tag_of}
-use Rattle.owl_doc.specs.Spelling.{HasMembers, HaveMembers, IsWritten, MeetsMinimum}
+use Rattle.fss_terms.specs.Spelling.{HasMembers, HaveMembers, IsWritten, MeetsMinimum}
 use Rattle.fss_write.specs.Text.{doubled, doubled_behind, written_form, written_forms}
 
 -- one that stands twice is arranged as one

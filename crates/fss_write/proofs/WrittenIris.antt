@@ -6,18 +6,18 @@ use Rattle.std.specs.Int.{is_in_range}
 use Rattle.std.specs.List.{AllByRecursion}
 use Rattle.std.specs.Option.{option_map}
 use Rattle.std.proofs.lemmas.Bool.{cases_Bool, eqb-true, false_from_ne_true, or_cases, or_left, or_right}
-use Rattle.owl_text.specs.Iri.{AllAre, IsIri, is_among}
-use Rattle.owl_text.specs.Names.{AreLocalPieces, IsPieceOf, IsPrefixName, SpellsLocal, ends_in_plain_dot, in_ranges, is_base, is_local_inner, is_local_start, is_part, is_start, part_ranges, piece_spelling, piece_text, plain, start_ranges}
-use Rattle.owl_text.specs.Tokens.{Spells}
-use Rattle.owl_text.specs.declared.token.Token.{Token}
-use Rattle.owl_text.specs.declared.token.Token.TheVariants as token
-use Rattle.owl_text.specs.CutLaws.{both}
+use Rattle.owl_characters.specs.Iri.{AllAre, IsIri, is_among}
+use Rattle.owl_characters.specs.Names.{AreLocalPieces, IsPieceOf, IsPrefixName, SpellsLocal, ends_in_plain_dot, in_ranges, is_base, is_local_inner, is_local_start, is_part, is_start, part_ranges, piece_spelling, piece_text, plain, start_ranges}
+use Rattle.owl_tokens.specs.Tokens.{Spells}
+use Rattle.owl_tokens.specs.declared.token.Token.{Token}
+use Rattle.owl_tokens.specs.declared.token.Token.TheVariants as token
+use Rattle.owl_characters.specs.CutLaws.{both}
 use Rattle.owl_list.specs.AscendingLaws.{all_in}
 use Rattle.owl_atom.specs.declared.prefixes.Prefix.{Prefix}
 use Rattle.owl_atom.specs.Prefixes.{IsPlainLocal, is_plain_character, is_plain_start}
 use Rattle.owl_atom.specs.PrefixLaws.{start_is_plain}
-use Rattle.owl_doc.specs.Abbreviations.{best_prefix, local_behind}
-use Rattle.owl_doc.specs.Terms.{iri_of_token}
+use Rattle.fss_terms.specs.Abbreviations.{best_prefix, local_behind}
+use Rattle.fss_terms.specs.Terms.{iri_of_token}
 use Rattle.fss_write.specs.Text.{full_iri, iri_text, shortened_by}
 use Rattle.fss_write.proofs.Abbreviated.{IsAnswer, best_answer, cuts_fact}
 use Rattle.fss_write.proofs.DeclaredTables.{AreKnown}

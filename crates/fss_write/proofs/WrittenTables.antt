@@ -9,11 +9,11 @@ use Rattle.std.specs.Str.{chars}
 use Rattle.std.proofs.lemmas.Bool.{both_ways, cases_Bool}
 use Rattle.std.proofs.lemmas.Slice.Eq.{bytes_eq-Decides}
 use Rattle.owl_list.specs.Ascending.{by_order}
-use Rattle.owl_text.specs.Iri.{IsIri, is_ascii}
-use Rattle.owl_text.specs.Names.{IsPrefixName}
-use Rattle.owl_text.specs.Order.{text_cmp, text_eq}
-use Rattle.owl_text.specs.OrderLaws.{equal, same_texts, turned}
-use Rattle.owl_text.specs.AsciiLaws.{ascii_chars}
+use Rattle.owl_characters.specs.Iri.{IsIri, is_ascii}
+use Rattle.owl_characters.specs.Names.{IsPrefixName}
+use Rattle.owl_characters.specs.Order.{text_cmp, text_eq}
+use Rattle.owl_characters.specs.OrderLaws.{equal, same_texts, turned}
+use Rattle.owl_characters.specs.AsciiLaws.{ascii_chars}
 use Rattle.owl_atom.specs.declared.prefixes.Prefix.{Prefix}
 use Rattle.owl_atom.specs.Places.{IsGapFor, IsPlaceOf}
 use Rattle.owl_atom.specs.Prefixes.{AreAscending, IsTable, is_declared, is_fixed, prefix_in}

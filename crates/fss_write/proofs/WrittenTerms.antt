@@ -8,12 +8,12 @@ use Rattle.std.proofs.lemmas.Bool.{and_from, and_parts, le-leb, not-true}
 use Rattle.std.proofs.lemmas.Fmt.{decimal_by_steps, decimal_is_IsNumeral}
 use Rattle.std.proofs.lemmas.List.{append_assoc, append-nil}
 use Rattle.std.proofs.lemmas.Slice.Eq.{bytes_eq-Decides}
-use Rattle.owl_text.specs.Iri.{IsIri}
-use Rattle.owl_text.specs.Names.{IsNameFrom, IsRunOf, ends_in_dot, is_inner, is_start, begins_with}
-use Rattle.owl_text.specs.Order.{text_eq}
-use Rattle.owl_text.specs.declared.token.Sign.TheVariants as sign
-use Rattle.owl_text.specs.declared.token.Token.TheVariants as token
-use Rattle.owl_text.specs.AllAreLaws.{AllAre-append, all_are}
+use Rattle.owl_characters.specs.Iri.{IsIri}
+use Rattle.owl_characters.specs.Names.{IsNameFrom, IsRunOf, ends_in_dot, is_inner, is_start, begins_with}
+use Rattle.owl_characters.specs.Order.{text_eq}
+use Rattle.owl_tokens.specs.declared.token.Sign.TheVariants as sign
+use Rattle.owl_tokens.specs.declared.token.Token.TheVariants as token
+use Rattle.owl_characters.specs.AllAreLaws.{AllAre-append, all_are}
 use Rattle.owl_text.specs.LongestTokenLaws.{sign_longest, str_longest}
 use Rattle.owl_atom.specs.declared.prefixes.Prefix.{Prefix}
 use Rattle.owl_atom.specs.Literals.{FitsTag, IsLiteral, LiteralParts, of_datatype, string, with_tag}
@@ -26,10 +26,10 @@ use Rattle.owl_tree.specs.Rows.{is_tag, is_bare, is_group}
 use Rattle.owl_tree.specs.Shape.{AreShaped, IsShaped}
 use Rattle.owl_tree.specs.Tags.{keyword_of}
 use Rattle.owl_tree.specs.Trees.{Tree, Kids, leaf, node, no_kids, kid}
-use Rattle.owl_doc.specs.Spelling.{spelling, spellings}
-use Rattle.owl_doc.specs.Terms.{AreTerms, plain, tagged, typed}
-use Rattle.owl_doc.specs.declared.term.Term.{Term}
-use Rattle.owl_doc.specs.declared.term.Term.TheVariants as term
+use Rattle.fss_terms.specs.Spelling.{spelling, spellings}
+use Rattle.fss_terms.specs.Terms.{AreTerms, plain, tagged, typed}
+use Rattle.fss_terms.specs.declared.term.Term.{Term}
+use Rattle.fss_terms.specs.declared.term.Term.TheVariants as term
 use Rattle.fss_write.specs.Text.{atom_text, bracketed, iri_text, joined, literal_end, literal_text, parts, parts_of, string_text}
 use Rattle.fss_write.proofs.DeclaredTables.{AreKnown}
 use Rattle.fss_write.proofs.Pieces.{Cuts, SaysTerms, cuts_token, says_close, says_open, says_opening, says_space}

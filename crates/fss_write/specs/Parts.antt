@@ -1,9 +1,9 @@
 -- How a text grows part by part.
 use Rattle.std.specs.Prelude.{◌<◌, ℕ, zero, suc, Bool, true, false, nat_le, if◌then◌else◌, List, [], ◌∷◌, ◌++◌, length, codes, flat_map, Option, None, Some}
 use Rattle.std.specs.List.{AllByRecursion}
-use Rattle.owl_text.specs.Iri.{IsIri}
-use Rattle.owl_text.specs.Utf8.{size}
-use Rattle.owl_text.specs.Limit.{most_bytes}
+use Rattle.owl_characters.specs.Iri.{IsIri}
+use Rattle.owl_characters.specs.Utf8.{size}
+use Rattle.owl_characters.specs.Limit.{most_bytes}
 use Rattle.owl_atom.specs.declared.prefixes.Prefix.{Prefix}
 use Rattle.owl_arena.specs.Held.{tree_at}
 use Rattle.owl_tree.specs.declared.tag.Tag.{Tag}

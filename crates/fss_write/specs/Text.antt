@@ -2,8 +2,8 @@
 -- Specification, section 3.7).
 use Rattle.std.specs.Prelude.{ℕ, zero, suc, true, false, nat_le, if◌then◌else◌, List, [], ◌∷◌, ◌++◌, length, map, codes, flat_map, Option, None, Some}
 use Rattle.std.specs.Fmt.{decimal}
-use Rattle.owl_text.specs.Order.{text_cmp, text_eq}
-use Rattle.owl_text.specs.Tokens.{character_spelling}
+use Rattle.owl_characters.specs.Order.{text_cmp, text_eq}
+use Rattle.owl_tokens.specs.Tokens.{character_spelling}
 use Rattle.owl_list.specs.Ascending.{by_order}
 use Rattle.owl_atom.specs.declared.prefixes.Prefix.{Prefix}
 use Rattle.owl_atom.specs.Literals.{LiteralParts, string}
@@ -18,7 +18,7 @@ use Rattle.owl_tree.specs.Ontologies.{Ontology, OntologyName}
 use Rattle.owl_tree.specs.Rows.{Row, Leaf, Node, is_tag, row_of, is_bare, is_group}
 use Rattle.owl_tree.specs.Tags.{keyword_of}
 use Rattle.owl_tree.specs.Trees.{Tree, Kids, leaf, node, no_kids, kid, kids_of, tag_of}
-use Rattle.owl_doc.specs.Abbreviations.{best_prefix, local_behind}
+use Rattle.fss_terms.specs.Abbreviations.{best_prefix, local_behind}
 
 -- The table with this IRI for the name: in place of the one that the name has, or where the name belongs by its bytes.
 abbrev pub with_prefix : List ℕ → List ℕ → List Prefix → List Prefix

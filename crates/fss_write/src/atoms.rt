@@ -5,8 +5,8 @@ ghost use Rattle.std.specs.Str.{IsCharBoundary, chars, encode_utf8_all};
 ghost use Rattle.owl_atom.specs.Prefixes.{Shortens};
 ghost use Rattle.std.specs.Fmt.{decimal};
 ghost use Rattle.owl_atom.specs.Literals.{string};
-ghost use Rattle.owl_text.specs.Order.{text_eq};
-ghost use Rattle.owl_text.specs.Tokens.{character_spelling};
+ghost use Rattle.owl_characters.specs.Order.{text_eq};
+ghost use Rattle.owl_tokens.specs.Tokens.{character_spelling};
 ghost use Rattle.fss_write.specs.Parts.{IsTooLong};
 ghost use Rattle.fss_write.specs.Text.{atom_text, full_iri, iri_text, literal_end, literal_text, string_text};
 ghost use Rattle.fss_write.specs.declared.fault.WriteFault.{WriteFault};
@@ -21,7 +21,7 @@ const STRING: &str = "http://www.w3.org/2001/XMLSchema#string";
 
 impl Draft {
     /// Adds an IRI in full, between `<` and `>`.
-    #[tactic(auto, using(owl_text::specs::Utf8Laws::size_append))]
+    #[tactic(auto, using(owl_characters::specs::Utf8Laws::size_append))]
     pub fn add_full_iri(&mut self, iri: &Iri) -> Result<(), WriteFault>
         ensures ok { OnOk result (self.new ≡ self.old ++ full_iri iri.now) }
         ensures too_long { IsErrOf result WriteFault.TooLong → IsTooLong (self.old ++ full_iri iri.now) }
@@ -45,7 +45,7 @@ impl Draft {
     }
 
     /// Adds an IRI by the prefix at this place, with the local part that begins at this byte.
-    #[tactic(auto, using(owl_text::specs::Utf8Laws::size_append))]
+    #[tactic(auto, using(owl_characters::specs::Utf8Laws::size_append))]
     fn add_short_iri(
         &mut self,
         prefixes: &Prefixes,
@@ -64,7 +64,7 @@ impl Draft {
     }
 
     /// Adds an abbreviated IRI.
-    #[tactic(auto, using(owl_text::specs::Utf8Laws::size_append))]
+    #[tactic(auto, using(owl_characters::specs::Utf8Laws::size_append))]
     fn add_name(&mut self, prefix: &str, local: &str) -> Result<(), WriteFault>
         ensures ok { OnOk result (self.new ≡ self.old ++ (chars prefix.now ++ (codes ":" ++ chars local.now))) }
         ensures too_long { IsErrOf result WriteFault.TooLong → IsTooLong (self.old ++ (chars prefix.now ++ (codes ":" ++ chars local.now))) }
@@ -75,7 +75,7 @@ impl Draft {
     }
 
     /// Adds a string with its quotes and escapes.
-    #[tactic(auto, using(owl_text::specs::Utf8Laws::size_append))]
+    #[tactic(auto, using(owl_characters::specs::Utf8Laws::size_append))]
     fn add_string(&mut self, form: &str) -> Result<(), WriteFault>
         ensures ok { OnOk result (self.new ≡ self.old ++ string_text (chars form.now)) }
         ensures too_long { IsErrOf result WriteFault.TooLong → IsTooLong (self.old ++ string_text (chars form.now)) }
@@ -86,7 +86,7 @@ impl Draft {
     }
 
     /// Adds a literal: a string alone, with its language tag, or with its datatype.
-    #[tactic(auto, using(owl_text::specs::Utf8Laws::size_append))]
+    #[tactic(auto, using(owl_characters::specs::Utf8Laws::size_append))]
     fn add_literal(&mut self, prefixes: &Prefixes, literal: &Literal) -> Result<(), WriteFault>
         ensures ok { OnOk result (self.new ≡ self.old ++ literal_text prefixes.now literal.now) }
         ensures too_long { IsErrOf result WriteFault.TooLong → IsTooLong (self.old ++ literal_text prefixes.now literal.now) }
@@ -98,7 +98,7 @@ impl Draft {
         }
     }
 
-    #[tactic(auto, using(owl_text::specs::Utf8Laws::size_append))]
+    #[tactic(auto, using(owl_characters::specs::Utf8Laws::size_append))]
     fn add_tag(&mut self, tag: &str) -> Result<(), WriteFault>
         ensures ok { OnOk result (self.new ≡ self.old ++ (codes "@" ++ chars tag.now)) }
         ensures too_long { IsErrOf result WriteFault.TooLong → IsTooLong (self.old ++ (codes "@" ++ chars tag.now)) }
@@ -108,7 +108,7 @@ impl Draft {
     }
 
     /// Adds the datatype of a literal without a tag, unless it is xsd:string.
-    #[tactic(auto, using(owl_text::specs::Utf8Laws::size_append))]
+    #[tactic(auto, using(owl_characters::specs::Utf8Laws::size_append))]
     fn add_datatype(&mut self, prefixes: &Prefixes, datatype: &Iri) -> Result<(), WriteFault>
         ensures ok { OnOk result (self.new ≡ self.old ++ literal_end prefixes.now datatype.now None) }
         ensures too_long { IsErrOf result WriteFault.TooLong → IsTooLong (self.old ++ literal_end prefixes.now datatype.now None) }
@@ -128,7 +128,7 @@ impl Draft {
         self.add_ascii(digits.as_str())
     }
 
-    #[tactic(auto, using(owl_text::specs::Utf8Laws::size_append))]
+    #[tactic(auto, using(owl_characters::specs::Utf8Laws::size_append))]
     fn add_label(&mut self, label: &str) -> Result<(), WriteFault>
         ensures ok { OnOk result (self.new ≡ self.old ++ (codes "_:" ++ chars label.now)) }
         ensures too_long { IsErrOf result WriteFault.TooLong → IsTooLong (self.old ++ (codes "_:" ++ chars label.now)) }
@@ -151,7 +151,7 @@ impl Draft {
     }
 
     /// Adds the characters of a string, with a backslash before a quote or a backslash.
-    #[tactic(auto, using(owl_text::specs::Utf8Laws::size_append))]
+    #[tactic(auto, using(owl_characters::specs::Utf8Laws::size_append))]
     fn add_escaped(&mut self, form: &str) -> Result<(), WriteFault>
         ensures ok { OnOk result (self.new ≡ self.old ++ flat_map character_spelling (chars form.now)) }
         ensures too_long { IsErrOf result WriteFault.TooLong → IsTooLong (self.old ++ flat_map character_spelling (chars form.now)) }
@@ -162,7 +162,7 @@ impl Draft {
         Ok(())
     }
 
-    #[tactic(auto, using(owl_text::specs::Utf8Laws::size_append))]
+    #[tactic(auto, using(owl_characters::specs::Utf8Laws::size_append))]
     fn add_character(&mut self, c: char) -> Result<(), WriteFault>
         ensures ok { OnOk result (self.new ≡ self.old ++ character_spelling c) }
         ensures too_long { IsErrOf result WriteFault.TooLong → IsTooLong (self.old ++ character_spelling c) }

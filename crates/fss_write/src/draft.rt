@@ -3,14 +3,14 @@
 ghost use Rattle.std.specs.Prelude.{◌≡◌, ◌↔◌, ◌+◌, ◌≤◌, ◌++◌, ◌∷◌, [], IsTrue, IsErrOf, OnOk};
 ghost use Rattle.std.specs.List.{list_all};
 ghost use Rattle.std.specs.Str.{chars};
-ghost use Rattle.owl_text.specs.Iri.{is_ascii};
-ghost use Rattle.owl_text.specs.Utf8.{size};
-ghost use Rattle.owl_text.specs.Limit.{most_bytes};
+ghost use Rattle.owl_characters.specs.Iri.{is_ascii};
+ghost use Rattle.owl_characters.specs.Utf8.{size};
+ghost use Rattle.owl_characters.specs.Limit.{most_bytes};
 ghost use Rattle.fss_write.specs.Parts.{IsTooLong};
 ghost use Rattle.fss_write.specs.declared.fault.WriteFault.{WriteFault};
 
 use crate::fault::WriteFault;
-use owl_text::{MOST_BYTES, Text};
+use owl_characters::{MOST_BYTES, Text};
 use std::alloc::Global;
 use std::marker::Model;
 
@@ -25,8 +25,8 @@ pub struct Draft {
 
 impl Model for Draft {
     ghost use Rattle.std.specs.Prelude.{List, ℕ, ◌≤◌};
-    ghost use Rattle.owl_text.specs.Utf8.{size as byte_size};
-    ghost use Rattle.owl_text.specs.Limit.{most_bytes};
+    ghost use Rattle.owl_characters.specs.Utf8.{size as byte_size};
+    ghost use Rattle.owl_characters.specs.Limit.{most_bytes};
 
     ghost Value = { List ℕ };
 
@@ -52,7 +52,7 @@ impl Draft {
     }
 
     /// Whether so many bytes more are within the limit.
-    #[tactic(auto, using(owl_text::specs::Utf8Laws::size_is))]
+    #[tactic(auto, using(owl_characters::specs::Utf8Laws::size_is))]
     fn has_room(&self, bytes: usize) -> bool
         ensures { IsTrue result ↔ (size self.now + bytes ≤ most_bytes) }
     {
@@ -81,7 +81,7 @@ impl Draft {
     }
 
     /// Adds a character.
-    #[tactic(auto, using(owl_text::specs::Utf8Laws::size_append))]
+    #[tactic(auto, using(owl_characters::specs::Utf8Laws::size_append))]
     pub fn push(&mut self, c: char) -> Result<(), WriteFault>
         ensures ok { OnOk result (self.new ≡ self.old ++ c ∷ []) }
         ensures too_long { IsErrOf result WriteFault.TooLong → IsTooLong (self.old ++ c ∷ []) }

@@ -1,10 +1,10 @@
 //! Why a text was not made.
 
 ghost use Rattle.std.specs.Prelude.{◌≡◌};
-ghost use Rattle.owl_text.specs.declared.text.NoMemory.{NoMemory};
+ghost use Rattle.owl_characters.specs.declared.text.NoMemory.{NoMemory};
 ghost use Rattle.fss_write.specs.declared.fault.WriteFault.TheVariants.{Memory};
 
-use owl_text::NoMemory;
+use owl_characters::NoMemory;
 use std::alloc::AllocError;
 use thiserror::Error;
 

@@ -3,8 +3,8 @@
 ghost use Rattle.std.specs.Prelude.{◌≡◌, ◌<◌, ◌++◌, codes, flat_map, length, IfOk, IsErrOf, OnOk};
 ghost use Rattle.std.specs.Str.{chars};
 ghost use Rattle.owl_arena.specs.Held.{AreHeld, tree_at, trees_at};
-ghost use Rattle.owl_text.specs.Iri.{IsIri};
-ghost use Rattle.owl_text.specs.Names.{IsPrefixName};
+ghost use Rattle.owl_characters.specs.Iri.{IsIri};
+ghost use Rattle.owl_characters.specs.Names.{IsPrefixName};
 ghost use Rattle.owl_doc.specs.Documents.{ontology_of};
 ghost use Rattle.owl_doc.specs.Heads.{StandsBeside, head_of, name_of};
 ghost use Rattle.fss_write.specs.Parts.{HaveIris, IsTooLong};
@@ -15,8 +15,8 @@ use crate::draft::Draft;
 use crate::fault::WriteFault;
 use owl_arena::{Arena, ExprId};
 use owl_atom::{Iri, Prefixes};
+use owl_characters::NoMemory;
 use owl_doc::{Doc, Head};
-use owl_text::NoMemory;
 use std::alloc::Global;
 
 /// The prefixes that are written: those of a document, where `owl`, `rdf`, `rdfs` and `xsd` stand for their own IRIs.
@@ -48,7 +48,7 @@ fn set_iri(prefixes: &mut Prefixes, name: &str, iri: Iri) -> Result<(), NoMemory
 
 impl Draft {
     /// Adds the lines of a document, of which the names are abbreviated by these prefixes.
-    #[tactic(auto, using(owl_text::specs::Utf8Laws::size_append))]
+    #[tactic(auto, using(owl_characters::specs::Utf8Laws::size_append))]
     pub fn add_document(&mut self, prefixes: &Prefixes, doc: &Doc) -> Result<(), WriteFault>
         ensures ok { OnOk result (self.new ≡ self.old ++ lines_of prefixes.now (ontology_of doc.now)) }
         ensures too_long { IsErrOf result WriteFault.TooLong → IsTooLong (self.old ++ lines_of prefixes.now (ontology_of doc.now)) }
@@ -75,7 +75,7 @@ impl Draft {
         Ok(())
     }
 
-    #[tactic(auto, using(owl_text::specs::Utf8Laws::size_append))]
+    #[tactic(auto, using(owl_characters::specs::Utf8Laws::size_append))]
     fn add_prefix(&mut self, name: &str, iri: &Iri) -> Result<(), WriteFault>
         ensures ok { OnOk result (self.new ≡ self.old ++ (codes "Prefix(" ++ (chars name.now ++ (codes ":=" ++ (full_iri iri.now ++ codes ")\n"))))) }
         ensures too_long { IsErrOf result WriteFault.TooLong → IsTooLong (self.old ++ (codes "Prefix(" ++ (chars name.now ++ (codes ":=" ++ (full_iri iri.now ++ codes ")\n"))))) }
@@ -91,7 +91,7 @@ impl Draft {
     }
 
     /// Adds the line with the name of the ontology.
-    #[tactic(auto, using(owl_text::specs::Utf8Laws::size_append))]
+    #[tactic(auto, using(owl_characters::specs::Utf8Laws::size_append))]
     fn add_header(&mut self, head: &Head) -> Result<(), WriteFault>
         ensures ok { OnOk result (self.new ≡ self.old ++ header_line (head_of head.now).name) }
         ensures too_long { IsErrOf result WriteFault.TooLong → IsTooLong (self.old ++ header_line (head_of head.now).name) }
@@ -104,7 +104,7 @@ impl Draft {
         self.add_ascii("\n")
     }
 
-    #[tactic(auto, using(owl_text::specs::Utf8Laws::size_append))]
+    #[tactic(auto, using(owl_characters::specs::Utf8Laws::size_append))]
     fn add_version(&mut self, version: &Option<Iri>) -> Result<(), WriteFault>
         ensures ok { OnOk result (self.new ≡ self.old ++ version_text version.now) }
         ensures too_long { IsErrOf result WriteFault.TooLong → IsTooLong (self.old ++ version_text version.now) }
@@ -129,7 +129,7 @@ impl Draft {
         Ok(())
     }
 
-    #[tactic(auto, using(owl_text::specs::Utf8Laws::size_append))]
+    #[tactic(auto, using(owl_characters::specs::Utf8Laws::size_append))]
     fn add_import(&mut self, iri: &Iri) -> Result<(), WriteFault>
         ensures ok { OnOk result (self.new ≡ self.old ++ import_line iri.now) }
         ensures too_long { IsErrOf result WriteFault.TooLong → IsTooLong (self.old ++ import_line iri.now) }
@@ -156,7 +156,7 @@ impl Draft {
         Ok(())
     }
 
-    #[tactic(auto, using(owl_text::specs::Utf8Laws::size_append))]
+    #[tactic(auto, using(owl_characters::specs::Utf8Laws::size_append))]
     fn add_line(&mut self, arena: &Arena, prefixes: &Prefixes, id: ExprId) -> Result<(), WriteFault>
         requires { id < length arena.now.trees }
         ensures ok { OnOk result (self.new ≡ self.old ++ item_line prefixes.now (tree_at arena.now.trees id)) }

@@ -58,7 +58,7 @@ impl Draft {
     }
 
     /// Adds a leaf that stands in a node with the tag `within`.
-    #[tactic(auto, using(owl_text::specs::Utf8Laws::size_append))]
+    #[tactic(auto, using(owl_characters::specs::Utf8Laws::size_append))]
     fn add_leaf(
         &mut self,
         prefixes: &Prefixes,
@@ -77,7 +77,7 @@ impl Draft {
     }
 
     /// Adds an entity of a declaration, in the brackets of its keyword.
-    #[tactic(auto, using(owl_text::specs::Utf8Laws::size_append))]
+    #[tactic(auto, using(owl_characters::specs::Utf8Laws::size_append))]
     fn add_entity(&mut self, prefixes: &Prefixes, tag: Tag, atom: &Atom) -> Result<(), WriteFault>
         ensures ok { OnOk result (self.new ≡ self.old ++ bracketed (keyword_of tag) (atom_text prefixes.now atom.now)) }
         ensures too_long { IsErrOf result WriteFault.TooLong → IsTooLong (self.old ++ bracketed (keyword_of tag) (atom_text prefixes.now atom.now)) }
@@ -104,7 +104,7 @@ impl Draft {
     }
 
     /// Adds what stands before the kids of a node.
-    #[tactic(auto, using(owl_text::specs::Utf8Laws::size_append))]
+    #[tactic(auto, using(owl_characters::specs::Utf8Laws::size_append))]
     fn open_node(&mut self, tag: Tag) -> Result<(), WriteFault>
         ensures ok { OnOk result (self.new ≡ self.old ++ (node_name tag ++ codes "(")) }
         ensures too_long { IsErrOf result WriteFault.TooLong → IsTooLong (self.old ++ (node_name tag ++ codes "(")) }
@@ -116,7 +116,7 @@ impl Draft {
     /// Adds the parts of a tree that stands in a node with the tag `within`, behind some part or behind none, and tells
     /// whether some part stands there now.
     #[cycle(tree)]
-    #[tactic(auto, using(owl_text::specs::Utf8Laws::size_append))]
+    #[tactic(auto, using(owl_characters::specs::Utf8Laws::size_append))]
     fn add_parts(
         &mut self,
         arena: &Arena,
@@ -143,7 +143,7 @@ impl Draft {
 
     /// The same of a node.
     #[cycle(tree)]
-    #[tactic(auto, using(owl_text::specs::Utf8Laws::size_append))]
+    #[tactic(auto, using(owl_characters::specs::Utf8Laws::size_append))]
     fn add_node_parts(
         &mut self,
         arena: &Arena,
@@ -166,7 +166,7 @@ impl Draft {
 
     /// Adds a node with its brackets.
     #[cycle(tree)]
-    #[tactic(auto, using(owl_text::specs::Utf8Laws::size_append))]
+    #[tactic(auto, using(owl_characters::specs::Utf8Laws::size_append))]
     fn add_node(&mut self, arena: &Arena, prefixes: &Prefixes, id: ExprId) -> Result<(), WriteFault>
         requires { id < length arena.now.trees }
         ensures ok { OnOk result (self.new ≡ self.old ++ node_text_at prefixes.now arena.now.trees id) }

@@ -2,10 +2,10 @@
 
 ghost use Rattle.std.specs.Prelude.{◌≡◌, ◌<◌, ◌≤◌, length, IfOk, IsErrOf};
 ghost use Rattle.std.specs.Str.{encode_utf8_all};
-ghost use Rattle.owl_text.specs.Limit.{most_bytes};
+ghost use Rattle.owl_characters.specs.Limit.{most_bytes};
 ghost use Rattle.owl_arena.specs.Held.{tree_at};
 ghost use Rattle.owl_doc.specs.Documents.{ontology_of};
-ghost use Rattle.owl_doc.specs.Functional.{ReadsFunctional};
+ghost use Rattle.fss_terms.specs.Functional.{ReadsFunctional};
 ghost use Rattle.fss_write.specs.Text.{axiom_text, declared_prefixes, text_of};
 ghost use Rattle.fss_write.specs.declared.fault.WriteFault.{WriteFault};
 
@@ -14,8 +14,8 @@ use crate::fault::WriteFault;
 use crate::lines::written_prefixes;
 use owl_arena::ExprId;
 use owl_atom::Prefixes;
+use owl_characters::Text;
 use owl_doc::Doc;
-use owl_text::Text;
 use std::alloc::Global;
 
 /// The text of the document in Functional-Style Syntax (Structural Specification, section 3.7). It reads back to the

@@ -16,7 +16,7 @@ use crate::expr_id::ExprId;
 use crate::grow::Grow;
 use crate::nodes::{Form, Node};
 use crate::table::Table;
-use owl_text::NoMemory;
+use owl_characters::NoMemory;
 use owl_tree::{Atom, Tag};
 use std::alloc::Global;
 use std::marker::Model;

@@ -3,7 +3,7 @@
 ghost use Rattle.std.specs.Prelude.{◌≡◌};
 ghost use Rattle.owl_arena.specs.declared.grow.Grow.TheVariants.{Memory};
 
-use owl_text::NoMemory;
+use owl_characters::NoMemory;
 use thiserror::Error;
 
 /// Why an arena does not hold a tree.

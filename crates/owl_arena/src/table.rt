@@ -8,7 +8,7 @@ ghost use Rattle.owl_arena.specs.Nodes.{Differs, HasForm};
 ghost use Rattle.owl_arena.specs.Shared.{most_trees};
 
 use crate::nodes::{Form, Node};
-use owl_text::NoMemory;
+use owl_characters::NoMemory;
 use std::alloc::Global;
 
 /// Nodes by place, with a chain of places for each bucket, by which a node is

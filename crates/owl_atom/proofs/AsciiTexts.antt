@@ -5,8 +5,8 @@ use Rattle.std.specs.Str.{IsUtf8, all_scalars, bytes_eq, chars, encode_utf8_all}
 use denote.Ref.{Bor}
 use Rattle.std.proofs.lemmas.Slice.Eq.{bytes_eq-Decides}
 use Rattle.std.proofs.lemmas.Str.{encodes-chars}
-use Rattle.owl_text.specs.Iri.{is_ascii}
-use Rattle.owl_text.specs.AsciiLaws.{from_bytes, front_is}
+use Rattle.owl_characters.specs.Iri.{is_ascii}
+use Rattle.owl_characters.specs.AsciiLaws.{from_bytes, front_is}
 use Rattle.owl_atom.specs.Datatypes.{has}
 use Rattle.owl_atom.specs.Tables.{begins_with_name, is_name, are_ascii, shown}
 use Rattle.owl_atom.specs.TableLaws.{any_same, is_name-ascii}

@@ -7,7 +7,7 @@ use Rattle.std.specs.Str.Pattern.{HasCharAt}
 use Rattle.std.proofs.lemmas.Bool.{both_ways, eqb-true, not_from_false}
 use Rattle.std.proofs.lemmas.Str.{chars-append, chars-nil, chars_past_char, encodes-chars, encodes_same, IsCharBoundary-before_ascii, IsUtf8-take, IsUtf8-drop}
 use Rattle.std.proofs.lemmas.Str.Pattern.{drop_at_char}
-use Rattle.owl_text.specs.Iri.{AllAre}
+use Rattle.owl_characters.specs.Iri.{AllAre}
 
 -- no character passes the test
 abbrev pub NoneAre : (ℕ → Bool) → List ℕ → Type 0

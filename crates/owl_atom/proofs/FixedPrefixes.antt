@@ -7,11 +7,11 @@ use Rattle.std.proofs.lemmas.Bool.{false≢true}
 use Rattle.std.proofs.lemmas.Option.{same_Some}
 use Rattle.std.proofs.lemmas.Slice.Eq.{bytes_eq-Decides}
 use Rattle.std.proofs.lemmas.Str.{encodes-chars}
-use Rattle.owl_text.specs.Iri.{is_ascii}
-use Rattle.owl_text.specs.Order.{text_eq}
-use Rattle.owl_text.specs.OrderLaws.{unequal}
-use Rattle.owl_text.specs.AsciiLaws.{ascii_chars, ascii_bytes}
-use Rattle.owl_text.specs.NameLaws.{written_name}
+use Rattle.owl_characters.specs.Iri.{is_ascii}
+use Rattle.owl_characters.specs.Order.{text_eq}
+use Rattle.owl_characters.specs.OrderLaws.{unequal}
+use Rattle.owl_characters.specs.AsciiLaws.{ascii_chars, ascii_bytes}
+use Rattle.owl_characters.specs.NameLaws.{written_name}
 use Rattle.owl_atom.specs.Prefixes.{AreAscending, IsTable, iri_of, fixed, fixed_prefixes}
 use Rattle.owl_atom.specs.Vocabulary.{owl, rdf, rdfs, xsd}
 use Rattle.owl_atom.specs.declared.prefixes.Prefix.{Prefix}

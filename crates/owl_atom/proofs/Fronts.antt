@@ -10,8 +10,8 @@ use Rattle.std.proofs.lemmas.Cmp.{tied_itself}
 use Rattle.std.proofs.lemmas.Map.Keys.{Less-from_sorted}
 use Rattle.std.proofs.lemmas.Option.{get_or_from_slice_get, slice_get-get_or, slice_get_within}
 use Rattle.std.proofs.lemmas.Bool.{ltb-false, true≢false}
-use Rattle.owl_text.specs.Order.{text_cmp}
-use Rattle.owl_text.specs.OrderLaws.{same_texts, texts_total}
+use Rattle.owl_characters.specs.Order.{text_cmp}
+use Rattle.owl_characters.specs.OrderLaws.{same_texts, texts_total}
 use Rattle.owl_atom.specs.declared.by_iri.Front.{Front}
 use Rattle.owl_atom.specs.ByIri.{IsFirst, front_cmp}
 

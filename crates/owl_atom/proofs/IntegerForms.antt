@@ -14,7 +14,7 @@ use Rattle.std.proofs.lemmas.Fmt.{IsAscii-from_digits}
 use Rattle.std.proofs.lemmas.Int.{ints, to_z-of_z}
 use Rattle.std.proofs.lemmas.Str.{encodes-chars, encodes-IsAscii}
 use Rattle.std.proofs.lemmas.Str.Ascii.{IsAscii-cons}
-use Rattle.owl_text.specs.Names.{IsRunOf}
+use Rattle.owl_characters.specs.Names.{IsRunOf}
 use Rattle.owl_atom.proofs.LexicalForms.{Signs, minus, plus, bare, run_numeral, signs}
 
 -- a run of digits behind a sign is ASCII: its bytes are its characters

@@ -6,8 +6,8 @@ use Rattle.std.specs.Str.{encode_utf8_all}
 use Rattle.std.proofs.lemmas.List.{get_or-map, length-map}
 use Rattle.std.proofs.lemmas.List.Elements.{All-contains, Contains-get_or}
 use Rattle.std.proofs.lemmas.List.Sums.{AllPass-from_list_all}
-use Rattle.owl_text.specs.Iri.{is_ascii}
-use Rattle.owl_text.specs.AsciiLaws.{from_bytes, from_characters}
+use Rattle.owl_characters.specs.Iri.{is_ascii}
+use Rattle.owl_characters.specs.AsciiLaws.{from_bytes, from_characters}
 use Rattle.owl_atom.specs.declared.lexical.IntegerRow.{IntegerRow as RowOfName}
 use Rattle.owl_atom.specs.Datatypes.{IntegerRow, IsIntegerForm}
 use Rattle.owl_atom.specs.Tables.{FitsRows, range}

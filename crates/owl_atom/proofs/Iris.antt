@@ -5,10 +5,10 @@ use Rattle.std.specs.Str.{IsUtf8, chars}
 use denote.Ref.{Bor}
 use Rattle.std.proofs.lemmas.Bool.{false_from_ne_true, eqb-true, not_from_false, both_ways}
 use Rattle.std.proofs.lemmas.Str.Pattern.{IsSplitOnceResult}
-use Rattle.owl_text.specs.Iri.{AllAre, IsIri, IsScheme, is_iri_character, is_scheme_character}
-use Rattle.owl_text.specs.IriLaws.{scheme_characters}
-use Rattle.owl_text.specs.AllAreLaws.{AllAre-weaker}
-use Rattle.owl_text.specs.CutLaws.{found, same_cut}
+use Rattle.owl_characters.specs.Iri.{AllAre, IsIri, IsScheme, is_iri_character, is_scheme_character}
+use Rattle.owl_characters.specs.IriLaws.{scheme_characters}
+use Rattle.owl_characters.specs.AllAreLaws.{AllAre-weaker}
+use Rattle.owl_characters.specs.CutLaws.{found, same_cut}
 use Rattle.owl_atom.proofs.Characters.{NoneAre, cut_at, front_utf8, none_of}
 
 -- a character that passes a test is not one that fails it

@@ -8,8 +8,8 @@ use Rattle.std.specs.Str.Pattern.{FindsCharSuffix, HasSuffixMatch}
 use Rattle.std.proofs.lemmas.Bool.{eqb-true, or_cases, false≢true, false_from_ne_true}
 use Rattle.std.proofs.lemmas.List.{append-nil, drop_all}
 use Rattle.std.proofs.lemmas.Str.{chars-nil, chars_past_char, encodes-append, encodes-chars}
-use Rattle.owl_text.specs.Iri.{is_among}
-use Rattle.owl_text.specs.Names.{ends_in_dot, begins_with}
+use Rattle.owl_characters.specs.Iri.{is_among}
+use Rattle.owl_characters.specs.Names.{ends_in_dot, begins_with}
 use Rattle.owl_atom.proofs.Characters.{cut_at}
 
 dot_behind : (front : List ℕ) → ends_in_dot (front ++ codes ".") ≡ true

@@ -10,11 +10,11 @@ use Rattle.std.proofs.lemmas.Bool.{and_parts, and_from, cases_Bool, eqb-true, fa
 use Rattle.std.proofs.lemmas.List.Splits.{slice_split-cons_no, slice_split-cons_yes, slice_split_first}
 use Rattle.std.proofs.lemmas.Str.Pattern.{IsSplitOnceResult, split_once_first, split_parts}
 use Rattle.std.proofs.lemmas.Str.{chars-IsAscii, encodes-IsAscii, encodes-chars}
-use Rattle.owl_text.specs.Iri.{AllAre, is_ascii}
-use Rattle.owl_text.specs.Names.{AreSubtags, IsLanguageTag, IsRunOf, is_hyphen}
-use Rattle.owl_text.specs.AllAreLaws.{AllAre-weaker, all_are}
-use Rattle.owl_text.specs.LanguageTagLaws.{alphabetic_is_alphanumeric}
-use Rattle.owl_text.specs.AsciiLaws.{ascii_text}
+use Rattle.owl_characters.specs.Iri.{AllAre, is_ascii}
+use Rattle.owl_characters.specs.Names.{AreSubtags, IsLanguageTag, IsRunOf, is_hyphen}
+use Rattle.owl_characters.specs.AllAreLaws.{AllAre-weaker, all_are}
+use Rattle.owl_characters.specs.LanguageTagLaws.{alphabetic_is_alphanumeric}
+use Rattle.owl_characters.specs.AsciiLaws.{ascii_text}
 use Rattle.owl_atom.specs.Characters.{is_run_of}
 
 -- a run that is not empty

@@ -11,9 +11,9 @@ use Rattle.std.proofs.lemmas.Bool.{eqb-true, false_from_ne_true, not-true}
 use Rattle.std.proofs.lemmas.Bool.Decides.{nat_tests}
 use Rattle.std.proofs.lemmas.Str.{chars-nil, digit_value_digit, encodes-chars}
 use Rattle.std.proofs.lemmas.Str.Pattern.{IsSplitOnceResult}
-use Rattle.owl_text.specs.Iri.{AllAre}
-use Rattle.owl_text.specs.Names.{IsRunOf}
-use Rattle.owl_text.specs.CutLaws.{found, same_cut}
+use Rattle.owl_characters.specs.Iri.{AllAre}
+use Rattle.owl_characters.specs.Names.{IsRunOf}
+use Rattle.owl_characters.specs.CutLaws.{found, same_cut}
 use Rattle.owl_atom.specs.Datatypes.{IsDecimalForm, UnsignedDecimal, whole, pointed, fraction}
 use Rattle.owl_atom.proofs.Characters.{NoneAre, cut_at, front_utf8}
 use Rattle.owl_atom.proofs.Iris.{another, without}

@@ -9,10 +9,10 @@ use Rattle.std.proofs.lemmas.Bool.{false≢true}
 use Rattle.std.specs.Option.{option_map}
 use Rattle.owl_atom.specs.declared.fault.LiteralFault.{LiteralFault}
 use Rattle.owl_atom.specs.declared.fault.LiteralFault.TheVariants.{BadLiteral}
-use Rattle.owl_text.specs.Iri.{AllAre}
-use Rattle.owl_text.specs.Names.{IsLanguageTag}
-use Rattle.owl_text.specs.CutLaws.{SameCut, found}
-use Rattle.owl_text.specs.AsciiLaws.{ascii_chars}
+use Rattle.owl_characters.specs.Iri.{AllAre}
+use Rattle.owl_characters.specs.Names.{IsLanguageTag}
+use Rattle.owl_characters.specs.CutLaws.{SameCut, found}
+use Rattle.owl_characters.specs.AsciiLaws.{ascii_chars}
 use Rattle.owl_atom.specs.Literals.{DenotesLiteral, DenotesTyped, FitsTag, LiteralParts, PlainForm, PlainParts, lang_string, of_datatype, plain_literal, string, with_tag}
 use Rattle.owl_atom.proofs.Characters.{NoneAre, back_utf8, cut_at, none_of}
 use Rattle.owl_atom.proofs.Iris.{another}

@@ -4,8 +4,8 @@ use Rattle.std.specs.Str.{IsUtf8, chars, encode_utf8_all}
 use Rattle.std.specs.Str.Pattern.{LacksTextAt}
 use Rattle.std.proofs.lemmas.List.{append_cancel_left}
 use Rattle.std.proofs.lemmas.Str.{chars-append, encodes-append}
-use Rattle.owl_text.specs.Iri.{AllAre}
-use Rattle.owl_text.specs.Names.{begins_with}
+use Rattle.owl_characters.specs.Iri.{AllAre}
+use Rattle.owl_characters.specs.Names.{begins_with}
 use Rattle.owl_atom.specs.declared.prefixes.Prefix.{Prefix}
 use Rattle.owl_atom.specs.Prefixes.{IsPlainLocal, is_plain_start, is_plain_character}
 use Rattle.owl_atom.specs.Places.{CutsNowhere}

@@ -3,7 +3,7 @@ use Rattle.std.proofs.Common.{◌≡◌, ◌≢◌, ◌<◌, ◌↔◌, ◌++◌
 use Rattle.std.specs.Prelude.{if◌then◌else◌, insert, unwrap_or}
 use Rattle.std.specs.Option.{option_map}
 use Rattle.std.proofs.lemmas.Option.{slice_get_read}
-use Rattle.owl_text.specs.Names.{IsPrefixName}
+use Rattle.owl_characters.specs.Names.{IsPrefixName}
 use Rattle.owl_atom.specs.declared.prefixes.Prefix.{Prefix}
 use Rattle.owl_atom.specs.Prefixes.{AreAscending, IsTable, prefix_in, is_declared, is_fixed, iri_of, fixed_prefixes, expansion}
 use Rattle.owl_atom.specs.Places.{IsPlaceOf, IsGapFor}

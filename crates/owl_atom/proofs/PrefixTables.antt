@@ -7,8 +7,8 @@ use Rattle.std.specs.List.{HoldsAt}
 use Rattle.std.specs.List.Sorted.{IsBinarySearchResult, IsSearchInRange, IsNonDecreasingBy}
 use Rattle.std.specs.Ordering.{ordering_index}
 use Rattle.std.proofs.lemmas.Option.{same_Some, slice_get-get_or}
-use Rattle.owl_text.specs.Order.{text_cmp}
-use Rattle.owl_text.specs.OrderLaws.{same_texts, turned, texts_total}
+use Rattle.owl_characters.specs.Order.{text_cmp}
+use Rattle.owl_characters.specs.OrderLaws.{same_texts, turned, texts_total}
 use Rattle.owl_atom.specs.declared.prefixes.Prefix.{Prefix}
 use Rattle.owl_atom.specs.Prefixes.{AreAscending}
 use Rattle.owl_atom.specs.Places.{IsPlaceOf, IsGapFor}

@@ -3,11 +3,11 @@ use Rattle.std.proofs.Common.{◌≡◌, ℕ, Bool, true, List, ◌++◌, sym, s
 use Rattle.std.specs.Prelude.{codes}
 use Rattle.std.specs.List.{list_all}
 use Rattle.std.specs.Str.{chars}
-use Rattle.owl_text.specs.Iri.{AllAre, IsIri, is_ascii, is_iri_character}
-use Rattle.owl_text.specs.Names.{IsLanguageTag}
-use Rattle.owl_text.specs.AllAreLaws.{all_are}
-use Rattle.owl_text.specs.AsciiLaws.{ascii_chars}
-use Rattle.owl_text.specs.IriLaws.{written_iri}
+use Rattle.owl_characters.specs.Iri.{AllAre, IsIri, is_ascii, is_iri_character}
+use Rattle.owl_characters.specs.Names.{IsLanguageTag}
+use Rattle.owl_characters.specs.AllAreLaws.{all_are}
+use Rattle.owl_characters.specs.AsciiLaws.{ascii_chars}
+use Rattle.owl_characters.specs.IriLaws.{written_iri}
 
 -- tests of the characters of a word
 pub word_passes : (test : ℕ → Bool) (word : List ℕ) → list_all is_ascii word ≡ true → list_all test word ≡ true → AllAre test (chars word)

@@ -4,7 +4,7 @@ use Rattle.std.specs.declared.cmp.Ordering.{Ordering}
 use Rattle.std.specs.Ordering.{nat_cmp, then_cmp}
 use Rattle.std.specs.List.Sorted.{IsStrictlySortedBy}
 use Rattle.std.specs.Str.{encode_utf8_all}
-use Rattle.owl_text.specs.Order.{text_cmp}
+use Rattle.owl_characters.specs.Order.{text_cmp}
 use Rattle.owl_atom.specs.declared.by_iri.ByIri.{ByIri}
 use Rattle.owl_atom.specs.declared.by_iri.Front.{Front}
 use Rattle.owl_atom.specs.declared.prefixes.Prefix.{Prefix}

@@ -4,9 +4,9 @@ use Rattle.std.specs.Prelude.{◌≡◌, ◌⊎◌, ℕ, ◌-◌, ◌^◌, ℤ, 
 use Rattle.std.specs.Char.{is_ascii_digit}
 use Rattle.std.specs.List.{list_any}
 use Rattle.std.specs.Str.Parse.{digits_value}
-use Rattle.owl_text.specs.Iri.{AllAre}
-use Rattle.owl_text.specs.Names.{IsRunOf}
-use Rattle.owl_text.specs.Order.{text_eq}
+use Rattle.owl_characters.specs.Iri.{AllAre}
+use Rattle.owl_characters.specs.Names.{IsRunOf}
+use Rattle.owl_characters.specs.Order.{text_eq}
 use Rattle.owl_atom.specs.Vocabulary.{rdf, xsd, owl}
 
 -- Datatypes, and the facets that each of them has.

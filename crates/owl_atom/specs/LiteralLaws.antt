@@ -6,8 +6,8 @@ use Rattle.std.specs.Option.{option_cmp, option_eq}
 use Rattle.std.specs.Ordering.{eq_by_cmp}
 use Rattle.std.proofs.Common.{refl}
 use Rattle.std.proofs.lemmas.Cmp.{and_equiv, nat_list_eq_equiv, on_equiv, on_total, then_total}
-use Rattle.owl_text.specs.Order.{text_cmp, text_eq}
-use Rattle.owl_text.specs.OrderLaws.{equal_ties, texts_total}
+use Rattle.owl_characters.specs.Order.{text_cmp, text_eq}
+use Rattle.owl_characters.specs.OrderLaws.{equal_ties, texts_total}
 use Rattle.owl_atom.specs.Literals.{LiteralParts, literal_cmp, literal_eq}
 
 pub equivalence : IsEquivalence literal_eq

@@ -3,9 +3,9 @@ use Rattle.std.specs.Prelude.{◌≡◌, ◌≢◌, ◌⊎◌, ℕ, Bool, List, 
 use Rattle.std.specs.declared.cmp.Ordering.{Ordering}
 use Rattle.std.specs.Option.{option_cmp, option_eq}
 use Rattle.std.specs.Ordering.{eq_of_both, on, then_cmp}
-use Rattle.owl_text.specs.Iri.{IsIri}
-use Rattle.owl_text.specs.Names.{IsLanguageTag}
-use Rattle.owl_text.specs.Order.{text_cmp, text_eq}
+use Rattle.owl_characters.specs.Iri.{IsIri}
+use Rattle.owl_characters.specs.Names.{IsLanguageTag}
+use Rattle.owl_characters.specs.Order.{text_cmp, text_eq}
 use Rattle.owl_atom.specs.Vocabulary.{rdf, xsd}
 
 -- what is shown of a literal

@@ -6,9 +6,9 @@ use Rattle.std.specs.declared.cmp.Ordering.TheVariants.{Less, Equal, Greater}
 use Rattle.std.specs.List.{AllByRecursion}
 use Rattle.std.proofs.lemmas.Option.{same_Some, slice_get-get_or}
 use Rattle.std.proofs.lemmas.Slice.Eq.{bytes_eq-Decides}
-use Rattle.owl_text.specs.Names.{IsPrefixName}
-use Rattle.owl_text.specs.Order.{text_cmp, text_eq}
-use Rattle.owl_text.specs.OrderLaws.{same_texts, turned, equal, unequal, less_unequal, greater_unequal, texts_total}
+use Rattle.owl_characters.specs.Names.{IsPrefixName}
+use Rattle.owl_characters.specs.Order.{text_cmp, text_eq}
+use Rattle.owl_characters.specs.OrderLaws.{same_texts, turned, equal, unequal, less_unequal, greater_unequal, texts_total}
 use Rattle.owl_atom.specs.declared.prefixes.Prefix.{Prefix}
 use Rattle.owl_atom.specs.Prefixes.{AreAscending, prefix_in, IsBetter, is_plain_start, is_plain_character}
 use Rattle.std.proofs.lemmas.Bool.Decides.{nat_tests}

@@ -5,9 +5,9 @@ use Rattle.std.specs.Char.{is_ascii_alphabetic, is_ascii_alphanumeric}
 use Rattle.std.specs.List.{AllByRecursion}
 use Rattle.std.specs.Option.{option_map}
 use Rattle.std.specs.Str.{encode_utf8_all}
-use Rattle.owl_text.specs.Iri.{AllAre, is_among}
-use Rattle.owl_text.specs.Names.{IsPrefixName}
-use Rattle.owl_text.specs.Order.{text_cmp, text_eq}
+use Rattle.owl_characters.specs.Iri.{AllAre, is_among}
+use Rattle.owl_characters.specs.Names.{IsPrefixName}
+use Rattle.owl_characters.specs.Order.{text_cmp, text_eq}
 use Rattle.owl_atom.specs.Vocabulary.{rdf, rdfs, xsd, owl}
 use Rattle.owl_atom.specs.declared.prefixes.Prefix.{Prefix}
 

@@ -4,9 +4,9 @@ use Rattle.std.specs.List.{list_all, list_any}
 use Rattle.std.specs.Str.{bytes_eq, encode_utf8_all}
 use denote.Ref.{Bor}
 use Rattle.std.proofs.lemmas.Bool.{and_parts}
-use Rattle.owl_text.specs.AsciiLaws.{word_is}
-use Rattle.owl_text.specs.Iri.{is_ascii}
-use Rattle.owl_text.specs.Order.{text_eq}
+use Rattle.owl_characters.specs.AsciiLaws.{word_is}
+use Rattle.owl_characters.specs.Iri.{is_ascii}
+use Rattle.owl_characters.specs.Order.{text_eq}
 use Rattle.owl_atom.specs.Datatypes.{has}
 use Rattle.owl_atom.specs.Tables.{are_ascii, is_name, shown}
 

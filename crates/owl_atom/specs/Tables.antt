@@ -3,7 +3,7 @@ use Rattle.std.specs.Prelude.{◌≡◌, ◌&&◌, ℕ, Bool, List, Contains, ma
 use Rattle.std.specs.List.{list_all, list_any, starts_with}
 use Rattle.std.specs.Str.{bytes_eq}
 use denote.Ref.{Bor}
-use Rattle.owl_text.specs.Iri.{is_ascii}
+use Rattle.owl_characters.specs.Iri.{is_ascii}
 use Rattle.owl_atom.specs.declared.datatypes.DatatypeRow.{DatatypeRow}
 use Rattle.owl_atom.specs.declared.lexical.IntegerRow.{IntegerRow}
 use Rattle.owl_atom.specs.Datatypes.{IntegerRow as Range, IsIntegerForm}

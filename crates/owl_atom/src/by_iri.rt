@@ -4,7 +4,7 @@ ghost use Rattle.std.specs.Prelude.{◌≡◌, ◌<◌, ◌≤◌, ℕ, List, ma
 ghost use Rattle.std.specs.Str.{chars};
 ghost use Rattle.std.specs.Ordering.{is_lt};
 ghost use Rattle.std.specs.List.Sorted.{IsPartitionPoint, IsStrictlySortedBy};
-ghost use Rattle.owl_text.specs.Order.{text_cmp};
+ghost use Rattle.owl_characters.specs.Order.{text_cmp};
 ghost use Rattle.owl_atom.specs.declared.by_iri.Front.{Front};
 ghost use Rattle.owl_atom.specs.declared.prefixes.Prefix.{Prefix};
 ghost use Rattle.owl_atom.specs.ByIri.{AreFronts, IsFirst, IsIndex, front_cmp, of_size, size_of};
@@ -13,8 +13,8 @@ ghost use Rattle.owl_atom.specs.Prefixes.{AreAscending};
 
 use crate::iri::Iri;
 use crate::prefixes::{Prefix, is_plain_local, longer, push};
+use owl_characters::NoMemory;
 use owl_list::arrange;
-use owl_text::NoMemory;
 use std::alloc::Global;
 
 /// The IRI of a prefix, and the place of the prefix in its table.

@@ -7,7 +7,7 @@ ghost use Rattle.owl_atom.specs.declared.fault.LiteralFault.TheVariants.{Memory 
 ghost use Rattle.owl_atom.specs.declared.fault.DeclareFault.TheVariants.{Memory as DeclareMemory};
 ghost use Rattle.owl_atom.specs.declared.fault.ExpandFault.TheVariants.{Memory as ExpandMemory};
 
-use owl_text::NoMemory;
+use owl_characters::NoMemory;
 use thiserror::Error;
 
 /// Why a text is not made an IRI.

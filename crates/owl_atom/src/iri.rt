@@ -3,16 +3,16 @@
 ghost use Rattle.std.specs.Prelude.{◌≡◌, ◌↔◌, ◌++◌, IsTrue, IfOk, IsErrOf, true};
 ghost use Rattle.std.specs.Str.{chars, encode_utf8_all, all_scalars};
 ghost use Rattle.std.specs.Char.{is_ascii_alphabetic};
-ghost use Rattle.owl_text.specs.Iri.{AllAre, IsIri, IsScheme, is_iri_character};
-ghost use Rattle.owl_text.specs.Order.{text_eq};
-ghost use Rattle.owl_text.specs.Names.{begins_with};
+ghost use Rattle.owl_characters.specs.Iri.{AllAre, IsIri, IsScheme, is_iri_character};
+ghost use Rattle.owl_characters.specs.Order.{text_eq};
+ghost use Rattle.owl_characters.specs.Names.{begins_with};
 ghost use Rattle.std.specs.Cmp.Rules.{comparing};
 ghost use Rattle.std.proofs.Common.{rules};
 ghost use Rattle.owl_atom.specs.declared.fault.IriFault.{IriFault};
 
 use crate::fault::IriFault;
 use crate::scan::{are_iri_characters, are_scheme_characters};
-use owl_text::{NoMemory, Text};
+use owl_characters::{NoMemory, Text};
 use std::alloc::Global;
 use std::marker::Model;
 
@@ -28,7 +28,7 @@ pub struct Iri {
 
 impl Model for Iri {
     ghost use Rattle.std.specs.Prelude.{List, ℕ};
-    ghost use Rattle.owl_text.specs.Iri.{IsIri};
+    ghost use Rattle.owl_characters.specs.Iri.{IsIri};
 
     ghost Value = { List ℕ };
 

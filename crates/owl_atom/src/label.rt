@@ -4,13 +4,13 @@ ghost use Rattle.std.specs.Prelude.{◌≡◌, ◌↔◌, IsTrue, IfOk, IsErrOf,
 ghost use Rattle.std.specs.Str.{chars, encode_utf8_all, all_scalars};
 ghost use Rattle.std.specs.Cmp.Rules.{comparing};
 ghost use Rattle.std.proofs.Common.{rules};
-ghost use Rattle.owl_text.specs.Names.{IsLabel, ends_in_dot, is_label_start, begins_with};
-ghost use Rattle.owl_text.specs.Order.{text_eq};
+ghost use Rattle.owl_characters.specs.Names.{IsLabel, ends_in_dot, is_label_start, begins_with};
+ghost use Rattle.owl_characters.specs.Order.{text_eq};
 ghost use Rattle.owl_atom.specs.declared.fault.LabelFault.{LabelFault};
 
 use crate::fault::LabelFault;
 use crate::scan::are_inner;
-use owl_text::{NoMemory, Text, is_start};
+use owl_characters::{NoMemory, Text, is_start};
 use std::alloc::Global;
 use std::marker::Model;
 
@@ -27,7 +27,7 @@ pub struct Label {
 
 impl Model for Label {
     ghost use Rattle.std.specs.Prelude.{List, ℕ};
-    ghost use Rattle.owl_text.specs.Names.{IsLabel};
+    ghost use Rattle.owl_characters.specs.Names.{IsLabel};
 
     ghost Value = { List ℕ };
 

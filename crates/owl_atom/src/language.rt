@@ -3,7 +3,7 @@
 ghost use Rattle.std.specs.Prelude.{◌≡◌, ◌↔◌, IsTrue, true};
 ghost use Rattle.std.specs.Char.{is_ascii_alphabetic, is_ascii_alphanumeric};
 ghost use Rattle.std.specs.Str.{chars};
-ghost use Rattle.owl_text.specs.Names.{IsLanguageTag};
+ghost use Rattle.owl_characters.specs.Names.{IsLanguageTag};
 ghost use Rattle.owl_atom.specs.Characters.{is_run_of};
 
 /// Whether the text is a language tag: letters, and then subtags of letters

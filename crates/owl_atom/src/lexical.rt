@@ -4,8 +4,8 @@ ghost use Rattle.std.specs.Prelude.{◌≡◌, ◌↔◌, ◌≤ℤ◌, IsTrue, 
 ghost use Rattle.std.specs.Char.{is_ascii_digit};
 ghost use Rattle.std.specs.Str.{chars, encode_utf8_all};
 ghost use Rattle.std.specs.Str.Parse.{signed_digits_value, starts_with_minus, without_leading_sign};
-ghost use Rattle.owl_text.specs.Names.{IsRunOf};
-ghost use Rattle.owl_text.specs.Iri.{AllAre};
+ghost use Rattle.owl_characters.specs.Names.{IsRunOf};
+ghost use Rattle.owl_characters.specs.Iri.{AllAre};
 ghost use Rattle.owl_atom.specs.Datatypes.{has, boolean_forms, IsDecimalForm, IsIntegerForm, IsLexicalForm, UnsignedDecimal};
 ghost use Rattle.owl_atom.specs.Tables.{range, FitsRows};
 ghost use Rattle.owl_atom.specs.Vocabulary.{xsd};

@@ -2,9 +2,9 @@
 
 ghost use Rattle.std.specs.Prelude.{◌≡◌, ◌≢◌, ◌↔◌, ◌<◌, ◌≤◌, ◌||◌, ◌&&◌, not, ℕ, List, [], ◌∷◌, ◌++◌, if◌then◌else◌, true, false, Bool, length, slice_get, insert, is_ok, IsTrue, IfOk, IfErr, IfSome, IsNone, IsErrOf, OnOk, OnErr, Some, None, Contains};
 ghost use Rattle.std.specs.Str.{chars, encode_utf8_all, IsCharBoundary};
-ghost use Rattle.owl_text.specs.Iri.{AllAre, IsIri, is_iri_character};
-ghost use Rattle.owl_text.specs.Names.{IsPrefixName, begins_with};
-ghost use Rattle.owl_text.specs.Order.{text_cmp, text_eq};
+ghost use Rattle.owl_characters.specs.Iri.{AllAre, IsIri, is_iri_character};
+ghost use Rattle.owl_characters.specs.Names.{IsPrefixName, begins_with};
+ghost use Rattle.owl_characters.specs.Order.{text_cmp, text_eq};
 ghost use Rattle.owl_atom.specs.declared.fault.DeclareFault.{DeclareFault};
 ghost use Rattle.owl_atom.specs.declared.fault.ExpandFault.{ExpandFault};
 ghost use Rattle.owl_atom.specs.declared.prefixes.Prefix.{Prefix};
@@ -15,7 +15,7 @@ use crate::by_iri::ByIri;
 use crate::fault::{DeclareFault, ExpandFault};
 use crate::iri::Iri;
 use crate::vocabulary::{OWL, RDF, RDFS, XSD};
-use owl_text::{NoMemory, Text};
+use owl_characters::{NoMemory, Text};
 use std::alloc::{AllocError, Global};
 use std::marker::Model;
 

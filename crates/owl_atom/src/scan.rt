@@ -2,10 +2,10 @@
 
 ghost use Rattle.std.specs.Prelude.{◌≡◌, ◌↔◌, IsTrue, true};
 ghost use Rattle.std.specs.Str.{chars};
-ghost use Rattle.owl_text.specs.Iri.{AllAre, is_iri_character, is_scheme_character};
-ghost use Rattle.owl_text.specs.Names.{is_inner};
+ghost use Rattle.owl_characters.specs.Iri.{AllAre, is_iri_character, is_scheme_character};
+ghost use Rattle.owl_characters.specs.Names.{is_inner};
 
-use owl_text::is_part;
+use owl_characters::is_part;
 
 /// Whether an IRI may have each character of the text behind its scheme.
 pub fn are_iri_characters(text: &str) -> bool

@@ -7,8 +7,8 @@ ghost use Rattle.owl_port.specs.Outside.{Rose, SameElsewhere, raised};
 ghost use Rattle.owl_cli.specs.Files.{unread, word_in, faults_of, left_of, IsOpen};
 
 use crate::named_file::NamedFile;
+use owl_characters::NoMemory;
 use owl_port::{Failed, Shelf};
-use owl_text::NoMemory;
 use std::alloc::Global;
 use std::fs::Files;
 use std::io::Read;

@@ -7,8 +7,8 @@ mod named_file;
 mod std_sink;
 
 use file_shelf::FileShelf;
+use owl_characters::NoMemory;
 use owl_port::put_all;
-use owl_text::NoMemory;
 use owl_top::Status;
 use std::env;
 use std::io::ErrorKind;

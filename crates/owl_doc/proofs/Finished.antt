@@ -6,7 +6,7 @@ use Rattle.std.specs.List.{sum_by}
 use Rattle.std.proofs.lemmas.List.Sums.{sum_by-cons}
 use Rattle.owl_list.specs.Ascending.{AreApart, ascending, by_order, put}
 use Rattle.owl_list.specs.AscendingLaws.{all_in, ascending_holds, from_map, in_head, in_tail}
-use Rattle.owl_text.specs.Order.{text_cmp}
+use Rattle.owl_characters.specs.Order.{text_cmp}
 use Rattle.owl_tree.specs.Ontologies.{IsOntology, Ontology, canonical_list, canonical_ontology, list_weight, ontology_weight}
 use Rattle.owl_tree.specs.OntologyLaws.{canonical_is_ontology, canonical_list_again, canonical_ontology_again}
 use Rattle.owl_tree.specs.Order.{tree_cmp}

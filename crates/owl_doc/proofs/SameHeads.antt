@@ -6,7 +6,7 @@ use Rattle.std.specs.Cmp.Lexicographic.{pointwise}
 use Rattle.std.proofs.lemmas.Slice.Eq.{bytes_eq-Decides, slice_eq-Decides}
 use Rattle.owl_doc.specs.declared.head.Head as held
 use Rattle.owl_doc.specs.Heads.{StandsBeside, head_of, iri_in, name_of, version_in}
-use Rattle.owl_text.specs.Order.{text_eq}
+use Rattle.owl_characters.specs.Order.{text_eq}
 
 pub optional_texts_same : (a b : Option (List ℕ)) → Decides (option_eq text_eq a b) (a ≡ b)
 optional_texts_same None None = (λ h. refl, λ e. refl)

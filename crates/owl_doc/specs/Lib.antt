@@ -2,10 +2,6 @@ pub mod Heads
 pub mod Documents
 pub mod Counts
 pub mod Rules
-pub mod Terms
-pub mod Spelling
-pub mod Functional
-pub mod Abbreviations
 pub mod Collections
 pub mod Kept
 pub mod Adding

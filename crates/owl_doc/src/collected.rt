@@ -4,7 +4,7 @@ ghost use Rattle.std.specs.Prelude.{◌≡◌, ◌↔◌, ◌++◌, ◌∷◌, [
 ghost use Rattle.owl_list.specs.Ascending.{AreApart};
 
 use owl_arena::ExprId;
-use owl_text::NoMemory;
+use owl_characters::NoMemory;
 use std::alloc::{AllocError, Global};
 use std::collections::HashSet;
 use std::marker::Model;

@@ -12,7 +12,7 @@ ghost use Rattle.owl_tree.specs.Trees.{kids_in};
 
 use crate::document::Doc;
 use owl_arena::{Arena, ExprId};
-use owl_text::NoMemory;
+use owl_characters::NoMemory;
 use std::alloc::{AllocError, Global};
 
 /// How large a document is.

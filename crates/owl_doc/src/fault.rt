@@ -3,7 +3,7 @@
 ghost use Rattle.std.specs.Prelude.{◌≡◌};
 ghost use Rattle.owl_doc.specs.declared.fault.AddFault.TheVariants.{Memory};
 
-use owl_text::NoMemory;
+use owl_characters::NoMemory;
 use thiserror::Error;
 
 /// Why a tree is not added to a document.

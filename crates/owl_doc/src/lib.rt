@@ -11,7 +11,6 @@ mod head;
 mod item;
 mod rule;
 mod same;
-mod term;
 
 pub use builder::Builder;
 pub use counts::Counts;
@@ -20,4 +19,3 @@ pub use fault::AddFault;
 pub use head::Head;
 pub use item::{Breach, Cant, Item, Why};
 pub use rule::Rule;
-pub use term::Term;

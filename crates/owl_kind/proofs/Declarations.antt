@@ -11,8 +11,8 @@ use Rattle.std.proofs.lemmas.Cmp.{tied_itself}
 use Rattle.std.proofs.lemmas.Map.Lookups.{CmpEqualImpliesEq, exact_bytes}
 use Rattle.std.proofs.lemmas.Map.Views.{All-values-insert_entry, btree_map_get_iff, tells_apart}
 use Rattle.std.proofs.lemmas.Str.{encodes_same}
-use Rattle.owl_text.specs.Order.{text_cmp}
-use Rattle.owl_text.specs.OrderLaws.{texts_total}
+use Rattle.owl_characters.specs.Order.{text_cmp}
+use Rattle.owl_characters.specs.OrderLaws.{texts_total}
 use Rattle.owl_kind.specs.declared.kind.Kind.{Kind}
 use Rattle.owl_kind.specs.declared.kind.Kind.TheVariants.{Class, Datatype, ObjectProperty, DataProperty, AnnotationProperty, Individual}
 use Rattle.owl_kind.specs.declared.marks.Marks.{Marks}

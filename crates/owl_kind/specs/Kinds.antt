@@ -2,7 +2,7 @@
 use Rattle.std.specs.Prelude.{◌≡◌, ◌⊎◌, ℕ, Bool, false, ◌||◌, nat_eq, IsTrue, List, [], ◌∷◌, ◌++◌, Contains, codes, map}
 use Rattle.std.specs.declared.cmp.Ordering.TheVariants.{Less}
 use Rattle.std.specs.List.{starts_with}
-use Rattle.owl_text.specs.Order.{text_cmp}
+use Rattle.owl_characters.specs.Order.{text_cmp}
 use Rattle.owl_atom.specs.Datatypes.{has, is_in_map}
 use Rattle.owl_atom.specs.Vocabulary.{owl, rdf, rdfs, xsd}
 use Rattle.owl_kind.specs.declared.kind.Kind.{Kind}

@@ -2,7 +2,7 @@
 use Rattle.std.specs.Prelude.{◌≡◌, ℕ, Bool, false, true, ◌&&◌, ◌||◌, cond, List, [], ◌∷◌, Option, option_map}
 use Rattle.std.specs.BTreeMap.{BTreeMap, IsOrdered, values}
 use Rattle.std.specs.List.{All, find, flat_map}
-use Rattle.owl_text.specs.Order.{text_cmp}
+use Rattle.owl_characters.specs.Order.{text_cmp}
 use Rattle.owl_kind.specs.declared.kind.Kind.{Kind}
 use Rattle.owl_kind.specs.declared.kind.Kind.TheVariants.{Class, Datatype, ObjectProperty, DataProperty, AnnotationProperty, Individual}
 use Rattle.owl_kind.specs.declared.marks.Marks.{Marks}

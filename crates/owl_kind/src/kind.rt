@@ -4,7 +4,7 @@ ghost use Rattle.std.specs.Prelude.{◌≡◌, true, nat_eq};
 ghost use Rattle.std.specs.List.{list_all, starts_with};
 ghost use Rattle.owl_atom.specs.Datatypes.{has};
 ghost use Rattle.owl_atom.specs.Tables.{are_ascii, shown};
-ghost use Rattle.owl_text.specs.Iri.{is_ascii};
+ghost use Rattle.owl_characters.specs.Iri.{is_ascii};
 ghost use Rattle.owl_kind.specs.Kinds.{is_built_in};
 
 use owl_atom::{Iri, in_map};

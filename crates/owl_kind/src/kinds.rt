@@ -4,7 +4,7 @@ ghost use Rattle.std.specs.Prelude.{◌≡◌, ◌↔◌, ◌⊎◌, ℕ, List, 
 ghost use Rattle.std.specs.BTreeMap.{get};
 ghost use Rattle.std.specs.List.{find};
 ghost use Rattle.std.specs.Map.Iter.{deref, deref_pair};
-ghost use Rattle.owl_text.specs.Order.{text_cmp};
+ghost use Rattle.owl_characters.specs.Order.{text_cmp};
 ghost use Rattle.owl_kind.specs.declared.kind.Kind.{Kind};
 ghost use Rattle.owl_kind.specs.Kinds.{IsDeclared, HasKind, HasClash, IsFirstClash};
 ghost use Rattle.owl_kind.specs.Marks.{IsTable, clashes, declared_by, first_that_clashes, no_marks};
@@ -12,7 +12,7 @@ ghost use Rattle.owl_kind.specs.Marks.{IsTable, clashes, declared_by, first_that
 use crate::kind::Kind;
 use crate::marks::Marks;
 use owl_atom::Iri;
-use owl_text::NoMemory;
+use owl_characters::NoMemory;
 use std::alloc::{AllocError, Global};
 use std::collections::BTreeMap;
 use std::marker::Model;

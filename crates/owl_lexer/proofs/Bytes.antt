@@ -2,17 +2,17 @@
 use Rattle.std.proofs.Common.{◌≡◌, ◌↔◌, ◌⊎◌, inl, inr, ℕ, ◌+◌, ◌<◌, Bool, true, false, Option, None, Some, List, [], ◌∷◌, ◌++◌, length, refl, sym, ap, ◌∙◌, subst, arith, add-zero, if◌then◌else◌}
 use Rattle.std.proofs.Common.{Result, Ok, Err}
 use Rattle.std.specs.Prelude.{◌&&◌, OnOk, IfErr}
-use Rattle.owl_text.specs.declared.utf8_step.BadUtf8.{BadUtf8 as Fault}
+use Rattle.owl_characters.specs.declared.utf8_step.BadUtf8.{BadUtf8 as Fault}
 use Rattle.std.specs.Char.{IsScalar, encode_utf8, len_utf8}
 use Rattle.std.proofs.lemmas.Bool.{and_parts, eqb-true}
 use Rattle.std.proofs.lemmas.List.{append_assoc, append-nil, length-append}
 use Rattle.std.proofs.lemmas.Str.{length-encode}
-use Rattle.owl_text.specs.Feeding.{BeginsNone, Feeding, IsUnfinished}
-use Rattle.owl_text.specs.Tokens.{behind_mark, is_mark, mark_size}
-use Rattle.owl_text.specs.Utf8.{BeginsNoCharacter, Decodes, size}
-use Rattle.owl_text.specs.Utf8Laws.{no_bytes}
-use Rattle.owl_text.specs.declared.fault.LexFault.{LexFault}
-use Rattle.owl_text.specs.declared.fault.LexFault.TheVariants.{BadUtf8}
+use Rattle.owl_characters.specs.Feeding.{BeginsNone, Feeding, IsUnfinished}
+use Rattle.owl_characters.specs.Utf8.{behind_mark, is_mark, mark_size}
+use Rattle.owl_characters.specs.Utf8.{BeginsNoCharacter, Decodes, size}
+use Rattle.owl_characters.specs.Utf8Laws.{no_bytes}
+use Rattle.owl_lexer.specs.declared.fault.LexFault.{LexFault}
+use Rattle.owl_lexer.specs.declared.fault.LexFault.TheVariants.{BadUtf8}
 use Rattle.owl_lexer.specs.Automata.{Automaton, Spells}
 use Rattle.owl_lexer.specs.BytesGiving.{BegunBytes, ContinuesBytes, CutsBehindMark, EndsBytesAt, GivesBytes, GivesSomeBytes, end_of_bytes}
 use Rattle.owl_lexer.specs.BytesLaws.{decodes_first, decodes_none, first_decoded, none_decoded, same_continues_bytes, unfinished_begins_none}
@@ -74,13 +74,13 @@ gives_unfinished a at held bytes fresh b = record {
   only = λ more xs e k. record { characters = k.characters; tail = k.tail; decodes = subst (λ (l : List ℕ). Decodes l k.characters k.tail) (append_assoc bytes (b ∷ []) more) k.decodes; cuts = k.cuts };
 }
 
-pub takes_unfinished : {T : Type 0} → (a : Automaton) (value : ℕ → List ℕ → Option T) (hand : Hand) (old new : Feeding) (fresh : Bool) (b : ℕ) (before : List (Placed T)) → IsOpen a (record { hand = hand; feed = old; fresh = fresh }) → new ≡ record { at = old.at; held = old.held ++ b ∷ []; bad = false } → TakesBytes a value (record { hand = hand; feed = old; fresh = fresh }) (b ∷ []) before before (record { hand = hand; feed = new; fresh = fresh })
-takes_unfinished a value hand old new fresh b before r e =
+pub takes_unfinished : {T : Type 0} → (a : Automaton) (value : ℕ → List ℕ → Option T) (hand : Hand) (old new : Feeding) (fresh : Bool) (b : ℕ) (before : List (Placed T)) → IsOpen a (record { hand = hand; feed = old; fresh = fresh }) → IsUnfinished (old.held ++ b ∷ []) → new ≡ record { at = old.at; held = old.held ++ b ∷ []; bad = false } → TakesBytes a value (record { hand = hand; feed = old; fresh = fresh }) (b ∷ []) before before (record { hand = hand; feed = new; fresh = fresh })
+takes_unfinished a value hand old new fresh b before r u e =
     let at : new.at ≡ old.at = ap (λ (f : Feeding). f.at) e in
     let held : new.held ≡ old.held ++ b ∷ [] = ap (λ (f : Feeding). f.held) e in
     let sizes : length new.held ≡ length old.held + 1 = ap (λ (l : List ℕ). length l) held ∙ length-append old.held (b ∷ []) in
     record {
-      ready = record { ready = r.ready; place = r.place ∙ sym at; clean = ap (λ (f : Feeding). f.bad) e; first = r.first };
+      ready = record { ready = r.ready; place = r.place ∙ sym at; clean = ap (λ (f : Feeding). f.bad) e; first = r.first; start = r.start; part = inr (subst IsUnfinished (sym held) u) };
       adds = record {
         given = [];
         added = sym (append-nil before);
@@ -173,7 +173,7 @@ takes_whole a value old new b c before after r f plain_c fresh t =
     let gives = gives_whole a (begun_in old) b c t.adds.given (begun_of new.hand) whole t.adds.gives in
     let begun : whole_behind (begun_of new.hand) ≡ begun_in new = λ i. record { at = new.hand.at; held = new.hand.held.items; bytes = sym held i; fresh = sym fresh i } in
     record {
-      ready = record { ready = t.ready; place = omega arith; clean = ap (λ (x : Feeding). x.bad) f.feed; first = λ e. let no : true ≡ false = sym e ∙ fresh in cc };
+      ready = record { ready = t.ready; place = omega arith; clean = ap (λ (x : Feeding). x.bad) f.feed; first = λ e. let no : true ≡ false = sym e ∙ fresh in cc; start = λ e. let no : true ≡ false = sym e ∙ fresh in cc; part = inl held };
       adds = record { given = t.adds.given; added = t.adds.added; gives = subst (GivesBytes a (begun_in old) (b ∷ []) t.adds.given) begun gives };
       few = omega arith;
       end = omega arith;
@@ -239,10 +239,12 @@ takes_mark a value old new b c before r f passes fresh moved =
     let last : record { at = old.hand.at + 3; held = []; bytes = []; fresh = false } ≡ begun_in new = λ i. record { at = sym at i; held = sym (held ∙ none) i; bytes = sym feed_held i; fresh = sym fresh i } in
     record {
       ready = record {
-        ready = subst (IsReady a) (sym moved) (record { leads = r.ready.leads; front = moved_front a old.hand none r.ready; end = omega arith });
+        ready = subst (IsReady a) (sym moved) (record { leads = r.ready.leads; front = moved_front a old.hand none r.ready; end = omega arith; scalars = r.ready.scalars });
         place = omega arith;
         clean = ap (λ (x : Feeding). x.bad) f.feed;
         first = λ e. held ∙ none;
+        start = λ e. let no : true ≡ false = sym e ∙ fresh in cc;
+        part = inl feed_held;
       };
       adds = record {
         given = [];
@@ -336,7 +338,7 @@ ends_well a value old new before after r none feed fresh f =
     let at : new.hand.at ≡ end_of_bytes (begun_in old) = omega arith in
     let all_none : old.feed.held ++ [] ≡ [] = append-nil old.feed.held ∙ none in
     record {
-      ready = record { ready = f.ready; place = omega arith; clean = ap (λ (x : Feeding). x.bad) feed ∙ r.clean; first = λ e. hand_held };
+      ready = record { ready = f.ready; place = omega arith; clean = ap (λ (x : Feeding). x.bad) feed ∙ r.clean; first = λ e. hand_held; start = λ e. let no : true ≡ false = sym e ∙ fresh in cc; part = inl feed_held };
       begun = λ i. record { at = at i; held = hand_held i; bytes = feed_held i; fresh = fresh i };
       adds = record {
         given = f.adds.given;

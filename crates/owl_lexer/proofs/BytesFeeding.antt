@@ -1,24 +1,16 @@
 -- What bytes add, one behind another.
-use Rattle.std.proofs.Common.{◌≡◌, ℕ, suc, ◌+◌, ◌<◌, Option, List, [], ◌∷◌, ◌++◌, length, take, drop, get_or, sym, ap, ◌∙◌, subst, arith}
-use Rattle.std.proofs.lemmas.List.{append-nil, length-append}
+use Rattle.std.proofs.Common.{◌≡◌, ℕ, suc, ◌+◌, ◌<◌, ◌≤◌, Option, List, [], ◌∷◌, ◌++◌, length, take, drop, get_or, sym, ap, ◌∙◌, subst, arith}
+use Rattle.std.proofs.lemmas.List.{length-append, take_all}
 use Rattle.std.proofs.Math.Seq.{take-suc}
-use Rattle.owl_text.specs.declared.fault.LexFault.{LexFault}
+use Rattle.owl_lexer.specs.declared.fault.LexFault.{LexFault}
 use Rattle.owl_lexer.specs.AddingLaws.{added_both}
 use Rattle.owl_lexer.specs.Automata.{Automaton}
 use Rattle.owl_lexer.specs.BytesGiving.{EndsBytesAt, GivesSomeBytes}
-use Rattle.owl_lexer.specs.BytesLaws.{ends_behind_bytes, gives_both_bytes, gives_no_bytes, some_behind_bytes}
-use Rattle.owl_lexer.specs.Sources.{IsOpen, RefusesBytes, TakesBytes, begun_in}
+use Rattle.owl_lexer.specs.BytesLaws.{ends_behind_bytes, gives_both_bytes, some_behind_bytes}
+use Rattle.owl_lexer.specs.Sources.{RefusesBytes, TakesBytes, begun_in}
 use Rattle.owl_lexer.specs.declared.placed.Placed.{Placed}
 use Rattle.owl_lexer.specs.declared.source.Source.{Source}
 use Rattle.owl_lexer.proofs.Feeding.{parted}
-
-pub takes_no_bytes : {T : Type 0} → (a : Automaton) (value : ℕ → List ℕ → Option T) (old : Source) (before : List (Placed T)) → IsOpen a old → TakesBytes a value old [] before before old
-takes_no_bytes a value old before r = record {
-  ready = r;
-  adds = record { given = []; added = sym (append-nil before); gives = gives_no_bytes a (begun_in old) };
-  few = omega arith;
-  end = omega arith;
-}
 
 takes_both_bytes : {T : Type 0} → (a : Automaton) (value : ℕ → List ℕ → Option T) (old mid new : Source) (bs ds : List ℕ) (before between after : List (Placed T)) → TakesBytes a value old bs before between mid → TakesBytes a value mid ds between after new → TakesBytes a value old (bs ++ ds) before after new
 takes_both_bytes a value old mid new bs ds before between after t u =
@@ -42,6 +34,9 @@ pub takes_more_bytes : {T : Type 0} → (a : Automaton) (value : ℕ → List �
 takes_more_bytes a value old mid new bytes i before between after lt t u =
     let next : take i bytes ++ get_or bytes i 0 ∷ [] ≡ take (i + 1) bytes = sym (take-suc bytes i 0 lt) ∙ ap (λ (n : ℕ). take n bytes) (let e : suc i ≡ i + 1 = omega arith in e) in
     subst (λ (l : List ℕ). TakesBytes a value old l before after new) next (takes_both_bytes a value old mid new (take i bytes) (get_or bytes i 0 ∷ []) before between after t u)
+
+pub takes_all_bytes : {T : Type 0} → (a : Automaton) (value : ℕ → List ℕ → Option T) (old new : Source) (bytes : List ℕ) (i : ℕ) (before after : List (Placed T)) → length bytes ≤ i → TakesBytes a value old (take i bytes) before after new → TakesBytes a value old bytes before after new
+takes_all_bytes a value old new bytes i before after le t = subst (λ (l : List ℕ). TakesBytes a value old l before after new) (take_all i bytes le) t
 
 pub refuses_in_bytes : {T : Type 0} → (a : Automaton) (value : ℕ → List ℕ → Option T) (old mid : Source) (bytes : List ℕ) (i : ℕ) (before between after : List (Placed T)) (fault : LexFault) → i < length bytes → TakesBytes a value old (take i bytes) before between mid → RefusesBytes a value (begun_in mid) (get_or bytes i 0 ∷ []) between after fault → RefusesBytes a value (begun_in old) bytes before after fault
 refuses_in_bytes a value old mid bytes i before between after fault lt t r = record {

@@ -1,21 +1,22 @@
 -- What characters add, and what they are refused for.
-use Rattle.std.proofs.Common.{◌≡◌, ℕ, suc, ◌+◌, ◌<◌, ◌≤◌, Option, None, Some, List, [], ◌∷◌, ◌++◌, length, take, drop, get_or, refl, sym, ap, ◌∙◌, subst, arith}
+use Rattle.std.proofs.Common.{◌≡◌, ℕ, zero, suc, ◌+◌, ◌<◌, ◌≤◌, Option, None, Some, List, [], ◌∷◌, ◌++◌, length, take, drop, get_or, refl, sym, ap, ◌∙◌, subst, arith}
 use Rattle.std.proofs.Common.{Result, Ok, Err}
 use Rattle.std.specs.Prelude.{OnOk, IfErr}
 use Rattle.std.proofs.lemmas.Grind.{get_or_default_zero}
-use Rattle.std.proofs.lemmas.List.{append_assoc, append-nil, length-append, length-drop, take-append-drop, take_all}
+use Rattle.std.proofs.lemmas.List.{append_assoc, append-nil, length-append, length-drop, take-append-drop}
 use Rattle.std.proofs.Math.Seq.{drop-cons, take-suc}
 use Rattle.std.specs.Char.{len_utf8}
-use Rattle.owl_text.specs.Utf8.{size}
-use Rattle.owl_text.specs.Utf8Laws.{size_append}
-use Rattle.owl_text.specs.declared.fault.LexFault.{LexFault}
-use Rattle.owl_text.specs.declared.fault.LexFault.TheVariants.{BadToken, Memory}
+use Rattle.std.proofs.lemmas.Str.{len_utf8_bounds}
+use Rattle.owl_characters.specs.Utf8.{size}
+use Rattle.owl_characters.specs.Utf8Laws.{size_append}
+use Rattle.owl_lexer.specs.declared.fault.LexFault.{LexFault}
+use Rattle.owl_lexer.specs.declared.fault.LexFault.TheVariants.{BadToken, Memory}
 use Rattle.owl_lexer.specs.Adding.{placed_at, tokens_of}
 use Rattle.owl_lexer.specs.AddingLaws.{added_both}
 use Rattle.owl_lexer.specs.Automata.{Automaton}
 use Rattle.owl_lexer.specs.Cutting.{Lexeme}
 use Rattle.owl_lexer.specs.Giving.{Begun, EndsAt, Gives, GivesSome}
-use Rattle.owl_lexer.specs.GivingLaws.{behind_front, ends_behind, ends_front, ends_here, ends_some, front_of, gives_both, gives_front, gives_held, gives_none, some_behind, some_front, some_none}
+use Rattle.owl_lexer.specs.GivingLaws.{behind_front, ends_behind, ends_front, ends_here, ends_some, front_of, gives_both, gives_front, gives_held, some_behind, some_front, some_none}
 use Rattle.owl_lexer.specs.Hands.{IsFrontOf, IsReady, Refuses, Takes, begun_of}
 use Rattle.owl_lexer.specs.Holding.{IsFront}
 use Rattle.owl_lexer.specs.declared.hand.Front.{Front}
@@ -37,6 +38,7 @@ pub takes_held : {T : Type 0} → (a : Automaton) (value : ℕ → List ℕ → 
 takes_held a value old new c before r g =
     let size_is : length new.held.items ≡ length old.held.items + 1 = ap (λ (l : List ℕ). length l) g.held ∙ length-append old.held.items (c ∷ []) in
     let after = g.end in
+    let at = g.at in
     record {
       ready = r;
       adds = record {
@@ -92,7 +94,13 @@ front_added a value old mid front before between after ys g e =
 pub record Parts (old : Hand) (front : Front) : Type 0 where
   pub some : 0 < front.length
   pub characters : front.length + length (drop front.length old.held.items) ≡ length old.held.items
+  pub wide : old.at < front.end
   pub bytes : front.end + size (drop front.length old.held.items) ≡ old.end
+
+some_wide : (cs : List ℕ) (count : ℕ) → 0 < count → count ≤ length cs → 0 < size (take count cs)
+some_wide cs zero some within = absurd (omega arith)
+some_wide [] (suc count) some within = absurd (omega arith)
+some_wide (c ∷ cs) (suc count) some within = let bounds = len_utf8_bounds c in let low = bounds.0 in omega arith
 
 pub parts_of : (a : Automaton) (old : Hand) (front : Front) → IsReady a old → old.front ≡ Some front → Parts old front
 parts_of a old front r e =
@@ -102,7 +110,8 @@ parts_of a old front r e =
     let behind = r.end in
     let whole : size old.held.items ≡ size (take front.length old.held.items) + size (drop front.length old.held.items) =
     ap size (sym (take-append-drop front.length old.held.items)) ∙ size_append (take front.length old.held.items) (drop front.length old.held.items) in
-    record { some = is.0.some; characters = omega (arith, length-drop front.length old.held.items); bytes = omega arith }
+    let wide = some_wide old.held.items front.length is.0.some within in
+    record { some = is.0.some; wide = omega arith; characters = omega (arith, length-drop front.length old.held.items); bytes = omega arith }
 
 pub takes_front : {T : Type 0} → (a : Automaton) (value : ℕ → List ℕ → Option T) (old mid new : Hand) (front : Front) (c : ℕ) (cs : List ℕ) (before between after : List (Placed T)) → GivesFront a value old mid front before between → a.step old.state c ≡ None → cs ≡ drop front.length old.held.items ++ c ∷ [] → Takes a value mid cs between after new → Takes a value old (c ∷ []) before after new
 takes_front {T = T} a value old mid new front c cs before between after g stuck is t =
@@ -114,7 +123,9 @@ takes_front {T = T} a value old mid new front c cs before between after g stuck 
     let some = parts.some in
     let characters = parts.characters in
     let bytes = parts.bytes in
+    let wide = parts.wide in
     let nothing : length mid.held.items ≡ 0 = ap (λ (b : Begun). length b.held) g.begun in
+    let mid_at : mid.at ≡ front.end = ap (λ (b : Begun). b.at) g.begun in
     let many : length cs ≡ length (drop front.length old.held.items) + 1 = ap (λ (l : List ℕ). length l) is ∙ length-append (drop front.length old.held.items) (c ∷ []) in
     let sizes : size cs ≡ size (drop front.length old.held.items) + size (c ∷ []) = ap size is ∙ size_append (drop front.length old.held.items) (c ∷ []) in
     let one : length between ≤ length before + 1 =
@@ -162,15 +173,6 @@ refuses_front a value old mid front c cs before between after fault g stuck is r
 
 -- several characters
 
-pub takes_none : {T : Type 0} → (a : Automaton) (value : ℕ → List ℕ → Option T) (old : Hand) (before : List (Placed T)) → IsReady a old → Takes a value old [] before before old
-takes_none a value old before r = record {
-  ready = r;
-  adds = record { given = []; added = sym (append-nil before); gives = gives_none a (begun_of old) };
-  few = omega arith;
-  short = omega arith;
-  end = omega arith;
-}
-
 pub takes_both : {T : Type 0} → (a : Automaton) (value : ℕ → List ℕ → Option T) (old mid new : Hand) (cs ds : List ℕ) (before between after : List (Placed T)) → Takes a value old cs before between mid → Takes a value mid ds between after new → Takes a value old (cs ++ ds) before after new
 takes_both a value old mid new cs ds before between after t u =
     let many = length-append cs ds in
@@ -197,9 +199,6 @@ pub takes_more : {T : Type 0} → (a : Automaton) (value : ℕ → List ℕ → 
 takes_more a value old mid new cs i before between after lt t u =
     let next : take i cs ++ get_or cs i 0 ∷ [] ≡ take (i + 1) cs = sym (take-suc cs i 0 lt) ∙ ap (λ (n : ℕ). take n cs) (let e : suc i ≡ i + 1 = omega arith in e) in
     subst (λ (l : List ℕ). Takes a value old l before after new) next (takes_both a value old mid new (take i cs) (get_or cs i 0 ∷ []) before between after t u)
-
-pub takes_all : {T : Type 0} → (a : Automaton) (value : ℕ → List ℕ → Option T) (old new : Hand) (cs : List ℕ) (i : ℕ) (before after : List (Placed T)) → length cs ≤ i → Takes a value old (take i cs) before after new → Takes a value old cs before after new
-takes_all a value old new cs i before after le t = subst (λ (l : List ℕ). Takes a value old l before after new) (take_all i cs le) t
 
 -- a character in a list, what stands before it and what stands behind it
 pub parted : (cs : List ℕ) (i : ℕ) → i < length cs → take i cs ++ (get_or cs i 0 ∷ [] ++ drop (suc i) cs) ≡ cs

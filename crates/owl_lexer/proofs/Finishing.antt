@@ -1,9 +1,9 @@
 -- What the end makes of what is in hand.
 use Rattle.std.proofs.Common.{◌≡◌, ℕ, ◌+◌, ◌<◌, ◌≤◌, Option, None, List, [], ◌∷◌, ◌++◌, length, take, drop, refl, sym, ap, ◌∙◌, subst, arith}
 use Rattle.std.proofs.lemmas.List.{append_assoc, append-nil, length-append}
-use Rattle.owl_text.specs.Utf8.{size}
-use Rattle.owl_text.specs.declared.fault.LexFault.{LexFault}
-use Rattle.owl_text.specs.declared.fault.LexFault.TheVariants.{BadToken, Memory}
+use Rattle.owl_characters.specs.Utf8.{size}
+use Rattle.owl_lexer.specs.declared.fault.LexFault.{LexFault}
+use Rattle.owl_lexer.specs.declared.fault.LexFault.TheVariants.{BadToken, Memory}
 use Rattle.owl_lexer.specs.Adding.{placed_at, tokens_of}
 use Rattle.owl_lexer.specs.AddingLaws.{added_both}
 use Rattle.owl_lexer.specs.Automata.{Automaton}
@@ -25,20 +25,8 @@ pub record Turns {T : Type 0} (a : Automaton) (value : ℕ → List ℕ → Opti
   pub last : (lexemes : List Lexeme) → GivesLast a (begun_of now) lexemes → GivesLast a (begun_of first) (given ++ lexemes)
   pub some : (lexemes : List Lexeme) → GivesSomeLast a (begun_of now) lexemes → GivesSomeLast a (begun_of first) (given ++ lexemes)
   pub ends : (lexemes : List Lexeme) (fault : LexFault) → EndsLastAt a (begun_of now) lexemes fault → EndsLastAt a (begun_of first) (given ++ lexemes) fault
-  pub few : length after + length now.held.items ≤ length before + length first.held.items
+  pub few : length after + first.at ≤ length before + now.at
   pub end : now.end ≡ first.end
-
-pub turns_none : {T : Type 0} → (a : Automaton) (value : ℕ → List ℕ → Option T) (first : Hand) (before : List (Placed T)) → IsReady a first → Turns a value first before before first
-turns_none a value first before r = record {
-  ready = r;
-  given = [];
-  added = sym (append-nil before);
-  last = λ lexemes h. h;
-  some = λ lexemes h. h;
-  ends = λ lexemes fault h. h;
-  few = omega arith;
-  end = refl;
-}
 
 pub turns_more : {T : Type 0} → (a : Automaton) (value : ℕ → List ℕ → Option T) (first now mid new : Hand) (front : Front) (cs : List ℕ) (before so_far between after : List (Placed T)) → Turns a value first before so_far now → GivesFront a value now mid front so_far between → cs ≡ drop front.length now.held.items → Takes a value mid cs between after new → Turns a value first before after new
 turns_more {T = T} a value first now mid new front cs before so_far between after turns g is t =
@@ -51,6 +39,8 @@ turns_more {T = T} a value first now mid new front cs before so_far between afte
     let some = parts.some in
     let characters = parts.characters in
     let bytes = parts.bytes in
+    let wide = parts.wide in
+    let mid_at : mid.at ≡ front.end = ap (λ (b : Begun). b.at) g.begun in
     let nothing : length mid.held.items ≡ 0 = ap (λ (b : Begun). length b.held) g.begun in
     let many : length cs ≡ length (drop front.length now.held.items) = ap (λ (l : List ℕ). length l) is in
     let sizes : size cs ≡ size (drop front.length now.held.items) = ap size is in
@@ -88,8 +78,8 @@ empty_held : (held : List ℕ) → length held ≡ 0 → held ≡ []
 empty_held [] e = refl
 empty_held (c ∷ held) e = absurd (omega arith)
 
-pub turns_finish : {T : Type 0} → (a : Automaton) (value : ℕ → List ℕ → Option T) (first now : Hand) (before after : List (Placed T)) → Turns a value first before after now → length now.held.items ≡ 0 → Finishes a value first before after now
-turns_finish a value first now before after turns none =
+pub turns_finish : {T : Type 0} → (a : Automaton) (value : ℕ → List ℕ → Option T) (first now : Hand) (before after : List (Placed T)) → IsReady a first → Turns a value first before after now → length now.held.items ≡ 0 → Finishes a value first before after now
+turns_finish a value first now before after old turns none =
     let held = empty_held now.held.items none in
     let at : now.at ≡ first.end =
     let end = turns.ready.end in
@@ -98,6 +88,7 @@ turns_finish a value first now before after turns none =
     omega arith in
     let begun : begun_of now ≡ record { at = first.end; held = [] } = λ i. record { at = at i; held = held i } in
     let few = turns.few in
+    let old_end = old.end in
     record {
       ready = turns.ready;
       begun = begun;

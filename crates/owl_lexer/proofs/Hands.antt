@@ -1,9 +1,11 @@
 -- What a character makes of what is in hand.
-use Rattle.std.proofs.Common.{◌≡◌, ℕ, ◌+◌, Option, None, Some, List, [], ◌∷◌, ◌++◌, length, take, sym, ap, ◌∙◌, subst, arith}
+use Rattle.std.proofs.Common.{◌≡◌, ℕ, ◌+◌, true, Option, None, Some, List, [], ◌∷◌, ◌++◌, length, take, refl, sym, ap, ◌∙◌, subst, arith}
 use Rattle.std.proofs.lemmas.List.{length-append, take-append-le, take_all}
-use Rattle.std.specs.Char.{len_utf8}
-use Rattle.owl_text.specs.Utf8.{size}
-use Rattle.owl_text.specs.Utf8Laws.{size_append}
+use Rattle.std.specs.Char.{IsScalar, len_utf8}
+use Rattle.std.specs.Str.{all_scalars}
+use Rattle.std.proofs.lemmas.Bool.{and_from, and_parts}
+use Rattle.owl_characters.specs.Utf8.{size}
+use Rattle.owl_characters.specs.Utf8Laws.{size_append}
 use Rattle.owl_lexer.specs.Automata.{Automaton}
 use Rattle.owl_lexer.specs.Hands.{IsFrontOf, IsReady}
 use Rattle.owl_lexer.specs.Holding.{IsFront, LeadsTo}
@@ -18,6 +20,7 @@ pub record Grows (old new : Hand) (c : ℕ) : Type 0 where
   pub at : new.at ≡ old.at
   pub held : new.held.items ≡ old.held.items ++ c ∷ []
   pub end : new.end ≡ old.end + len_utf8 c
+  pub scalar : IsScalar c
 
 leads_grown : (a : Automaton) (old new : Hand) (c : ℕ) → IsReady a old → Grows old new c → a.step old.state c ≡ Some new.state → LeadsTo a (old.held.items ++ c ∷ []) new.state
 leads_grown a old new c r g step = leads_on a old.held.items old.state c new.state r.leads step
@@ -29,6 +32,13 @@ end_grown a old new c r g =
     let at = g.at in
     let after = g.end in
     omega arith
+
+scalar_behind : (cs : List ℕ) (c : ℕ) → all_scalars cs ≡ true → IsScalar c → all_scalars (cs ++ c ∷ []) ≡ true
+scalar_behind [] c h s = and_from _ _ s refl
+scalar_behind (d ∷ cs) c h s = let parts = and_parts _ _ h in and_from _ _ parts.0 (scalar_behind cs c parts.1 s)
+
+scalars_grown : (a : Automaton) (old new : Hand) (c : ℕ) → IsReady a old → Grows old new c → all_scalars new.held.items ≡ true
+scalars_grown a old new c r g = ap all_scalars g.held ∙ scalar_behind old.held.items c r.scalars g.scalar
 
 same_front : (a : Automaton) (at c next : ℕ) (held : List ℕ) (front : Option Front) → LeadsTo a (held ++ c ∷ []) next → a.kind next ≡ None → IsFrontOf a at held front → IsFrontOf a at (held ++ c ∷ []) front
 same_front a at c next held None leads kind f = none_more a held c next 0 leads kind f
@@ -46,6 +56,7 @@ ready_more a old new c r g step kind front =
           (subst (λ (l : List ℕ). IsFrontOf a old.at l new.front) (sym g.held)
           (subst (IsFrontOf a old.at (old.held.items ++ c ∷ [])) (sym front) (same_front a old.at c new.state old.held.items old.front leads kind r.front)));
       end = end_grown a old new c r g;
+      scalars = scalars_grown a old new c r g;
     }
 
 pub ready_whole : (a : Automaton) (old new : Hand) (c kind : ℕ) → IsReady a old → Grows old new c → a.step old.state c ≡ Some new.state → a.kind new.state ≡ Some kind → new.front ≡ Some (record { length = length new.held.items; kind = kind; end = new.end }) → IsReady a new
@@ -60,4 +71,5 @@ ready_whole a old new c kind r g step whole front =
       leads = subst (λ (l : List ℕ). LeadsTo a l new.state) (sym g.held) leads;
       front = subst (IsFrontOf a new.at new.held.items) (sym front) (moved, end_grown a old new c r g ∙ ap (λ (l : List ℕ). new.at + size l) (sym all));
       end = end_grown a old new c r g;
+      scalars = scalars_grown a old new c r g;
     }

@@ -4,3 +4,4 @@ pub mod Finishing
 pub mod Bytes
 pub mod BytesFeeding
 pub mod Classes
+pub mod Tokens

@@ -1,6 +1,6 @@
 -- Tokens that stand for lexemes, and that are added to a list.
 use Rattle.std.specs.Prelude.{◌≡◌, ℕ, List, [], ◌∷◌, ◌++◌, Option, None, Some}
-use Rattle.owl_text.specs.declared.fault.LexFault.{LexFault}
+use Rattle.owl_lexer.specs.declared.fault.LexFault.{LexFault}
 use Rattle.owl_lexer.specs.Automata.{Automaton}
 use Rattle.owl_lexer.specs.Cutting.{Lexeme}
 use Rattle.owl_lexer.specs.Giving.{Begun, EndsAt, EndsLastAt, Gives, GivesLast, GivesSome, GivesSomeLast}

@@ -1,8 +1,8 @@
 -- What is begun in bytes, and what can still come of it.
 use Rattle.std.specs.Prelude.{◌≡◌, ℕ, ◌+◌, Bool, true, false, List, [], ◌++◌, length, Option, Some}
-use Rattle.owl_text.specs.Tokens.{behind_mark, mark_size}
-use Rattle.owl_text.specs.Utf8.{Decodes, size}
-use Rattle.owl_text.specs.declared.fault.LexFault.{LexFault}
+use Rattle.owl_characters.specs.Utf8.{behind_mark, mark_size}
+use Rattle.owl_characters.specs.Utf8.{Decodes, size}
+use Rattle.owl_lexer.specs.declared.fault.LexFault.{LexFault}
 use Rattle.owl_lexer.specs.Adding.{tokens_of}
 use Rattle.owl_lexer.specs.Automata.{Automaton, Spells}
 use Rattle.owl_lexer.specs.Cutting.{Cuts, Lexeme}
@@ -15,10 +15,6 @@ pub record BegunBytes : Type 0 where
   pub held : List ℕ
   pub bytes : List ℕ
   pub fresh : Bool
-
--- nothing was fed
-abbrev pub nothing_fed : BegunBytes
-nothing_fed = record { at = 0; held = []; bytes = []; fresh = true }
 
 -- nothing is begun behind what was fed, and the next byte stands at this place
 abbrev pub nothing_begun : ℕ → BegunBytes
@@ -84,8 +80,3 @@ pub record AddsSomeLastBytes {T : Type 0} (a : Automaton) (value : ℕ → List 
   pub given : List Lexeme
   pub added : after ≡ before ++ tokens_of value given
   pub next : (lexemes : List Lexeme) (ending : Option LexFault) → ContinuesBytes a old [] lexemes ending → (rest : List Lexeme) × (lexemes ≡ given ++ rest)
-
--- What a lexer is: what is begun, and the refusal that it keeps.
-pub record Lexing : Type 0 where
-  pub begun : BegunBytes
-  pub refused : Option LexFault

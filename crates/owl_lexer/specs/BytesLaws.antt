@@ -5,9 +5,9 @@ use Rattle.std.specs.Str.{encode_utf8_all}
 use Rattle.std.proofs.lemmas.Bool.{and_from, and_parts}
 use Rattle.std.proofs.lemmas.List.{append_assoc, append-nil, length-append}
 use Rattle.std.proofs.lemmas.Str.{encode_same}
-use Rattle.owl_text.specs.Feeding.{IsUnfinished}
-use Rattle.owl_text.specs.Utf8.{BeginsNoCharacter, Decodes}
-use Rattle.owl_text.specs.declared.fault.LexFault.{LexFault}
+use Rattle.owl_characters.specs.Feeding.{IsUnfinished}
+use Rattle.owl_characters.specs.Utf8.{BeginsNoCharacter, Decodes}
+use Rattle.owl_lexer.specs.declared.fault.LexFault.{LexFault}
 use Rattle.owl_lexer.specs.Automata.{Automaton, Spells}
 use Rattle.owl_lexer.specs.BytesGiving.{BegunBytes, ContinuesBytes, CutsBehindMark, EndsBytesAt, GivesBytes, GivesSomeBytes}
 use Rattle.owl_lexer.specs.Cutting.{Lexeme}
@@ -51,15 +51,18 @@ decodes_first c more cs tail s d = record {
   stops = d.stops;
 }
 
--- no character begins in a proper front of one
-pub unfinished_begins_none : (bytes : List ℕ) → IsUnfinished bytes → BeginsNoCharacter bytes
-unfinished_begins_none bytes u c rest s e =
+-- no whole character stands in a proper front of one
+pub no_whole : (bytes : List ℕ) → IsUnfinished bytes → (c : ℕ) (rest : List ℕ) → bytes ≡ encode_utf8 c ++ rest → ⊥
+no_whole bytes u c rest e =
     let whole : encode_utf8 u.character ++ [] ≡ encode_utf8 c ++ (rest ++ u.rest) =
     append-nil (encode_utf8 u.character) ∙ u.is ∙ ap (λ (y : List ℕ). y ++ u.rest) e ∙ append_assoc (encode_utf8 c) rest u.rest in
     let same = encode_same u.character c [] (rest ++ u.rest) whole in
     let sizes : 0 ≡ length rest + length u.rest = ap (λ (y : List ℕ). length y) same.1 ∙ length-append rest u.rest in
     let some = u.some in
-    absurd (omega arith)
+    omega arith
+
+pub unfinished_begins_none : (bytes : List ℕ) → IsUnfinished bytes → BeginsNoCharacter bytes
+unfinished_begins_none bytes u c rest s e = no_whole bytes u c rest e
 
 -- the characters and the tail are the same
 pub record SameDecoded (cs ds s t : List ℕ) : Type 0 where
@@ -96,9 +99,6 @@ same_continues_bytes a begun more xs ys e f h k =
 
 move : (a : Automaton) (begun : BegunBytes) (bs ds : List ℕ) (xs : List Lexeme) (e : Option LexFault) → bs ≡ ds → ContinuesBytes a begun bs xs e → ContinuesBytes a begun ds xs e
 move a begun bs ds xs e same h = subst (λ (l : List ℕ). ContinuesBytes a begun l xs e) same h
-
-pub gives_no_bytes : (a : Automaton) (begun : BegunBytes) → GivesBytes a begun [] [] begun
-gives_no_bytes a begun = record { all = λ more xs e k. (xs, refl, k); only = λ more rest e k. k }
 
 pub gives_both_bytes : (a : Automaton) (old mid new : BegunBytes) (bs ds : List ℕ) (xs ys : List Lexeme) → GivesBytes a old bs xs mid → GivesBytes a mid ds ys new → GivesBytes a old (bs ++ ds) (xs ++ ys) new
 gives_both_bytes a old mid new bs ds xs ys g h = record {

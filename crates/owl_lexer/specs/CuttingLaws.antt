@@ -1,8 +1,8 @@
 -- Characters are cut into lexemes in one way, whatever the grammar, if its kinds are apart.
 use Rattle.std.proofs.Common.{◌≡◌, ℕ, ◌+◌, ◌≤◌, Option, Some, List, [], ◌∷◌, ◌++◌, length, refl, sym, ap, ◌∙◌, subst, arith}
-use Rattle.owl_text.specs.Utf8.{size}
-use Rattle.owl_text.specs.CutLaws.{SameSeam, same_seam}
-use Rattle.owl_text.specs.declared.fault.LexFault.{LexFault}
+use Rattle.owl_characters.specs.Utf8.{size}
+use Rattle.owl_characters.specs.CutLaws.{SameSeam, same_seam}
+use Rattle.owl_lexer.specs.declared.fault.LexFault.{LexFault}
 use Rattle.owl_lexer.specs.Automata.{Automaton, Spells}
 use Rattle.owl_lexer.specs.Cutting.{Begins, Cuts, Lexeme, Stops}
 
@@ -66,29 +66,6 @@ same_cuts grammar apart place cs tail (x ∷ xs) (y ∷ ys) e f h k =
     let one : x ≡ y = first.first in
     let more : xs ≡ ys = others.lexemes in
     record { lexemes = cc; ending = others.ending }
-
--- from one grammar to another of the same lexemes
-
-stops_over : (p q : ℕ → List ℕ → Type 0) → ((k : ℕ) (cs : List ℕ) → q k cs → p k cs) → (place : ℕ) (cs tail : List ℕ) (e : Option LexFault) → Stops p place cs tail e → Stops q place cs tail e
-stops_over p q back place [] [] e h = h
-stops_over p q back place [] (b ∷ tail) e h = h
-stops_over p q back place (c ∷ cs) tail e h = (λ kind spelling more s. h.0 kind spelling more (back kind spelling s), h.1)
-
-pub cuts_over : (p q : ℕ → List ℕ → Type 0) → ((k : ℕ) (cs : List ℕ) → p k cs → q k cs) → ((k : ℕ) (cs : List ℕ) → q k cs → p k cs) → (place : ℕ) (cs tail : List ℕ) (xs : List Lexeme) (e : Option LexFault) → Cuts p place cs tail xs e → Cuts q place cs tail xs e
-cuts_over p q to back place cs tail [] e h = stops_over p q back place cs tail e h
-cuts_over p q to back place cs tail (x ∷ xs) e h = (
-  h.0,
-  record {
-    parts = h.1.parts;
-    at = h.1.at;
-    stands = record {
-      spelled = to x.kind x.spelling h.1.stands.spelled;
-      some = h.1.stands.some;
-      longest = λ other longer more s. h.1.stands.longest other longer more (back other longer s);
-    };
-  },
-  cuts_over p q to back (place + size x.spelling) h.0 tail xs e h.2,
-)
 
 -- what comes behind the first lexeme
 pub record CutBehind (grammar : ℕ → List ℕ → Type 0) (place : ℕ) (x : Lexeme) (r tail : List ℕ) (xs : List Lexeme) (e : Option LexFault) : Type 0 where

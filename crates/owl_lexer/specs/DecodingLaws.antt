@@ -5,8 +5,8 @@ use Rattle.std.specs.Str.{IsUtf8, all_scalars, encode_utf8_all, is_utf8}
 use Rattle.std.proofs.lemmas.Bool.{and_parts, cases_Bool, cases_lt}
 use Rattle.std.proofs.lemmas.List.{append_assoc, length-append, take-append-drop, take_at}
 use Rattle.std.proofs.lemmas.Str.{IsUtf8-encode, IsUtf8-from_is_utf8, is_utf8-from_IsUtf8, len_utf8_bounds, length-encode}
-use Rattle.owl_text.specs.Utf8.{BeginsNoCharacter, Decodes}
-use Rattle.owl_text.specs.Utf8Laws.{no_bytes}
+use Rattle.owl_characters.specs.Utf8.{BeginsNoCharacter, Decodes}
+use Rattle.owl_characters.specs.Utf8Laws.{no_bytes}
 use Rattle.owl_lexer.specs.BytesLaws.{decodes_first, decodes_none}
 
 -- a character begins the bytes

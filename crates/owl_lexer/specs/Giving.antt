@@ -1,7 +1,7 @@
 -- What is begun, and what can still come of it.
 use Rattle.std.specs.Prelude.{◌≡◌, ℕ, ◌+◌, List, [], ◌++◌, Option, Some}
-use Rattle.owl_text.specs.Utf8.{size}
-use Rattle.owl_text.specs.declared.fault.LexFault.{LexFault}
+use Rattle.owl_characters.specs.Utf8.{size}
+use Rattle.owl_lexer.specs.declared.fault.LexFault.{LexFault}
 use Rattle.owl_lexer.specs.Automata.{Automaton, Spells}
 use Rattle.owl_lexer.specs.Cutting.{Cuts, Lexeme, Stops}
 

@@ -1,9 +1,9 @@
 -- What a character makes of what is begun, and what several make of it.
 use Rattle.std.proofs.Common.{◌≡◌, ℕ, ◌+◌, Option, None, Some, List, [], ◌∷◌, ◌++◌, take, drop, refl, sym, ap, ◌∙◌, subst, add-zero}
 use Rattle.std.proofs.lemmas.List.{append_assoc, append-nil, take-append-drop}
-use Rattle.owl_text.specs.Utf8.{size}
-use Rattle.owl_text.specs.declared.fault.LexFault.{LexFault}
-use Rattle.owl_text.specs.declared.fault.LexFault.TheVariants.{BadToken}
+use Rattle.owl_characters.specs.Utf8.{size}
+use Rattle.owl_lexer.specs.declared.fault.LexFault.{LexFault}
+use Rattle.owl_lexer.specs.declared.fault.LexFault.TheVariants.{BadToken}
 use Rattle.owl_lexer.specs.Automata.{Automaton, Spells}
 use Rattle.owl_lexer.specs.Cutting.{Begins, BeginsNone, Cuts, Lexeme, Stops}
 use Rattle.owl_lexer.specs.CuttingLaws.{SameCuts, automata_are_apart, cut_behind, same_cuts}
@@ -19,9 +19,6 @@ move : (a : Automaton) (begun : Begun) (cs ds tail : List ℕ) (xs : List Lexeme
 move a begun cs ds tail xs e same h = subst (λ (l : List ℕ). Continues a begun l tail xs e) same h
 
 -- characters one behind another
-
-pub gives_none : (a : Automaton) (begun : Begun) → Gives a begun [] [] begun
-gives_none a begun = record { all = λ more tail xs e k. (xs, refl, k); only = λ more tail rest e k. k }
 
 pub gives_both : (a : Automaton) (old mid new : Begun) (cs ds : List ℕ) (xs ys : List Lexeme) → Gives a old cs xs mid → Gives a mid ds ys new → Gives a old (cs ++ ds) (xs ++ ys) new
 gives_both a old mid new cs ds xs ys g h = record {

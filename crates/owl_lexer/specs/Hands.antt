@@ -1,8 +1,9 @@
 -- What the machine has in hand, and what it makes of characters.
-use Rattle.std.specs.Prelude.{◌≡◌, ◌≢◌, ℕ, ◌+◌, ◌≤◌, List, length, take, Option, None, Some}
-use Rattle.owl_text.specs.Utf8.{size}
-use Rattle.owl_text.specs.declared.fault.LexFault.{LexFault}
-use Rattle.owl_text.specs.declared.fault.LexFault.TheVariants.{Memory}
+use Rattle.std.specs.Prelude.{◌≡◌, ◌≢◌, ℕ, ◌+◌, ◌≤◌, List, length, take, true, Option, None, Some}
+use Rattle.std.specs.Str.{all_scalars}
+use Rattle.owl_characters.specs.Utf8.{size}
+use Rattle.owl_lexer.specs.declared.fault.LexFault.{LexFault}
+use Rattle.owl_lexer.specs.declared.fault.LexFault.TheVariants.{Memory}
 use Rattle.owl_lexer.specs.Adding.{Adds, AddsLast, AddsLastUpTo, AddsSome, AddsSomeLast, AddsUpTo}
 use Rattle.owl_lexer.specs.Automata.{Automaton}
 use Rattle.owl_lexer.specs.Giving.{Begun, nothing_at}
@@ -20,6 +21,7 @@ pub record IsReady (a : Automaton) (hand : Hand) : Type 0 where
   pub leads : LeadsTo a hand.held.items hand.state
   pub front : IsFrontOf a hand.at hand.held.items hand.front
   pub end : hand.end ≡ hand.at + size hand.held.items
+  pub scalars : all_scalars hand.held.items ≡ true
 
 abbrev pub begun_of : Hand → Begun
 begun_of hand = record { at = hand.at; held = hand.held.items }
@@ -28,7 +30,7 @@ begun_of hand = record { at = hand.at; held = hand.held.items }
 pub record Takes {T : Type 0} (a : Automaton) (value : ℕ → List ℕ → Option T) (old : Hand) (cs : List ℕ) (before after : List (Placed T)) (new : Hand) : Type 0 where
   pub ready : IsReady a new
   pub adds : Adds a value (begun_of old) cs before after (begun_of new)
-  pub few : length after + length new.held.items ≤ length before + length old.held.items + length cs
+  pub few : length after + old.at ≤ length before + new.at
   pub short : length new.held.items ≤ length old.held.items + length cs
   pub end : new.end ≡ old.end + size cs
 
@@ -42,7 +44,7 @@ pub record Finishes {T : Type 0} (a : Automaton) (value : ℕ → List ℕ → O
   pub ready : IsReady a new
   pub begun : begun_of new ≡ nothing_at old.end
   pub adds : AddsLast a value (begun_of old) before after
-  pub few : length after ≤ length before + length old.held.items
+  pub few : length after ≤ length before + size old.held.items
 
 pub record FinishesBadly {T : Type 0} (a : Automaton) (value : ℕ → List ℕ → Option T) (old : Begun) (before after : List (Placed T)) (fault : LexFault) : Type 0 where
   pub some : AddsSomeLast a value old before after

@@ -3,7 +3,7 @@ use Rattle.std.proofs.Common.{◌≡◌, inl, inr, ℕ, ◌+◌, ◌≤◌, Opti
 use Rattle.std.proofs.lemmas.Bool.{cases_lt}
 use Rattle.std.proofs.lemmas.List.{append_assoc, length-append, length-take-le, take-append-drop, take-append-le, take_all}
 use Rattle.std.proofs.Math.Seq.{take-append_seam}
-use Rattle.owl_text.specs.CutLaws.{overhang_or_within}
+use Rattle.owl_characters.specs.CutLaws.{overhang_or_within}
 use Rattle.owl_lexer.specs.Automata.{Automaton, Spells, kind_at, run, step_from}
 use Rattle.owl_lexer.specs.Cutting.{BeginsNone, Stands}
 use Rattle.owl_lexer.specs.Holding.{GoesNowhere, IsFront, LeadsTo, NoneBeyond}

@@ -22,6 +22,14 @@ pub mod BytesGiving
 pub mod BytesLaws
 pub mod DecodingLaws
 pub mod Sources
-pub mod Texts
-pub mod TextLaws
 pub mod AddingLaws
+pub mod Splitting
+pub mod Lexing
+pub mod Languages
+pub mod OneWayLaws
+pub mod GapLaws
+pub mod TokenLaws
+pub mod LexingLaws
+pub mod GapTests
+pub mod GapTestLaws
+pub mod PatternLaws

@@ -1,12 +1,11 @@
--- Any characters are cut into lexemes in one way at least, by an automaton and by a grammar that one knows.
+-- Any characters are cut into lexemes in one way at least, by any automaton.
 use Rattle.std.proofs.Common.{◌≡◌, ℕ, zero, suc, ◌+◌, ◌≤◌, Option, None, Some, List, [], ◌∷◌, ◌++◌, length, take, drop, refl, sym, ap, ◌∙◌, subst, arith}
 use Rattle.std.proofs.lemmas.List.{append_assoc, length-append, take-append-drop}
-use Rattle.owl_text.specs.Utf8.{size}
-use Rattle.owl_text.specs.declared.fault.LexFault.{LexFault}
-use Rattle.owl_text.specs.declared.fault.LexFault.TheVariants.{BadToken, BadUtf8}
-use Rattle.owl_lexer.specs.Automata.{Automaton, Knows, Spells}
+use Rattle.owl_characters.specs.Utf8.{size}
+use Rattle.owl_lexer.specs.declared.fault.LexFault.{LexFault}
+use Rattle.owl_lexer.specs.declared.fault.LexFault.TheVariants.{BadToken, BadUtf8}
+use Rattle.owl_lexer.specs.Automata.{Automaton, Spells}
 use Rattle.owl_lexer.specs.Cutting.{BeginsNone, Cuts, Lexeme, Stands}
-use Rattle.owl_lexer.specs.CuttingLaws.{AreApart, automata_are_apart, cuts_over}
 use Rattle.owl_lexer.specs.Holding.{GoesNowhere, IsFront, LeadsTo, NoneBeyond}
 use Rattle.owl_lexer.specs.HoldingLaws.{front_more, front_whole, leads_on, none_first, none_more, nothing_held, stands_first}
 
@@ -53,19 +52,19 @@ unfolding Scans
 first_in a cs = scan a cs [] a.start refl (no_front (nothing_held a))
 
 -- the lexemes of characters, and how they end
-pub record IsCut (grammar : ℕ → List ℕ → Type 0) (place : ℕ) (cs tail : List ℕ) : Type 0 where
+pub record IsCut (a : Automaton) (place : ℕ) (cs tail : List ℕ) : Type 0 where
   pub lexemes : List Lexeme
   pub ending : Option LexFault
-  pub cuts : Cuts grammar place cs tail lexemes ending
+  pub cuts : Cuts (Spells a) place cs tail lexemes ending
 
-cut_end : (a : Automaton) (place : ℕ) (tail : List ℕ) → IsCut (Spells a) place [] tail
+cut_end : (a : Automaton) (place : ℕ) (tail : List ℕ) → IsCut a place [] tail
 cut_end a place [] = record { lexemes = []; ending = None; cuts = refl }
 cut_end a place (b ∷ tail) = record { lexemes = []; ending = Some (BadUtf8 place); cuts = refl }
 
 Cutting : Automaton → ℕ → Type 0
-Cutting a n = (place : ℕ) (cs tail : List ℕ) → length cs ≤ n → IsCut (Spells a) place cs tail
+Cutting a n = (place : ℕ) (cs tail : List ℕ) → length cs ≤ n → IsCut a place cs tail
 
-cut_first : (a : Automaton) (n : ℕ) → Cutting a n → (place c : ℕ) (cs tail : List ℕ) → length cs ≤ n → FirstIn a (c ∷ cs) → IsCut (Spells a) place (c ∷ cs) tail
+cut_first : (a : Automaton) (n : ℕ) → Cutting a n → (place c : ℕ) (cs tail : List ℕ) → length cs ≤ n → FirstIn a (c ∷ cs) → IsCut a place (c ∷ cs) tail
 unfolding Cutting
 cut_first a n cutting place c cs tail le (nothing none) = record { lexemes = []; ending = Some (BadToken place); cuts = (none, refl) }
 cut_first a n cutting place c cs tail le (first kind spelling rest e s) =
@@ -85,22 +84,6 @@ cut_within a n place [] tail le = cut_end a place tail
 cut_within a zero place (c ∷ cs) tail le = absurd (omega arith)
 cut_within a (suc n) place (c ∷ cs) tail le = cut_first a n (cut_within a n) place c cs tail (omega arith) (first_in a (c ∷ cs))
 
-pub cut : (a : Automaton) (place : ℕ) (cs tail : List ℕ) → IsCut (Spells a) place cs tail
+pub cut : (a : Automaton) (place : ℕ) (cs tail : List ℕ) → IsCut a place cs tail
 unfolding Cutting
 cut a place cs tail = cut_within a (length cs) place cs tail (omega arith)
-
--- the grammar of an automaton
-
-pub known_are_apart : (a : Automaton) (grammar : ℕ → List ℕ → Type 0) → Knows a grammar → AreApart grammar
-known_are_apart a grammar knows kind other cs h k = automata_are_apart a kind other cs ((knows kind cs).1 h) ((knows other cs).1 k)
-
-pub cuts_known : (a : Automaton) (grammar : ℕ → List ℕ → Type 0) → Knows a grammar → (place : ℕ) (cs tail : List ℕ) (xs : List Lexeme) (e : Option LexFault) → Cuts (Spells a) place cs tail xs e → Cuts grammar place cs tail xs e
-cuts_known a grammar knows = cuts_over (Spells a) grammar (λ k cs. (knows k cs).0) (λ k cs. (knows k cs).1)
-
-pub known_cuts : (a : Automaton) (grammar : ℕ → List ℕ → Type 0) → Knows a grammar → (place : ℕ) (cs tail : List ℕ) (xs : List Lexeme) (e : Option LexFault) → Cuts grammar place cs tail xs e → Cuts (Spells a) place cs tail xs e
-known_cuts a grammar knows = cuts_over grammar (Spells a) (λ k cs. (knows k cs).1) (λ k cs. (knows k cs).0)
-
-pub cut_known : (a : Automaton) (grammar : ℕ → List ℕ → Type 0) → Knows a grammar → (place : ℕ) (cs tail : List ℕ) → IsCut grammar place cs tail
-cut_known a grammar knows place cs tail =
-    let it = cut a place cs tail in
-    record { lexemes = it.lexemes; ending = it.ending; cuts = cuts_known a grammar knows place cs tail it.lexemes it.ending it.cuts }

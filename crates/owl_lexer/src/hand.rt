@@ -2,14 +2,15 @@
 
 ghost use Rattle.std.specs.Prelude.{◌≡◌, ◌≢◌, ℕ, ◌+◌, ◌^◌, ◌<◌, ◌≤◌, List, [], ◌∷◌, ◌++◌, length, take, drop, Some, OnOk, OnErr, IfOk, IfErr};
 ghost use Rattle.std.specs.Char.{len_utf8};
-ghost use Rattle.owl_text.specs.Utf8.{size};
+ghost use Rattle.owl_characters.specs.Utf8.{size};
 ghost use Rattle.owl_lexer.specs.Adding.{placed_at};
 ghost use Rattle.owl_lexer.specs.Giving.{nothing_at};
 ghost use Rattle.owl_lexer.specs.Hands.{Finishes, FinishesBadly, IsReady, Refuses, Takes, begun_of};
 
+use crate::fault::LexFault;
 use crate::language::TokenLanguage;
 use crate::placed::Placed;
-use owl_text::{LexFault, NoMemory};
+use owl_characters::NoMemory;
 use std::alloc::Global;
 
 /// The longest lexeme in front of the characters that are held: how many of

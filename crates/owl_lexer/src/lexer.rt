@@ -1,13 +1,14 @@
 //! Tokens of bytes that come in pieces.
 
 ghost use Rattle.std.specs.Prelude.{◌≡◌, ◌≢◌, ℕ, ◌+◌, ◌^◌, ◌<◌, ◌≤◌, List, [], ◌∷◌, ◌++◌, length, true, false, None, Some, Err, OnOk, OnErr, IfErr};
-ghost use Rattle.owl_text.specs.declared.fault.LexFault.{LexFault};
-ghost use Rattle.owl_lexer.specs.BytesGiving.{AddsBytes, AddsBytesUpTo, AddsLastBytes, AddsSomeBytes, AddsSomeLastBytes, end_of_bytes, nothing_begun, nothing_fed};
+ghost use Rattle.owl_lexer.specs.declared.fault.LexFault.{LexFault};
+ghost use Rattle.owl_lexer.specs.Languages.{AreSpelled};
+ghost use Rattle.owl_lexer.specs.Lexing.{Adds, AddsLast, AddsSome, AddsSomeLast, EndsAt, HoldsNone, end_of, nothing_begun, nothing_fed};
 
+use crate::fault::LexFault;
 use crate::language::TokenLanguage;
 use crate::placed::Placed;
 use crate::source::{Source, end, fresh_source, take_all};
-use owl_text::LexFault;
 use std::alloc::Global;
 use std::marker::{Model, PhantomData};
 
@@ -24,15 +25,15 @@ pub struct Lexer<L: TokenLanguage> {
 
 impl<L: TokenLanguage> Model for Lexer<L> {
     ghost use Rattle.std.specs.Prelude.{◌≡◌, ◌≤◌, ◌^◌, None};
-    ghost use Rattle.owl_lexer.specs.BytesGiving.{Lexing, end_of_bytes};
-    ghost use Rattle.owl_lexer.specs.Sources.{IsOpen, begun_in};
+    ghost use Rattle.owl_lexer.specs.Lexing.{Lexing, end_of};
+    ghost use Rattle.owl_lexer.specs.Sources.{IsOpen, bytes_in};
 
     ghost Value = { Lexing };
 
-    ghost view = { λ lexer. record { begun = begun_in lexer.source; refused = lexer.refused } };
+    ghost view = { λ lexer. record { begun = bytes_in lexer.source; refused = lexer.refused } };
 
     ghost invariant = { λ lexer. lexer.refused ≡ None →
-        IsOpen L.automaton lexer.source × (end_of_bytes (begun_in lexer.source) ≤ 2 ^ 62) };
+        IsOpen L.automaton lexer.source × (end_of (bytes_in lexer.source) ≤ 2 ^ 62) };
 }
 
 impl<L: TokenLanguage> Lexer<L> {
@@ -51,26 +52,27 @@ impl<L: TokenLanguage> Lexer<L> {
     /// of `into`. A byte order mark in front of all is passed over.
     ///
     /// `BadUtf8` and `BadToken` come only where at their place no character,
-    /// or no lexeme, begins, whatever bytes follow; the tokens before that
-    /// place were given. `Memory` comes where memory runs out; `into` then has
-    /// what it had and perhaps some of the next tokens. A lexer that has
-    /// refused answers the same refusal from then on, and takes nothing.
+    /// or neither a token nor white space nor a comment, begins, whatever bytes
+    /// follow; the tokens before that place were given. `Memory` comes where
+    /// memory runs out; `into` then has what it had and perhaps some of the
+    /// next tokens. A lexer that has refused answers the same refusal from then
+    /// on, and takes nothing. Each token that white space follows is given at
+    /// once.
     pub fn feed(&mut self, piece: &[u8], into: &mut Vec<Placed<L::Token>>) -> Result<(), LexFault>
-        requires { end_of_bytes self.old.begun + length piece.now ≤ 2 ^ 62 }
+        requires { end_of self.old.begun + length piece.now ≤ 2 ^ 62 }
         ensures ok { OnOk result
-            (AddsBytes L.automaton L.value_of self.old.begun piece.now
-            into.old.items into.new.items self.new.begun) }
+            (Adds L.spells self.old.begun piece.now into.old.items into.new.items self.new.begun) }
         ensures bad { self.old.refused ≡ None → IfErr result (λ fault. fault ≢ LexFault.Memory →
-            AddsBytesUpTo L.automaton L.value_of self.old.begun piece.now
-            into.old.items into.new.items fault) }
+            EndsAt L.spells self.old.begun piece.now into.old.items into.new.items fault) }
         ensures some { OnErr result
-            (AddsSomeBytes L.automaton L.value_of self.old.begun piece.now
-            into.old.items into.new.items) }
+            (AddsSome L.spells self.old.begun piece.now into.old.items into.new.items) }
+        ensures spelled { AreSpelled L.spells into.old.items → AreSpelled L.spells into.new.items }
         ensures few { OnOk result
             (length into.new.items + length self.new.begun.held
             ≤ length into.old.items + length self.old.begun.held + length piece.now) }
+        ensures early { OnOk result (HoldsNone L.spells self.new.begun) }
         ensures end { OnOk result
-            (end_of_bytes self.new.begun ≡ end_of_bytes self.old.begun + length piece.now) }
+            (end_of self.new.begun ≡ end_of self.old.begun + length piece.now) }
         ensures open_yet { OnOk result ((self.old.refused ≡ None) × (self.new.refused ≡ None)) }
         ensures keeps { IfErr result (λ fault. self.new.refused ≡ Some fault) }
         ensures same { (fault : LexFault) → self.old.refused ≡ Some fault →
@@ -79,40 +81,33 @@ impl<L: TokenLanguage> Lexer<L> {
         if let Some(fault) = self.refused {
             return Err(fault);
         }
-        match take_all::<L>(&mut self.source, piece, into) {
-            Ok(()) => Ok(()),
-            Err(fault) => {
-                self.refused = Some(fault);
-                Err(fault)
-            }
-        }
+        let told = take_all::<L>(&mut self.source, piece, into);
+        self.refused = told.err();
+        told
     }
 
     /// Adds the last tokens, which the end makes whole.
     ///
     /// `BadUtf8` and `BadToken` come exactly where at their place no
-    /// character, or no lexeme, begins; the tokens before that place were
+    /// character, or neither a token nor white space nor a comment, begins; the tokens before that place were
     /// given. `Memory` comes where memory runs out; `into` then has what it
     /// had and perhaps some of the last tokens. After a refusal the lexer
     /// answers the same one from then on. After an answer it begins afresh,
     /// at the place of the next byte.
     pub fn finish(&mut self, into: &mut Vec<Placed<L::Token>>) -> Result<(), LexFault>
         ensures ok { OnOk result
-            (AddsLastBytes L.automaton L.value_of self.old.begun
-            into.old.items into.new.items None) }
+            (AddsLast L.spells self.old.begun into.old.items into.new.items None) }
         ensures bad { self.old.refused ≡ None → IfErr result (λ fault. fault ≢ LexFault.Memory →
-            AddsLastBytes L.automaton L.value_of self.old.begun
-            into.old.items into.new.items (Some fault)) }
+            AddsLast L.spells self.old.begun into.old.items into.new.items (Some fault)) }
         ensures some { OnErr result
-            (AddsSomeLastBytes L.automaton L.value_of self.old.begun
-            into.old.items into.new.items) }
+            (AddsSomeLast L.spells self.old.begun into.old.items into.new.items) }
+        ensures spelled { AreSpelled L.spells into.old.items → AreSpelled L.spells into.new.items }
         ensures few { OnOk result
-            (length into.new.items
-            ≤ length into.old.items + length self.old.begun.held) }
+            (length into.new.items ≤ length into.old.items + length self.old.begun.held) }
         ensures open_yet { OnOk result (self.old.refused ≡ None) }
         ensures again { OnOk result
             (self.new
-            ≡ record { begun = nothing_begun (end_of_bytes self.old.begun); refused = None }) }
+            ≡ record { begun = nothing_begun (end_of self.old.begun); refused = None }) }
         ensures keeps { IfErr result (λ fault. self.new.refused ≡ Some fault) }
         ensures same { (fault : LexFault) → self.old.refused ≡ Some fault →
             (result ≡ Err fault) × (self.new ≡ self.old) × (into.new.items ≡ into.old.items) }
@@ -120,12 +115,8 @@ impl<L: TokenLanguage> Lexer<L> {
         if let Some(fault) = self.refused {
             return Err(fault);
         }
-        match end::<L>(&mut self.source, into) {
-            Ok(()) => Ok(()),
-            Err(fault) => {
-                self.refused = Some(fault);
-                Err(fault)
-            }
-        }
+        let told = end::<L>(&mut self.source, into);
+        self.refused = told.err();
+        told
     }
 }

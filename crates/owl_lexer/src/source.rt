@@ -1,14 +1,16 @@
 //! What a lexer has in hand of bytes, and how it takes more.
 
 ghost use Rattle.std.specs.Prelude.{◌≡◌, ◌+◌, ◌^◌, ◌<◌, ◌≤◌, List, [], ◌∷◌, ◌++◌, length, true, false, ◌&&◌, OnOk, IfErr};
-ghost use Rattle.owl_text.specs.Tokens.{is_mark};
-ghost use Rattle.owl_lexer.specs.BytesGiving.{end_of_bytes, nothing_fed};
-ghost use Rattle.owl_lexer.specs.Sources.{EndsBytes, EndsBytesBadly, IsOpen, RefusesBytes, TakesBytes, begun_in};
+ghost use Rattle.owl_characters.specs.Utf8.{is_mark};
+ghost use Rattle.owl_lexer.specs.BytesGiving.{end_of_bytes};
+ghost use Rattle.owl_lexer.specs.Lexing.{end_of, nothing_fed};
+ghost use Rattle.owl_lexer.specs.Sources.{EndsPieces, EndsPiecesBadly, IsOpen, RefusesBytes, RefusesPiece, TakesBytes, TakesPiece, begun_in, bytes_in};
 
+use crate::fault::LexFault;
 use crate::hand::{Hand, empty_hand, finish, push};
 use crate::language::TokenLanguage;
 use crate::placed::Placed;
-use owl_text::{LexFault, Utf8Feed, Utf8Step};
+use owl_characters::{Utf8Feed, Utf8Step};
 use std::alloc::Global;
 
 const BYTE_ORDER_MARK: char = '\u{FEFF}';
@@ -25,7 +27,7 @@ pub struct Source {
 /// Nothing in hand, and nothing fed. Takes no memory.
 pub fn fresh_source<L: TokenLanguage>(alloc: Global) -> Source
     ensures ready { IsOpen L.automaton result }
-    ensures begun { begun_in result ≡ nothing_fed }
+    ensures begun { bytes_in result ≡ nothing_fed }
 {
     Source {
         hand: empty_hand::<L>(alloc, 0),
@@ -82,12 +84,12 @@ pub fn take_all<L: TokenLanguage>(
     into: &mut Vec<Placed<L::Token>>,
 ) -> Result<(), LexFault>
     requires ready { IsOpen L.automaton source.old }
-    requires room { end_of_bytes (begun_in source.old) + length bytes.now ≤ 2 ^ 62 }
+    requires room { end_of (bytes_in source.old) + length bytes.now ≤ 2 ^ 62 }
     ensures ok { OnOk result
-        (TakesBytes L.automaton L.value_of source.old bytes.now
+        (TakesPiece L.automaton L.spells source.old bytes.now
         into.old.items into.new.items source.new) }
     ensures err { IfErr result (λ fault.
-        RefusesBytes L.automaton L.value_of (begun_in source.old) bytes.now
+        RefusesPiece L.spells (bytes_in source.old) bytes.now
         into.old.items into.new.items fault) }
 {
     for byte in bytes {
@@ -104,12 +106,11 @@ pub fn end<L: TokenLanguage>(
     into: &mut Vec<Placed<L::Token>>,
 ) -> Result<(), LexFault>
     requires ready { IsOpen L.automaton source.old }
-    requires room { end_of_bytes (begun_in source.old) ≤ 2 ^ 62 }
+    requires room { end_of (bytes_in source.old) ≤ 2 ^ 62 }
     ensures ok { OnOk result
-        (EndsBytes L.automaton L.value_of source.old into.old.items into.new.items source.new) }
+        (EndsPieces L.automaton L.spells source.old into.old.items into.new.items source.new) }
     ensures err { IfErr result (λ fault.
-        EndsBytesBadly L.automaton L.value_of (begun_in source.old)
-        into.old.items into.new.items fault) }
+        EndsPiecesBadly L.spells (bytes_in source.old) into.old.items into.new.items fault) }
 {
     source.fresh = false;
     let whole = source.feed.finish();

@@ -4,7 +4,7 @@ ghost use Rattle.std.specs.Prelude.{◌≡◌, ◌<◌, ◌≤◌, ◌++◌, ◌
 ghost use Rattle.std.specs.Str.{encode_utf8_all};
 ghost use Rattle.owl_port.specs.Outside.{raised};
 
-use owl_text::Text;
+use owl_characters::Text;
 use std::marker::Model;
 
 /// A document, of which contracts see the name, the bytes that are left, and

@@ -8,7 +8,7 @@ ghost use Rattle.owl_port.specs.MemShelf.{document_in, left_in, faults_in, left_
 use crate::document::Document;
 use crate::outside::{Failed, Shelf};
 use crate::turn::Turns;
-use owl_text::{NoMemory, Text};
+use owl_characters::{NoMemory, Text};
 use std::alloc::Global;
 use std::marker::Model;
 

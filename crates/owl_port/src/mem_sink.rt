@@ -5,7 +5,7 @@ ghost use Rattle.owl_port.specs.Outside.{Rose, raised};
 
 use crate::outside::{Failed, Sink};
 use crate::turn::Turns;
-use owl_text::NoMemory;
+use owl_characters::NoMemory;
 use std::alloc::Global;
 use std::marker::Model;
 

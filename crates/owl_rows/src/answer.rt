@@ -3,8 +3,8 @@
 use crate::devices::Devices;
 use crate::fault::RowFault;
 use crate::row::{Document, Row};
+use owl_characters::{NoMemory, Text};
 use owl_port::{MemShelf, MemSink};
-use owl_text::{NoMemory, Text};
 use std::alloc::{AllocError, Global};
 
 /// What came of a run: the exit status, and what was written and noted.

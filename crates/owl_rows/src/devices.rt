@@ -4,8 +4,8 @@ ghost use Rattle.std.specs.Prelude.{◌<◌};
 
 use crate::fault::RowFault;
 use crate::line::{number_of, set};
+use owl_characters::NoMemory;
 use owl_port::{MemShelf, MemSink};
-use owl_text::NoMemory;
 use std::alloc::Global;
 
 /// How many bytes the output takes where nothing is set.

@@ -1,6 +1,6 @@
 //! Why a row can't be run.
 
-use owl_text::NoMemory;
+use owl_characters::NoMemory;
 use std::alloc::{AllocError, AllocFailed};
 use thiserror::Error;
 

@@ -4,13 +4,14 @@ use Rattle.std.specs.Prelude.{codes, nat_lt, nat_le, ◌==◌, if◌then◌else�
 use Rattle.std.specs.Char.{is_ascii_digit}
 use Rattle.std.specs.Int.{is_in_range}
 use Rattle.std.specs.List.{list_all}
-use Rattle.std.proofs.lemmas.Bool.{and_parts, or_cases, cond-true, cond-false, false_from_ne_true, leb-true, ltb-true}
-use Rattle.owl_text.specs.Names.{in_ranges, base_ranges, start_ranges, is_base, is_start, IsNameFrom, IsRunOf, IsPrefixName}
-use Rattle.owl_text.specs.Tokens.{Spells}
-use Rattle.owl_text.specs.declared.token.Token.{Token}
-use Rattle.owl_text.specs.declared.token.Token.TheVariants.{Iri, Name, Blank, Str, At, Word, Int, Sign}
-use Rattle.owl_text.specs.declared.token.Sign.{Sign as Mark}
-use Rattle.owl_text.specs.declared.token.Sign.TheVariants.{Open, Close, Equals, Carets}
+use Rattle.std.proofs.lemmas.Bool.{and_parts, both_ways, eqb-true, or_cases, cond-true, cond-false, false_from_ne_true, leb-true, ltb-true}
+use Rattle.owl_characters.specs.Iri.{is_among}
+use Rattle.owl_characters.specs.Names.{in_ranges, base_ranges, start_ranges, is_base, is_start, IsNameFrom, IsRunOf, IsPrefixName}
+use Rattle.owl_tokens.specs.Tokens.{Spells}
+use Rattle.owl_tokens.specs.declared.token.Token.{Token}
+use Rattle.owl_tokens.specs.declared.token.Token.TheVariants.{Iri, Name, Blank, Str, At, Word, Int, Dec, Sign}
+use Rattle.owl_tokens.specs.declared.token.Sign.{Sign as Mark}
+use Rattle.owl_tokens.specs.declared.token.Sign.TheVariants.{Open, Close, Equals, Carets}
 
 -- what a first character is: of PN_CHARS_BASE, a digit, or another one
 pub data Lead : Type 0 where
@@ -36,11 +37,18 @@ is_mark n letter = false
 is_mark n digit = false
 is_mark n (mark c) = c == n
 
-abbrev pub sign_lead : Mark → ℕ
-sign_lead Open = 40
-sign_lead Close = 41
-sign_lead Equals = 61
-sign_lead Carets = 94
+-- a punctuation mark of the syntax begins with this character
+abbrev pub sign_begins : Mark → ℕ → Bool
+sign_begins Open c = c == 40
+sign_begins Close c = c == 41
+sign_begins Equals c = c == 61
+sign_begins Carets c = c == 94
+sign_begins sign c = false
+
+abbrev pub is_sign : Mark → Lead → Bool
+is_sign sign letter = false
+is_sign sign digit = false
+is_sign sign (mark c) = sign_begins sign c
 
 -- a token of this kind may begin so
 abbrev pub fits : Token → Lead → Bool
@@ -51,7 +59,8 @@ fits (Str text) l = is_mark 34 l
 fits (At tag) l = is_mark 64 l
 fits (Word word) l = is_letter l || is_mark 95 l
 fits (Int digits) l = is_digit l
-fits (Sign sign) l = is_mark (sign_lead sign) l
+fits (Dec number) l = false
+fits (Sign sign) l = is_sign sign l
 
 -- a character of a range lies above what all ranges lie above
 pub above : (ranges : List (ℕ × ℕ)) (n c : ℕ) → list_all (λ range. nat_lt n range.0) ranges ≡ true → in_ranges ranges c ≡ true → n < c
@@ -134,56 +143,60 @@ spelled_lead (Word word) s h =
 spelled_lead (Int digits) s h =
     let l = int_lead digits h.0 in
     record { head = l.head; tail = l.tail; is = h.1 ∙ l.is; leads = l.leads }
+spelled_lead (Dec number) s h = absurd h
 spelled_lead (Sign Open) s h = record { head = 40; tail = _; is = h; leads = refl }
 spelled_lead (Sign Close) s h = record { head = 41; tail = _; is = h; leads = refl }
 spelled_lead (Sign Equals) s h = record { head = 61; tail = _; is = h; leads = refl }
 spelled_lead (Sign Carets) s h = record { head = 94; tail = _; is = h; leads = refl }
+spelled_lead (Sign sign) s h = absurd h
 
 -- tokens by their first character
+
+no_sign : (sign : Mark) (c : ℕ) → is_among (codes "()=^") c ≡ false → sign_begins sign c ≡ true → ⊥
+no_sign Open c n h = both_ways (is_among (codes "()=^") c) n (ap (is_among (codes "()=^")) (eqb-true c 40 h))
+no_sign Close c n h = both_ways (is_among (codes "()=^") c) n (ap (is_among (codes "()=^")) (eqb-true c 41 h))
+no_sign Equals c n h = both_ways (is_among (codes "()=^") c) n (ap (is_among (codes "()=^")) (eqb-true c 61 h))
+no_sign Carets c n h = both_ways (is_among (codes "()=^") c) n (ap (is_among (codes "()=^")) (eqb-true c 94 h))
+no_sign sign c n h = cc
+
 pub only_iri : (u : Token) → fits u (mark 60) ≡ true → (iri : List ℕ) × (u ≡ Iri iri)
 only_iri (Iri iri) h = (iri, refl)
-only_iri (Sign Open) h = cc
-only_iri (Sign Close) h = cc
-only_iri (Sign Equals) h = cc
-only_iri (Sign Carets) h = cc
+only_iri (Sign sign) h = absurd (no_sign sign 60 refl h)
 only_iri u h = cc
 
 pub only_str : (u : Token) → fits u (mark 34) ≡ true → (text : List ℕ) × (u ≡ Str text)
 only_str (Str text) h = (text, refl)
-only_str (Sign Open) h = cc
-only_str (Sign Close) h = cc
-only_str (Sign Equals) h = cc
-only_str (Sign Carets) h = cc
+only_str (Sign sign) h = absurd (no_sign sign 34 refl h)
 only_str u h = cc
 
 pub only_at : (u : Token) → fits u (mark 64) ≡ true → (tag : List ℕ) × (u ≡ At tag)
 only_at (At tag) h = (tag, refl)
-only_at (Sign Open) h = cc
-only_at (Sign Close) h = cc
-only_at (Sign Equals) h = cc
-only_at (Sign Carets) h = cc
+only_at (Sign sign) h = absurd (no_sign sign 64 refl h)
 only_at u h = cc
 
 pub only_int : (u : Token) → fits u digit ≡ true → (digits : List ℕ) × (u ≡ Int digits)
 only_int (Int digits) h = (digits, refl)
 only_int u h = cc
 
-pub only_sign : (sign : Mark) (u : Token) → fits u (mark (sign_lead sign)) ≡ true → u ≡ Sign sign
-only_sign Open (Sign Open) h = refl
-only_sign Close (Sign Close) h = refl
-only_sign Equals (Sign Equals) h = refl
-only_sign Carets (Sign Carets) h = refl
-only_sign Open u h = cc
-only_sign Close u h = cc
-only_sign Equals u h = cc
-only_sign Carets u h = cc
+pub only_open : (u : Token) → fits u (mark 40) ≡ true → u ≡ Sign Open
+only_open (Sign Open) h = refl
+only_open u h = cc
+
+pub only_close : (u : Token) → fits u (mark 41) ≡ true → u ≡ Sign Close
+only_close (Sign Close) h = refl
+only_close u h = cc
+
+pub only_equals : (u : Token) → fits u (mark 61) ≡ true → u ≡ Sign Equals
+only_equals (Sign Equals) h = refl
+only_equals u h = cc
+
+pub only_carets : (u : Token) → fits u (mark 94) ≡ true → u ≡ Sign Carets
+only_carets (Sign Carets) h = refl
+only_carets u h = cc
 
 pub only_name : (u : Token) → fits u (mark 58) ≡ true → (prefix : List ℕ) × (local : List ℕ) × (u ≡ Name prefix local)
 only_name (Name prefix local) h = (prefix, local, refl)
-only_name (Sign Open) h = cc
-only_name (Sign Close) h = cc
-only_name (Sign Equals) h = cc
-only_name (Sign Carets) h = cc
+only_name (Sign sign) h = absurd (no_sign sign 58 refl h)
 only_name u h = cc
 
 pub name_or_word : (u : Token) → fits u letter ≡ true → ((prefix : List ℕ) × (local : List ℕ) × (u ≡ Name prefix local)) ⊎ ((word : List ℕ) × (u ≡ Word word))
@@ -194,10 +207,7 @@ name_or_word u h = cc
 pub blank_or_word : (u : Token) → fits u (mark 95) ≡ true → ((label : List ℕ) × (u ≡ Blank label)) ⊎ ((word : List ℕ) × (u ≡ Word word))
 blank_or_word (Blank label) h = inl (label, refl)
 blank_or_word (Word word) h = inr (word, refl)
-blank_or_word (Sign Open) h = cc
-blank_or_word (Sign Close) h = cc
-blank_or_word (Sign Equals) h = cc
-blank_or_word (Sign Carets) h = cc
+blank_or_word (Sign sign) h = absurd (no_sign sign 95 refl h)
 blank_or_word u h = cc
 
 -- what stands where a token stands begins alike

@@ -5,16 +5,17 @@ use Rattle.std.specs.Char.{is_ascii_digit, is_ascii_hexdigit}
 use Rattle.std.specs.List.{AllByRecursion}
 use Rattle.std.proofs.lemmas.Bool.{cases_Bool, cond-true, cond-false, or_cases, or_left, or_right, and_from, both_ways}
 use Rattle.std.proofs.lemmas.List.{append_assoc, length-append}
-use Rattle.owl_text.specs.Iri.{AllAre, is_among}
-use Rattle.owl_text.specs.Names.{in_ranges, start_ranges, part_ranges, is_base, is_start, is_part, is_inner, ends_in_dot, IsNameFrom, IsPrefixName, is_label_start, is_escapable, Piece, plain, percent, escaped, piece_spelling, IsPieceOf, is_local_start, is_local_inner, ends_in_plain_dot, AreLocalPieces, SpellsLocal, begins_with, is_dot}
-use Rattle.owl_text.specs.Tokens.{Spells, IsLongest}
-use Rattle.owl_text.specs.declared.token.Token.{Token}
-use Rattle.owl_text.specs.declared.token.Token.TheVariants.{Name, Blank, Word}
+use Rattle.owl_characters.specs.Iri.{AllAre, is_among}
+use Rattle.owl_characters.specs.Names.{in_ranges, start_ranges, part_ranges, is_base, is_start, is_part, is_inner, ends_in_dot, IsNameFrom, IsPrefixName, is_label_start, is_escapable, Piece, plain, percent, escaped, piece_spelling, IsPieceOf, is_local_start, is_local_inner, ends_in_plain_dot, AreLocalPieces, SpellsLocal, begins_with, is_dot}
+use Rattle.owl_lexer.specs.Splitting.{IsLongest}
+use Rattle.owl_tokens.specs.Tokens.{Spells}
+use Rattle.owl_tokens.specs.declared.token.Token.{Token}
+use Rattle.owl_tokens.specs.declared.token.Token.TheVariants.{Name, Blank, Word}
 use Rattle.owl_text.specs.LeadLaws.{Lead, lead, lead_letter, underscore, fits, other_fits, only_name, name_or_word, blank_or_word}
-use Rattle.owl_text.specs.NameLaws.{name_dot, prefix_dot, prefix_inner, word_inner, name_inner, ends_in_dot-append}
-use Rattle.owl_text.specs.SpellingLaws.{is_plain, local_pieces_plain, same_piece}
-use Rattle.owl_text.specs.CutLaws.{both, same_cut, same_seam, front_within, overhang_or_within}
-use Rattle.owl_text.specs.AllAreLaws.{AllAre-back}
+use Rattle.owl_characters.specs.NameLaws.{name_dot, prefix_dot, prefix_inner, word_inner, name_inner, ends_in_dot-append}
+use Rattle.owl_tokens.specs.SpellingLaws.{ends_in_plain_dot-append, is_plain, local_pieces_plain, same_piece}
+use Rattle.owl_characters.specs.CutLaws.{both, same_cut, same_seam, front_within, overhang_or_within}
+use Rattle.owl_characters.specs.AllAreLaws.{AllAre-back}
 
 -- behind dots, a name goes on
 abbrev pub name_goes_on : List ℕ → Bool
@@ -82,7 +83,7 @@ no_blank_here c (x ∷ cs) rest (d ∷ label) longer more t s h e =
     let second : x ≡ 58 = cc in
     both is_inner x 58 second t.1.0 refl
 
-pub word_is_longest : (w spelling rest : List ℕ) → Spells (Word w) spelling → WordStops w rest → IsLongest spelling rest
+pub word_is_longest : (w spelling rest : List ℕ) → Spells (Word w) spelling → WordStops w rest → IsLongest Spells spelling rest
 word_is_longest w spelling rest h s other longer more k e =
     subst (λ (x : List ℕ). length longer ≤ length x) (sym h.1) (go w h.0 s (ap (λ (x : List ℕ). x ++ rest) (sym h.1) ∙ e))
   where
@@ -101,7 +102,7 @@ word_is_longest w spelling rest h s other longer more k e =
 
 -- labels
 
-pub blank_is_longest : (label spelling rest : List ℕ) → Spells (Blank label) spelling → name_goes_on rest ≡ false → IsLongest spelling rest
+pub blank_is_longest : (label spelling rest : List ℕ) → Spells (Blank label) spelling → name_goes_on rest ≡ false → IsLongest Spells spelling rest
 blank_is_longest label spelling rest h n other longer more k e =
     let e2 : 95 ∷ 58 ∷ (label ++ rest) ≡ longer ++ more = ap (λ (x : List ℕ). x ++ rest) (sym h.1) ∙ e in
     let wide : length spelling ≡ length label + 2 = ap (λ (x : List ℕ). length x) h.1 ∙ omega arith in
@@ -181,15 +182,6 @@ pieces_back : (p : Piece → Type 0) (xs ys : List Piece) → AllByRecursion p (
 pieces_back p [] ys h = h
 pieces_back p (x ∷ xs) ys h = pieces_back p xs ys h.1
 
-pub ends_in_plain_dot-append : (xs : List Piece) (z : Piece) (zs : List Piece) → ends_in_plain_dot (xs ++ z ∷ zs) ≡ ends_in_plain_dot (z ∷ zs)
-ends_in_plain_dot-append [] z zs = refl
-ends_in_plain_dot-append (plain c ∷ []) z zs = refl
-ends_in_plain_dot-append (percent a b ∷ []) z zs = refl
-ends_in_plain_dot-append (escaped c ∷ []) z zs = refl
-ends_in_plain_dot-append (plain c ∷ y ∷ ys) z zs = ends_in_plain_dot-append (y ∷ ys) z zs
-ends_in_plain_dot-append (percent a b ∷ y ∷ ys) z zs = ends_in_plain_dot-append (y ∷ ys) z zs
-ends_in_plain_dot-append (escaped c ∷ y ∷ ys) z zs = ends_in_plain_dot-append (y ∷ ys) z zs
-
 local_goes : (z : Piece) (zs : List Piece) (b : List ℕ) → AllByRecursion (IsPieceOf is_local_inner) (z ∷ zs) → ends_in_plain_dot (z ∷ zs) ≡ false → local_goes_on (flat_map piece_spelling (z ∷ zs) ++ b) ≡ true
 local_goes (plain c) [] b h d = cond-false (is_dot c) (local_goes_on b) (is_local_inner c || escape_begins c b) d ∙ or_left (is_local_inner c) (escape_begins c b) h.0
 local_goes (plain c) (y ∷ ys) b h d =
@@ -243,7 +235,7 @@ names_within p l v q m longer rest more s h k n e =
     let f : length p ≡ length q = ap (λ (x : List ℕ). length x) cut.front in
     omega (arith, l, ap (λ (x : List ℕ). length x) h.is, ap (λ (x : List ℕ). length x) k.3, length-append p (58 ∷ v), length-append q (58 ∷ k.0))
 
-pub name_is_longest : (p l v s rest : List ℕ) → NameSpelling p l v s → written_goes_on v rest ≡ false → IsLongest s rest
+pub name_is_longest : (p l v s rest : List ℕ) → NameSpelling p l v s → written_goes_on v rest ≡ false → IsLongest Spells s rest
 name_is_longest [] l v s rest h n other longer more k e =
     let e2 : 58 ∷ (v ++ rest) ≡ longer ++ more = ap (λ (x : List ℕ). x ++ rest) (sym h.is) ∙ e in
     let o = only_name other (other_fits 58 v rest other longer more k e2) in

@@ -5,45 +5,40 @@ use Rattle.std.specs.Char.{is_ascii_alphabetic, is_ascii_alphanumeric, is_ascii_
 use Rattle.std.specs.Int.{is_in_range}
 use Rattle.std.proofs.lemmas.Bool.{cases_Bool, cond-true, cond-false, or_cases, or_left, or_right, or_parts, or_from, and_left, and_parts, both_ways, false_from_ne_true}
 use Rattle.std.proofs.lemmas.List.{append_assoc}
-use Rattle.owl_text.specs.Iri.{AllAre, is_among, is_iri_character}
-use Rattle.owl_text.specs.Names.{in_ranges, part_ranges, is_escapable, is_start, is_part, is_inner, is_local_start, is_local_inner, IsRunOf, begins_with, is_dot, is_colon, is_hyphen}
-use Rattle.owl_text.specs.Tokens.{Spells, IsLongest, sign_spelling, character_spelling}
-use Rattle.owl_text.specs.declared.token.Token.{Token}
-use Rattle.owl_text.specs.declared.token.Token.TheVariants.{Iri, Name, Blank, Str, At, Word, Int, Sign}
-use Rattle.owl_text.specs.declared.token.Sign.{Sign as Mark}
-use Rattle.owl_text.specs.declared.token.Sign.TheVariants.{Open, Close, Equals, Carets}
-use Rattle.owl_text.specs.Subtags.{tag_fits, test_behind}
-use Rattle.owl_text.specs.LeadLaws.{Lead, lead, lead_digit, fits, other_fits, sign_lead, only_iri, only_str, only_at, only_int, only_sign}
-use Rattle.owl_text.specs.SpellingLaws.{same_text}
+use Rattle.owl_characters.specs.Iri.{AllAre, is_among, is_iri_character}
+use Rattle.owl_characters.specs.Names.{in_ranges, part_ranges, is_escapable, is_start, is_part, is_inner, is_local_start, is_local_inner, IsRunOf, begins_with, is_dot, is_colon, is_hyphen}
+use Rattle.owl_lexer.specs.Splitting.{IsLongest}
+use Rattle.owl_tokens.specs.Tokens.{Spells, character_spelling}
+use Rattle.owl_tokens.specs.declared.token.Token.{Token}
+use Rattle.owl_tokens.specs.declared.token.Token.TheVariants.{Iri, Name, Blank, Str, At, Word, Int, Sign}
+use Rattle.owl_tokens.specs.declared.token.Sign.{Sign as Mark}
+use Rattle.owl_tokens.specs.declared.token.Sign.TheVariants.{Open, Close, Equals, Carets}
+use Rattle.owl_characters.specs.Subtags.{tag_fits, test_behind}
+use Rattle.owl_text.specs.LeadLaws.{Lead, lead, lead_digit, fits, other_fits, only_iri, only_str, only_at, only_int, only_open, only_close, only_equals, only_carets}
+use Rattle.owl_tokens.specs.SpellingLaws.{same_text}
 use Rattle.owl_text.specs.LongestNameLaws.{name_goes_on, local_goes_on, written_goes_on, escape_begins, two_hex, WordStops, word_is_longest, blank_is_longest, name_is_longest}
-use Rattle.owl_text.specs.CutLaws.{both, same_cut, overhang_or_within}
-use Rattle.owl_text.specs.AllAreLaws.{AllAre-back}
-use Rattle.owl_text.specs.LanguageTagLaws.{alphabetic_is_alphanumeric, alphanumeric_from, tag_behind, tag_to_fits}
-use Rattle.owl_text.specs.IriLaws.{iri_characters}
+use Rattle.owl_characters.specs.CutLaws.{both, same_cut, overhang_or_within}
+use Rattle.owl_characters.specs.AllAreLaws.{AllAre-back}
+use Rattle.owl_characters.specs.LanguageTagLaws.{alphabetic_is_alphanumeric, alphanumeric_from, tag_behind, tag_to_fits}
+use Rattle.owl_characters.specs.IriLaws.{iri_characters}
 
 -- which tokens are the longest, whatever follows
 
-sign_head : (sign : Mark) → (tail : List ℕ) × (sign_spelling sign ≡ sign_lead sign ∷ tail)
-sign_head Open = ([], refl)
-sign_head Close = ([], refl)
-sign_head Equals = ([], refl)
-sign_head Carets = (94 ∷ [], refl)
+mark_longest : (sign : Mark) (c : ℕ) (tail spelling rest : List ℕ) → spelling ≡ c ∷ tail → ((u : Token) → fits u (lead c) ≡ true → u ≡ Sign sign) → ((longer : List ℕ) → Spells (Sign sign) longer → longer ≡ spelling) → IsLongest Spells spelling rest
+mark_longest sign c tail spelling rest is only same other longer more k e =
+    let e2 : c ∷ (tail ++ rest) ≡ longer ++ more = ap (λ (x : List ℕ). x ++ rest) (sym is) ∙ e in
+    let one = only other (other_fits c tail rest other longer more k e2) in
+    let all : longer ≡ spelling = same longer (subst (λ (x : Token). Spells x longer) one k) in
+    omega (arith, ap (λ (x : List ℕ). length x) all)
 
-sign_is_mark : (sign : Mark) (u : Token) → fits u (lead (sign_lead sign)) ≡ true → u ≡ Sign sign
-sign_is_mark Open u h = only_sign Open u h
-sign_is_mark Close u h = only_sign Close u h
-sign_is_mark Equals u h = only_sign Equals u h
-sign_is_mark Carets u h = only_sign Carets u h
+pub sign_longest : (sign : Mark) (spelling rest : List ℕ) → Spells (Sign sign) spelling → IsLongest Spells spelling rest
+sign_longest Open spelling rest h = mark_longest Open 40 [] spelling rest h only_open (λ longer k. k ∙ sym h)
+sign_longest Close spelling rest h = mark_longest Close 41 [] spelling rest h only_close (λ longer k. k ∙ sym h)
+sign_longest Equals spelling rest h = mark_longest Equals 61 [] spelling rest h only_equals (λ longer k. k ∙ sym h)
+sign_longest Carets spelling rest h = mark_longest Carets 94 (94 ∷ []) spelling rest h only_carets (λ longer k. k ∙ sym h)
+sign_longest sign spelling rest h = absurd h
 
-pub sign_longest : (sign : Mark) (spelling rest : List ℕ) → Spells (Sign sign) spelling → IsLongest spelling rest
-sign_longest sign spelling rest h other longer more k e =
-    let head = sign_head sign in
-    let e2 : sign_lead sign ∷ (head.0 ++ rest) ≡ longer ++ more = ap (λ (x : List ℕ). x ++ rest) (sym (h ∙ head.1)) ∙ e in
-    let only = sign_is_mark sign other (other_fits (sign_lead sign) head.0 rest other longer more k e2) in
-    let same = subst (λ (x : Token). Spells x longer) only k in
-    omega (arith, ap (λ (x : List ℕ). length x) h, ap (λ (x : List ℕ). length x) same)
-
-pub iri_longest : (iri spelling rest : List ℕ) → Spells (Iri iri) spelling → IsLongest spelling rest
+pub iri_longest : (iri spelling rest : List ℕ) → Spells (Iri iri) spelling → IsLongest Spells spelling rest
 iri_longest iri spelling rest h other longer more k e =
     let e2 : 60 ∷ (iri ++ 62 ∷ rest) ≡ longer ++ more = sym (ap (λ (x : List ℕ). 60 ∷ x) (append_assoc iri (62 ∷ []) rest)) ∙ ap (λ (x : List ℕ). x ++ rest) (sym h.1) ∙ e in
     let o = only_iri other (other_begins 60 (iri ++ 62 ∷ rest) other longer more k e2) in
@@ -57,7 +52,7 @@ iri_longest iri spelling rest h other longer more k e =
     other_begins : (c : ℕ) (cs : List ℕ) (u : Token) (longer more : List ℕ) → Spells u longer → c ∷ cs ≡ longer ++ more → fits u (lead c) ≡ true
     other_begins c cs u longer more k e = other_fits c [] cs u longer more k e
 
-pub str_longest : (text spelling rest : List ℕ) → Spells (Str text) spelling → IsLongest spelling rest
+pub str_longest : (text spelling rest : List ℕ) → Spells (Str text) spelling → IsLongest Spells spelling rest
 str_longest text spelling rest h other longer more k e =
     let written = flat_map character_spelling text in
     let e2 : 34 ∷ (written ++ 34 ∷ rest) ≡ longer ++ more = sym (ap (λ (x : List ℕ). 34 ∷ x) (append_assoc written (34 ∷ []) rest)) ∙ ap (λ (x : List ℕ). x ++ rest) (sym h) ∙ e in
@@ -71,7 +66,7 @@ str_longest text spelling rest h other longer more k e =
 
 -- which tokens are the longest where what follows begins otherwise
 
-pub int_longest : (digits spelling rest : List ℕ) → Spells (Int digits) spelling → begins_with is_ascii_digit rest ≡ false → IsLongest spelling rest
+pub int_longest : (digits spelling rest : List ℕ) → Spells (Int digits) spelling → begins_with is_ascii_digit rest ≡ false → IsLongest Spells spelling rest
 int_longest [] spelling rest h n other longer more k e = absurd h.0
 int_longest (c ∷ cs) spelling rest h n other longer more k e =
     let e2 : c ∷ (cs ++ rest) ≡ longer ++ more = ap (λ (x : List ℕ). x ++ rest) (sym h.1) ∙ e in
@@ -111,7 +106,7 @@ over_goes test z zs b h = elim (cases_Bool (is_hyphen z)) [
       | inr x ↦ (and_parts (is_ascii_alphanumeric c) (tag_fits is_ascii_alphanumeric true cs) (sym (cond-false (is_hyphen c) false (is_ascii_alphanumeric c && tag_fits is_ascii_alphanumeric true cs) x) ∙ h)).0
     ]
 
-pub tag_is_longest : (tag spelling rest : List ℕ) → Spells (At tag) spelling → tag_goes_on (test_behind is_ascii_alphabetic tag) rest ≡ false → IsLongest spelling rest
+pub tag_is_longest : (tag spelling rest : List ℕ) → Spells (At tag) spelling → tag_goes_on (test_behind is_ascii_alphabetic tag) rest ≡ false → IsLongest Spells spelling rest
 tag_is_longest tag spelling rest h n other longer more k e =
     let e2 : 64 ∷ (tag ++ rest) ≡ longer ++ more = ap (λ (x : List ℕ). x ++ rest) (sym h.1) ∙ e in
     let o = only_at other (other_fits 64 tag rest other longer more k e2) in
@@ -148,7 +143,7 @@ name_stays (c ∷ cs) h =
     let parts = or_parts (is_part c) (is_dot c) h in
     cond-false (is_dot c) (name_goes_on cs) (is_part c) parts.1 ∙ parts.0
 
-pub word_longest : (word spelling rest : List ℕ) → Spells (Word word) spelling → begins_with is_behind_word rest ≡ false → IsLongest spelling rest
+pub word_longest : (word spelling rest : List ℕ) → Spells (Word word) spelling → begins_with is_behind_word rest ≡ false → IsLongest Spells spelling rest
 word_longest word spelling rest h n = word_is_longest word spelling rest h (go rest n)
   where
     go : (rest : List ℕ) → begins_with is_behind_word rest ≡ false → WordStops word rest
@@ -161,7 +156,7 @@ word_longest word spelling rest h n = word_is_longest word spelling rest h (go r
           no_blank = λ more e f. let first : c ≡ 58 = cc in absurd (both is_colon 58 c (sym first) refl parts.1);
         }
 
-pub blank_longest : (label spelling rest : List ℕ) → Spells (Blank label) spelling → begins_with is_inner rest ≡ false → IsLongest spelling rest
+pub blank_longest : (label spelling rest : List ℕ) → Spells (Blank label) spelling → begins_with is_inner rest ≡ false → IsLongest Spells spelling rest
 blank_longest label spelling rest h n = blank_is_longest label spelling rest h (name_stays rest n)
 
 start_of_part : (c : ℕ) → is_local_start c ≡ true → is_local_inner c ≡ true
@@ -190,11 +185,11 @@ written_stays (w ∷ ws) (c ∷ cs) h =
     let dot = or_parts (46 == c) (is_colon c) dots.1 in
     cond-false (is_dot c) (local_goes_on cs) (is_local_inner c || escape_begins c cs) (not_among 46 c dot.0) ∙ or_from (is_local_inner c) (escape_begins c cs) parts.0 (no_escape c cs parts.1)
 
-pub name_longest : (prefix local spelling rest : List ℕ) → Spells (Name prefix local) spelling → begins_with is_behind_name rest ≡ false → IsLongest spelling rest
+pub name_longest : (prefix local spelling rest : List ℕ) → Spells (Name prefix local) spelling → begins_with is_behind_name rest ≡ false → IsLongest Spells spelling rest
 name_longest prefix local spelling rest h n =
     name_is_longest prefix local h.0 spelling rest (record { named = h.1; local_part = h.2; is = h.3 }) (written_stays h.0 rest n)
 
-pub tag_longest : (tag spelling rest : List ℕ) → Spells (At tag) spelling → begins_with is_behind_tag rest ≡ false → IsLongest spelling rest
+pub tag_longest : (tag spelling rest : List ℕ) → Spells (At tag) spelling → begins_with is_behind_tag rest ≡ false → IsLongest Spells spelling rest
 tag_longest tag spelling rest h n = tag_is_longest tag spelling rest h (go rest n)
   where
     go : (rest : List ℕ) → begins_with is_behind_tag rest ≡ false → tag_goes_on (test_behind is_ascii_alphabetic tag) rest ≡ false

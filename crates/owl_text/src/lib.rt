@@ -1,33 +1,19 @@
-//! Texts as lists of characters, and the tokens of Functional-Style Syntax.
+//! Texts as lists of characters, and the tokens of the two syntaxes.
 #![tactic(auto)]
 
-mod begin;
-mod bytes;
-mod fault;
-mod in_iri;
-mod in_name;
-mod in_tag;
-mod in_word;
-mod last;
+mod dialect;
 mod laws;
 mod lexer;
-mod limit;
-mod marks;
-mod mode;
-mod names;
-mod state;
-mod text;
-mod token;
-mod utf8;
-mod utf8_states;
-mod utf8_step;
 
-pub use fault::LexFault;
+pub use dialect::Dialect;
 pub use laws::tokens_come_one_way;
 pub use lexer::Lexer;
-pub use limit::MOST_BYTES;
-pub use names::{is_base, is_part, is_start, local_parts_fit_iris};
-pub use text::{NoMemory, Text};
-pub use token::{Dialect, Placed, Sign, Token};
-pub use utf8::Utf8Feed;
-pub use utf8_step::{BadUtf8, Utf8Step};
+pub use owl_characters::{
+    BadUtf8, MOST_BYTES, NoMemory, Text, Utf8Feed, Utf8Step, is_base, is_part, is_start,
+    local_parts_fit_iris,
+};
+pub use owl_lexer::LexFault;
+pub use owl_tokens::{Sign, Token};
+
+/// A token and the byte where it begins.
+pub type Placed = owl_lexer::Placed<Token>;

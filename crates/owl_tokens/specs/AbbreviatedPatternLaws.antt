@@ -7,14 +7,14 @@ use Rattle.std.proofs.lemmas.Bool.{both_ways, cond-true, eqb-true, false_from_ne
 use Rattle.std.proofs.lemmas.List.{append_assoc, length-append}
 use Rattle.owl_lexer.specs.Patterns.{Matches}
 use Rattle.owl_lexer.specs.PatternWords.{◌or◌, ◌then◌, maybe}
-use Rattle.owl_text.specs.Iri.{AllAre}
-use Rattle.owl_text.specs.NameLaws.{prefix_inner}
-use Rattle.owl_text.specs.Names.{IsLabel, IsPrefixName, SpellsLocal, is_inner, piece_text}
+use Rattle.owl_characters.specs.Iri.{AllAre}
+use Rattle.owl_characters.specs.NameLaws.{prefix_inner}
+use Rattle.owl_characters.specs.Names.{IsLabel, IsPrefixName, SpellsLocal, is_inner, piece_text}
 use Rattle.owl_tokens.specs.CharacterLaws.{SharedTests}
 use Rattle.owl_tokens.specs.IriPatternLaws.{colon_is}
 use Rattle.owl_tokens.specs.LocalPatternLaws.{local_value, matches_maybe_local, maybe_local_matches}
 use Rattle.owl_tokens.specs.NamePatternLaws.{label_matches, matches_label, matches_prefix, prefix_matches}
-use Rattle.owl_tokens.specs.PatternLaws.{IsOne, behind_mark, mark_before, mark_passes, matches_mark, one_is}
+use Rattle.owl_lexer.specs.PatternLaws.{IsOne, behind_mark, mark_before, mark_passes, matches_mark, one_is}
 use Rattle.owl_tokens.specs.SharedPatterns.{abbreviated, colon, digit, local, name_end, node_id, prefix, start, underscore}
 use Rattle.owl_tokens.specs.Values.{local_in, prefix_in, prefix_length, unescaped}
 

@@ -1,14 +1,16 @@
 -- The sets of the grammars are the classes of characters of names and IRIs.
-use Rattle.std.proofs.Common.{◌≡◌, ℕ, Bool, true, false, not, ◌&&◌, ◌||◌, List, [], ◌∷◌, ◌++◌, refl, sym, ap, ◌∙◌, inl, inr, arith}
-use Rattle.std.specs.Prelude.{codes, nat_le, nat_lt, ◌==◌}
+use Rattle.std.proofs.Common.{◌≡◌, ℕ, Bool, true, false, not, ◌&&◌, ◌||◌, List, [], ◌∷◌, ◌++◌, refl, sym, ap, ◌∙◌, arith}
+use Rattle.std.specs.Prelude.{codes, nat_le, nat_lt}
 use Rattle.std.specs.Char.{is_ascii_alphabetic, is_ascii_digit, is_ascii_hexdigit}
 use Rattle.std.proofs.Math.Bool.{or-false, or_assoc}
-use Rattle.std.proofs.lemmas.Bool.{and_from, and_left, and_right, cases_order, eq-eqb, le-leb, leb-false, leb-true, lt-leb, lt-ltb, le-ltb, ne_eqb}
+use Rattle.std.proofs.lemmas.Bool.{le-leb, leb-false, leb-true, lt-ltb, le-ltb}
 use Rattle.owl_lexer.specs.Grammars.{CharacterSet, is_in_ranges, test_of}
 use Rattle.owl_lexer.specs.Grammars.CharacterSet.{inside}
-use Rattle.owl_text.specs.Iri.{is_among, is_iri_character}
-use Rattle.owl_text.specs.Names.{base_ranges, in_ranges, is_base, is_colon, is_dot, is_escapable, part_ranges, start_ranges}
-use Rattle.owl_text.specs.Tokens.{is_comment_start, is_escaped, is_line_end, is_space}
+use Rattle.owl_characters.specs.Iri.{is_among, is_iri_character}
+use Rattle.owl_characters.specs.Names.{base_ranges, in_ranges, is_base, is_colon, is_dot, is_escapable, part_ranges, start_ranges}
+use Rattle.owl_lexer.specs.PatternLaws.{each_is}
+use Rattle.owl_lexer.specs.Splitting.{is_comment_start, is_line_end, is_space}
+use Rattle.owl_tokens.specs.Tokens.{is_escaped}
 use Rattle.owl_tokens.specs.FunctionalGrammar.{functional_grammar}
 use Rattle.owl_tokens.specs.ManchesterGrammar.{manchester_grammar}
 use Rattle.owl_tokens.specs.SharedPatterns.{each_of, shared_sets}
@@ -48,19 +50,6 @@ pub record SharedTests (test : ℕ → ℕ → Bool) : Type 0 where
 pub ranges_are : (ranges : List (ℕ × ℕ)) (c : ℕ) → is_in_ranges ranges c ≡ in_ranges ranges c
 ranges_are [] c = refl
 ranges_are (range ∷ ranges) c = ap (λ b. (nat_le range.0 c && nat_le c range.1) || b) (ranges_are ranges c)
-
-one_range : (x c : ℕ) → (nat_le x c && nat_le c x) ≡ (x == c)
-one_range x c = elim (cases_order x c) [
-  | inl e ↦ and_from (nat_le x c) (nat_le c x) (le-leb x c (omega arith)) (le-leb c x (omega arith)) ∙ sym (eq-eqb x c e)
-  | inr other ↦ elim other [
-    | inl lt ↦ and_right (nat_le x c) (nat_le c x) (lt-leb c x (omega arith)) ∙ sym (ne_eqb x c (λ e. omega arith))
-    | inr lt ↦ and_left (nat_le x c) (nat_le c x) (lt-leb x c (omega arith)) ∙ sym (ne_eqb x c (λ e. omega arith))
-  ]
-]
-
-pub each_is : (cs : List ℕ) (c : ℕ) → is_in_ranges (each_of cs) c ≡ is_among cs c
-each_is [] c = refl
-each_is (x ∷ xs) c = ap (λ b. b || is_in_ranges (each_of xs) c) (one_range x c) ∙ ap (λ b. (x == c) || b) (each_is xs c)
 
 abbrev letter_ranges : List (ℕ × ℕ)
 letter_ranges = (0x41, 0x5A) ∷ (0x61, 0x7A) ∷ []

@@ -7,9 +7,9 @@ use Rattle.std.proofs.lemmas.List.{append_assoc}
 use Rattle.owl_lexer.specs.Patterns.{Matches, Pattern}
 use Rattle.owl_lexer.specs.Patterns.Pattern.{many}
 use Rattle.owl_lexer.specs.PatternWords.{◌or◌, ◌then◌}
-use Rattle.owl_text.specs.Iri.{AllAre, IsIri, IsScheme, is_among, is_iri_character, is_scheme_character}
+use Rattle.owl_characters.specs.Iri.{AllAre, IsIri, IsScheme, is_among, is_iri_character, is_scheme_character}
 use Rattle.owl_tokens.specs.CharacterLaws.{SharedTests}
-use Rattle.owl_tokens.specs.PatternLaws.{IsOne, all_match, behind_mark, mark_before, mark_passes, matches_all, matches_mark, one_as, one_is, or_is}
+use Rattle.owl_lexer.specs.PatternLaws.{IsOne, all_match, behind_mark, mark_before, mark_passes, matches_all, matches_mark, one_as, one_is, or_is}
 use Rattle.owl_tokens.specs.SharedPatterns.{colon, digit, full_iri, greater, iri_character, less, letter, scheme_mark}
 
 pub letter_is : (test : ℕ → ℕ → Bool) → SharedTests test → IsOne test letter is_ascii_alphabetic

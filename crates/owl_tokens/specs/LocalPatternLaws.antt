@@ -9,15 +9,14 @@ use Rattle.std.proofs.lemmas.Grind.{flat_map-append}
 use Rattle.owl_lexer.specs.Patterns.{Joins, Matches, Pattern}
 use Rattle.owl_lexer.specs.Patterns.Pattern.{either, many}
 use Rattle.owl_lexer.specs.PatternWords.{◌or◌, ◌then◌, maybe}
-use Rattle.owl_text.specs.Iri.{is_among}
-use Rattle.owl_text.specs.LongestNameLaws.{ends_in_plain_dot-append}
-use Rattle.owl_text.specs.Names.{AreLocalPieces, IsPieceOf, Piece, ends_in_plain_dot, is_colon, is_dot, is_escapable, is_local_inner, is_local_start, is_part, is_start, piece_spelling, piece_text}
-use Rattle.owl_text.specs.Names.{plain, percent as hexadecimals, escaped}
-use Rattle.owl_text.specs.SpellingLaws.{is_plain, local_pieces_plain}
+use Rattle.owl_characters.specs.Iri.{is_among}
+use Rattle.owl_characters.specs.Names.{AreLocalPieces, IsPieceOf, Piece, ends_in_plain_dot, is_colon, is_dot, is_escapable, is_local_inner, is_local_start, is_part, is_start, piece_spelling, piece_text}
+use Rattle.owl_characters.specs.Names.{plain, percent as hexadecimals, escaped}
+use Rattle.owl_tokens.specs.SpellingLaws.{ends_in_plain_dot-append, is_plain, local_pieces_plain}
 use Rattle.owl_tokens.specs.CharacterLaws.{SharedTests}
 use Rattle.owl_tokens.specs.LastLaws.{all_before_last, all_to_last, last_is, last_of}
 use Rattle.owl_tokens.specs.NamePatternLaws.{NoDot, digit_no_dot, part_is, part_no_dot, start_is, start_no_dot}
-use Rattle.owl_tokens.specs.PatternLaws.{IsOne, behind_mark, mark_before, one_is}
+use Rattle.owl_lexer.specs.PatternLaws.{IsOne, behind_mark, mark_before, one_is}
 use Rattle.owl_tokens.specs.SharedPatterns.{backslash, colon, digit, dot, escapable, hexadecimal, local, local_piece, part, percent_sign, start}
 use Rattle.owl_tokens.specs.StringPatternLaws.{backslash_is, plain_kept}
 use Rattle.owl_tokens.specs.Values.{unescaped, unescaped_behind}

@@ -1,31 +1,32 @@
 -- What a lexeme of Manchester Syntax is and stands for is what `SpellsManchester` says of tokens, both ways.
-use Rattle.std.proofs.Common.{◌≡◌, ◌↔◌, inl, inr, ℕ, Bool, false, ◌||◌, Option, None, Some, List, [], ◌∷◌, ◌++◌, refl, sym, ap, ◌∙◌, subst}
+use Rattle.std.proofs.Common.{◌≡◌, ◌↔◌, ◌⊎◌, inl, inr, ℕ, Bool, true, false, ◌||◌, Some, List, [], ◌∷◌, ◌++◌, refl, sym, ap, ◌∙◌, subst}
 use Rattle.std.specs.Prelude.{◌==◌, codes}
 use Rattle.std.specs.Char.{is_ascii_digit}
 use Rattle.std.proofs.Math.Bool.{or-false}
 use Rattle.owl_lexer.specs.Grammars.{IsLexeme, IsLexemeOf, Terminal, test_of}
 use Rattle.owl_lexer.specs.Patterns.{Matches, Pattern}
 use Rattle.owl_lexer.specs.PatternWords.{◌or◌, ◌then◌, some}
-use Rattle.owl_text.specs.Iri.{is_among}
-use Rattle.owl_text.specs.Names.{IsRunOf}
-use Rattle.owl_text.specs.Tokens.{is_space}
-use Rattle.owl_text.specs.declared.token.Sign.TheVariants.{Open as TextOpen, Close as TextClose, Equals as TextEquals, Carets as TextCarets}
-use Rattle.owl_text.specs.declared.token.Token.{Token as TextToken}
-use Rattle.owl_text.specs.declared.token.Token.TheVariants.{Iri as TextIri, Name as TextName, Blank as TextBlank, Str as TextStr, At as TextAt, Word as TextWord, Int as TextInt, Sign as TextSign}
-use Rattle.owl_tokens.specs.CharacterLaws.{each_is, manchester_tests}
+use Rattle.owl_characters.specs.Iri.{is_among}
+use Rattle.owl_characters.specs.Names.{IsRunOf}
+use Rattle.owl_tokens.specs.CharacterLaws.{manchester_tests}
 use Rattle.owl_tokens.specs.ManchesterGrammar.{close_brace, close_bracket, comma, decimal_literal, equals_mark, integer_literal, manchester_grammar, open_brace, open_bracket, plus}
 use Rattle.owl_tokens.specs.ManchesterSpellings.{IsDecimal, IsInteger, SpellsManchester}
-use Rattle.owl_tokens.specs.PatternLaws.{IsOne, behind_mark, mark_before, mark_passes, matches_mark, matches_run, one_as, one_is, or_is, run_matches}
-use Rattle.owl_tokens.specs.SharedPatterns.{digit, dot, greater, hyphen, less, shared_terminals}
-use Rattle.owl_tokens.specs.SharedSpellingLaws.{IsHash, IsLexemeFor, Says, blank_lexeme, carets_lexeme, close_lexeme, iri_lexeme, name_lexeme, of_first, of_second, one_of_both, open_lexeme, shared_says, string_lexeme, tag_lexeme, word_lexeme}
-use Rattle.owl_tokens.specs.SharedSpellingLaws.Says.{token, space, hash}
-use Rattle.owl_tokens.specs.TextTokens.{token_of}
+use Rattle.owl_lexer.specs.PatternLaws.{IsOne, behind_mark, each_is, mark_before, mark_passes, matches_mark, matches_run, one_as, one_is, or_is, run_matches}
+use Rattle.owl_tokens.specs.SharedPatterns.{digit, dot, greater, hyphen, less}
+use Rattle.owl_lexer.specs.GapTestLaws.{Stand, spelled_exactly, table_is_language}
+use Rattle.owl_lexer.specs.GapTests.{check_gaps}
+use Rattle.owl_lexer.specs.Languages.{IsLanguage, Says}
+use Rattle.owl_lexer.specs.Languages.Says.{token}
+use Rattle.owl_tokens.specs.ManchesterLaws.{manchester_knows}
+use Rattle.owl_tokens.specs.ManchesterTable.{manchester_automaton, manchester_table}
+use Rattle.owl_tokens.specs.SharedSpellingLaws.{IsLexemeFor, SpellsShared, is_gap, is_shared_mark, lexemes_stand}
+use Rattle.owl_tokens.specs.Tokens.{Spells}
 use Rattle.owl_tokens.specs.Values.{sign_of, value_of}
-use Rattle.owl_tokens.specs.declared.kinds.TheConstants.{AT, AT_LEAST, AT_MOST, BLANK, CARETS, CLOSE, CLOSE_BRACE, CLOSE_BRACKET, COMMA, COMMENT, DEC, GREATER, INT, IRI, LESS, NAME, OPEN, OPEN_BRACE, OPEN_BRACKET, SPACE, STR, WORD}
+use Rattle.owl_tokens.specs.declared.kinds.TheConstants.{AT_LEAST, AT_MOST, CLOSE_BRACE, CLOSE_BRACKET, COMMA, DEC, GREATER, INT, LESS, OPEN_BRACE, OPEN_BRACKET}
 use Rattle.owl_tokens.specs.declared.token.Sign.{Sign as Mark}
 use Rattle.owl_tokens.specs.declared.token.Sign.TheVariants.{Open, Close, Equals, Carets, OpenBrace, CloseBrace, OpenBracket, CloseBracket, Comma, Less, AtMost, Greater, AtLeast}
 use Rattle.owl_tokens.specs.declared.token.Token.{Token}
-use Rattle.owl_tokens.specs.declared.token.Token.TheVariants.{Iri, Name, Blank, Str, At, Word, Int, Dec, Sign}
+use Rattle.owl_tokens.specs.declared.token.Token.TheVariants.{Int, Dec, Sign}
 
 abbrev manchester_test : ℕ → ℕ → Bool
 manchester_test = test_of manchester_grammar.sets
@@ -46,43 +47,19 @@ own_terminals =
     ∷ record { kind = AT_LEAST; pattern = greater then equals_mark }
     ∷ []
 
--- What a lexeme of this value says of its characters: they are written for its token, or they are white space or a comment.
-pub data SaysManchester (value : Option Token) (cs : List ℕ) : Type 0 where
-  own_token : (t : Token) → value ≡ Some t → SpellsManchester t cs → SaysManchester value cs
-  own_space : value ≡ None → IsRunOf is_space cs → SaysManchester value cs
-  own_hash : value ≡ None → IsHash cs → SaysManchester value cs
-
 -- what both languages have
 
-shared_not_equals : (test : ℕ → ℕ → Bool) (kind : ℕ) (cs : List ℕ) → IsLexemeOf test shared_terminals kind cs → value_of kind cs ≡ Some (Sign Equals) → ⊥
-unfolding value_of sign_of
-shared_not_equals test kind cs (inl m) v = let e : value_of SPACE cs ≡ Some (Sign Equals) = ap (λ (n : ℕ). value_of n cs) m.0 ∙ v in cc
-shared_not_equals test kind cs (inr (inl m)) v = let e : value_of COMMENT cs ≡ Some (Sign Equals) = ap (λ (n : ℕ). value_of n cs) m.0 ∙ v in cc
-shared_not_equals test kind cs (inr (inr (inl m))) v = let e : value_of IRI cs ≡ Some (Sign Equals) = ap (λ (n : ℕ). value_of n cs) m.0 ∙ v in cc
-shared_not_equals test kind cs (inr (inr (inr (inl m)))) v = let e : value_of NAME cs ≡ Some (Sign Equals) = ap (λ (n : ℕ). value_of n cs) m.0 ∙ v in cc
-shared_not_equals test kind cs (inr (inr (inr (inr (inl m))))) v = let e : value_of BLANK cs ≡ Some (Sign Equals) = ap (λ (n : ℕ). value_of n cs) m.0 ∙ v in cc
-shared_not_equals test kind cs (inr (inr (inr (inr (inr (inl m)))))) v = let e : value_of STR cs ≡ Some (Sign Equals) = ap (λ (n : ℕ). value_of n cs) m.0 ∙ v in cc
-shared_not_equals test kind cs (inr (inr (inr (inr (inr (inr (inl m))))))) v = let e : value_of AT cs ≡ Some (Sign Equals) = ap (λ (n : ℕ). value_of n cs) m.0 ∙ v in cc
-shared_not_equals test kind cs (inr (inr (inr (inr (inr (inr (inr (inl m)))))))) v = let e : value_of WORD cs ≡ Some (Sign Equals) = ap (λ (n : ℕ). value_of n cs) m.0 ∙ v in cc
-shared_not_equals test kind cs (inr (inr (inr (inr (inr (inr (inr (inr (inl m))))))))) v = let e : value_of OPEN cs ≡ Some (Sign Equals) = ap (λ (n : ℕ). value_of n cs) m.0 ∙ v in cc
-shared_not_equals test kind cs (inr (inr (inr (inr (inr (inr (inr (inr (inr (inl m)))))))))) v = let e : value_of CLOSE cs ≡ Some (Sign Equals) = ap (λ (n : ℕ). value_of n cs) m.0 ∙ v in cc
-shared_not_equals test kind cs (inr (inr (inr (inr (inr (inr (inr (inr (inr (inr (inl m))))))))))) v = let e : value_of CARETS cs ≡ Some (Sign Equals) = ap (λ (n : ℕ). value_of n cs) m.0 ∙ v in cc
-shared_not_equals test kind cs (inr (inr (inr (inr (inr (inr (inr (inr (inr (inr (inr m))))))))))) v = elim m [ ]
+shared_mark_as : (mark : Mark) (cs : List ℕ) → is_shared_mark mark ≡ true → Spells (Sign mark) cs → SpellsManchester (Sign mark) cs
+shared_mark_as Open cs e h = h
+shared_mark_as Close cs e h = h
+shared_mark_as Carets cs e h = h
+shared_mark_as mark cs e h = absurd (cc)
 
-shared_as : (value : Option Token) (cs : List ℕ) → (value ≡ Some (Sign Equals) → ⊥) → Says value cs → SaysManchester value cs
-shared_as value cs n (token (TextIri iri) v s) = own_token (Iri iri) v s
-shared_as value cs n (token (TextName prefix local) v s) = own_token (Name prefix local) v s
-shared_as value cs n (token (TextBlank label) v s) = own_token (Blank label) v s
-shared_as value cs n (token (TextStr text) v s) = own_token (Str text) v s
-shared_as value cs n (token (TextAt tag) v s) = own_token (At tag) v s
-shared_as value cs n (token (TextWord word) v s) = own_token (Word word) v s
-shared_as value cs n (token (TextInt digits) v s) = own_token (Int digits) v (inl s.0, s.1)
-shared_as value cs n (token (TextSign TextOpen) v s) = own_token (Sign Open) v s
-shared_as value cs n (token (TextSign TextClose) v s) = own_token (Sign Close) v s
-shared_as value cs n (token (TextSign TextEquals) v s) = absurd (n v)
-shared_as value cs n (token (TextSign TextCarets) v s) = own_token (Sign Carets) v s
-shared_as value cs n (space v s) = own_space v s
-shared_as value cs n (hash v s) = own_hash v s
+shared_as : (t : Token) (cs : List ℕ) → SpellsShared t cs → SpellsManchester t cs
+shared_as (Int digits) cs h = let e = h.0 in absurd (cc)
+shared_as (Dec number) cs h = absurd h.1
+shared_as (Sign mark) cs h = shared_mark_as mark cs h.0 h.1
+shared_as t cs h = h.1
 
 -- numbers
 
@@ -173,51 +150,39 @@ two_pass p x h cs m =
     let b = behind_mark manchester_test p equals_mark x h cs m in
     b.is ∙ ap (λ (l : List ℕ). x ∷ l) (mark_passes manchester_test equals_mark 61 equals_is b.rest b.matches)
 
-own_says : (kind : ℕ) (cs : List ℕ) → IsLexemeOf manchester_test own_terminals kind cs → SaysManchester (value_of kind cs) cs
+own_says : (kind : ℕ) (cs : List ℕ) → IsLexemeOf manchester_test own_terminals kind cs → Says SpellsManchester (value_of kind cs) cs
 unfolding value_of sign_of
-own_says kind cs (inl m) = own_token (Int cs) (ap (λ (k : ℕ). value_of k cs) (sym m.0)) (integer_matches cs m.1, refl)
-own_says kind cs (inr (inl m)) = own_token (Dec cs) (ap (λ (k : ℕ). value_of k cs) (sym m.0)) (decimal_matches cs m.1, refl)
-own_says kind cs (inr (inr (inl m))) = own_token (Sign OpenBrace) (ap (λ (k : ℕ). value_of k cs) (sym m.0)) (mark_passes manchester_test open_brace 123 open_brace_is cs m.1)
-own_says kind cs (inr (inr (inr (inl m)))) = own_token (Sign CloseBrace) (ap (λ (k : ℕ). value_of k cs) (sym m.0)) (mark_passes manchester_test close_brace 125 close_brace_is cs m.1)
-own_says kind cs (inr (inr (inr (inr (inl m))))) = own_token (Sign OpenBracket) (ap (λ (k : ℕ). value_of k cs) (sym m.0)) (mark_passes manchester_test open_bracket 91 open_bracket_is cs m.1)
-own_says kind cs (inr (inr (inr (inr (inr (inl m)))))) = own_token (Sign CloseBracket) (ap (λ (k : ℕ). value_of k cs) (sym m.0)) (mark_passes manchester_test close_bracket 93 close_bracket_is cs m.1)
-own_says kind cs (inr (inr (inr (inr (inr (inr (inl m))))))) = own_token (Sign Comma) (ap (λ (k : ℕ). value_of k cs) (sym m.0)) (mark_passes manchester_test comma 44 comma_is cs m.1)
-own_says kind cs (inr (inr (inr (inr (inr (inr (inr (inl m)))))))) = own_token (Sign Less) (ap (λ (k : ℕ). value_of k cs) (sym m.0)) (mark_passes manchester_test less 60 less_is cs m.1)
-own_says kind cs (inr (inr (inr (inr (inr (inr (inr (inr (inl m))))))))) = own_token (Sign AtMost) (ap (λ (k : ℕ). value_of k cs) (sym m.0)) (two_pass less 60 less_is cs m.1)
-own_says kind cs (inr (inr (inr (inr (inr (inr (inr (inr (inr (inl m)))))))))) = own_token (Sign Greater) (ap (λ (k : ℕ). value_of k cs) (sym m.0)) (mark_passes manchester_test greater 62 greater_is cs m.1)
-own_says kind cs (inr (inr (inr (inr (inr (inr (inr (inr (inr (inr (inl m))))))))))) = own_token (Sign AtLeast) (ap (λ (k : ℕ). value_of k cs) (sym m.0)) (two_pass greater 62 greater_is cs m.1)
+own_says kind cs (inl m) = token (Int cs) (ap (λ (k : ℕ). value_of k cs) (sym m.0)) (integer_matches cs m.1, refl)
+own_says kind cs (inr (inl m)) = token (Dec cs) (ap (λ (k : ℕ). value_of k cs) (sym m.0)) (decimal_matches cs m.1, refl)
+own_says kind cs (inr (inr (inl m))) = token (Sign OpenBrace) (ap (λ (k : ℕ). value_of k cs) (sym m.0)) (mark_passes manchester_test open_brace 123 open_brace_is cs m.1)
+own_says kind cs (inr (inr (inr (inl m)))) = token (Sign CloseBrace) (ap (λ (k : ℕ). value_of k cs) (sym m.0)) (mark_passes manchester_test close_brace 125 close_brace_is cs m.1)
+own_says kind cs (inr (inr (inr (inr (inl m))))) = token (Sign OpenBracket) (ap (λ (k : ℕ). value_of k cs) (sym m.0)) (mark_passes manchester_test open_bracket 91 open_bracket_is cs m.1)
+own_says kind cs (inr (inr (inr (inr (inr (inl m)))))) = token (Sign CloseBracket) (ap (λ (k : ℕ). value_of k cs) (sym m.0)) (mark_passes manchester_test close_bracket 93 close_bracket_is cs m.1)
+own_says kind cs (inr (inr (inr (inr (inr (inr (inl m))))))) = token (Sign Comma) (ap (λ (k : ℕ). value_of k cs) (sym m.0)) (mark_passes manchester_test comma 44 comma_is cs m.1)
+own_says kind cs (inr (inr (inr (inr (inr (inr (inr (inl m)))))))) = token (Sign Less) (ap (λ (k : ℕ). value_of k cs) (sym m.0)) (mark_passes manchester_test less 60 less_is cs m.1)
+own_says kind cs (inr (inr (inr (inr (inr (inr (inr (inr (inl m))))))))) = token (Sign AtMost) (ap (λ (k : ℕ). value_of k cs) (sym m.0)) (two_pass less 60 less_is cs m.1)
+own_says kind cs (inr (inr (inr (inr (inr (inr (inr (inr (inr (inl m)))))))))) = token (Sign Greater) (ap (λ (k : ℕ). value_of k cs) (sym m.0)) (mark_passes manchester_test greater 62 greater_is cs m.1)
+own_says kind cs (inr (inr (inr (inr (inr (inr (inr (inr (inr (inr (inl m))))))))))) = token (Sign AtLeast) (ap (λ (k : ℕ). value_of k cs) (sym m.0)) (two_pass greater 62 greater_is cs m.1)
 own_says kind cs (inr (inr (inr (inr (inr (inr (inr (inr (inr (inr (inr m))))))))))) = elim m [ ]
-
-pub lexeme_says_manchester : (kind : ℕ) (cs : List ℕ) → IsLexeme manchester_grammar kind cs → SaysManchester (value_of kind cs) cs
-unfolding manchester_grammar
-lexeme_says_manchester kind cs m = elim (one_of_both manchester_test shared_terminals own_terminals kind cs m) [
-  | inl x ↦ shared_as (value_of kind cs) cs (shared_not_equals manchester_test kind cs x) (shared_says manchester_test manchester_tests kind cs x)
-  | inr x ↦ own_says kind cs x
-]
 
 -- from tokens to lexemes
 
--- a lexeme stands for the token
-abbrev pub IsManchesterLexeme : Token → List ℕ → Type 0
-IsManchesterLexeme t cs = (kind : ℕ) × IsLexeme manchester_grammar kind cs × (value_of kind cs ≡ Some t)
+-- it is a shared token, or a lexeme of this kind stands for it
+abbrev IsOwn : Token → List ℕ → Type 0
+IsOwn t cs = SpellsShared t cs ⊎ IsLexemeFor manchester_test own_terminals t cs
 
-shared_lexeme : (t : TextToken) (cs : List ℕ) → IsLexemeFor manchester_test shared_terminals t cs → IsManchesterLexeme (token_of t) cs
-unfolding manchester_grammar
-shared_lexeme t cs h = (h.0, of_first manchester_test shared_terminals own_terminals h.0 cs h.1, h.2)
-
-own_lexeme : (t : Token) (cs : List ℕ) (kind : ℕ) → IsLexemeOf manchester_test own_terminals kind cs → value_of kind cs ≡ Some t → IsManchesterLexeme t cs
-unfolding manchester_grammar
-own_lexeme t cs kind m v = (kind, of_second manchester_test shared_terminals own_terminals kind cs m, v)
+own_lexeme : (t : Token) (cs : List ℕ) (kind : ℕ) → IsLexemeOf manchester_test own_terminals kind cs → value_of kind cs ≡ Some t → IsOwn t cs
+own_lexeme t cs kind m v = inr (kind, m, v)
 
 matches_two : (p : Pattern) (x : ℕ) → IsOne manchester_test p (λ c. (x == c) || false) → Matches manchester_test (p then equals_mark) (x ∷ 61 ∷ [])
 matches_two p x h = mark_before manchester_test p equals_mark x h (61 ∷ []) (matches_mark manchester_test equals_mark 61 equals_is)
 
-mark_lexeme : (mark : Mark) (cs : List ℕ) → SpellsManchester (Sign mark) cs → IsManchesterLexeme (Sign mark) cs
+mark_lexeme : (mark : Mark) (cs : List ℕ) → SpellsManchester (Sign mark) cs → IsOwn (Sign mark) cs
 unfolding value_of sign_of
-mark_lexeme Open cs h = shared_lexeme (TextSign TextOpen) cs (open_lexeme manchester_test manchester_tests cs h)
-mark_lexeme Close cs h = shared_lexeme (TextSign TextClose) cs (close_lexeme manchester_test manchester_tests cs h)
+mark_lexeme Open cs h = inl (refl, h)
+mark_lexeme Close cs h = inl (refl, h)
 mark_lexeme Equals cs h = absurd h
-mark_lexeme Carets cs h = shared_lexeme (TextSign TextCarets) cs (carets_lexeme manchester_test manchester_tests cs h)
+mark_lexeme Carets cs h = inl (refl, h)
 mark_lexeme OpenBrace cs h = own_lexeme (Sign OpenBrace) cs OPEN_BRACE (inr (inr (inl (refl, subst (Matches manchester_test (open_brace)) (sym h) (matches_mark manchester_test open_brace 123 open_brace_is))))) refl
 mark_lexeme CloseBrace cs h = own_lexeme (Sign CloseBrace) cs CLOSE_BRACE (inr (inr (inr (inl (refl, subst (Matches manchester_test (close_brace)) (sym h) (matches_mark manchester_test close_brace 125 close_brace_is)))))) refl
 mark_lexeme OpenBracket cs h = own_lexeme (Sign OpenBracket) cs OPEN_BRACKET (inr (inr (inr (inr (inl (refl, subst (Matches manchester_test (open_bracket)) (sym h) (matches_mark manchester_test open_bracket 91 open_bracket_is))))))) refl
@@ -228,27 +193,27 @@ mark_lexeme AtMost cs h = own_lexeme (Sign AtMost) cs AT_MOST (inr (inr (inr (in
 mark_lexeme Greater cs h = own_lexeme (Sign Greater) cs GREATER (inr (inr (inr (inr (inr (inr (inr (inr (inr (inl (refl, subst (Matches manchester_test (greater)) (sym h) (matches_mark manchester_test greater 62 greater_is)))))))))))) refl
 mark_lexeme AtLeast cs h = own_lexeme (Sign AtLeast) cs AT_LEAST (inr (inr (inr (inr (inr (inr (inr (inr (inr (inr (inl (refl, subst (Matches manchester_test (greater then equals_mark)) (sym h) (matches_two greater 62 greater_is))))))))))))) refl
 
-pub manchester_lexeme : (t : Token) (cs : List ℕ) → SpellsManchester t cs → IsManchesterLexeme t cs
+own_token : (t : Token) (cs : List ℕ) → SpellsManchester t cs → IsOwn t cs
 unfolding value_of
-manchester_lexeme (Iri iri) cs h = shared_lexeme (TextIri iri) cs (iri_lexeme manchester_test manchester_tests iri cs h)
-manchester_lexeme (Name prefix local) cs h = shared_lexeme (TextName prefix local) cs (name_lexeme manchester_test manchester_tests prefix local cs h)
-manchester_lexeme (Blank label) cs h = shared_lexeme (TextBlank label) cs (blank_lexeme manchester_test manchester_tests label cs h)
-manchester_lexeme (Str text) cs h = shared_lexeme (TextStr text) cs (string_lexeme manchester_test manchester_tests text cs h)
-manchester_lexeme (At tag) cs h = shared_lexeme (TextAt tag) cs (tag_lexeme manchester_test manchester_tests tag cs h)
-manchester_lexeme (Word word) cs h = shared_lexeme (TextWord word) cs (word_lexeme manchester_test manchester_tests word cs h)
-manchester_lexeme (Int number) cs h =
+own_token (Int number) cs h =
     own_lexeme (Int number) cs INT (inl (refl, subst (Matches manchester_test integer_literal) (sym h.1) (matches_integer number h.0))) (ap (λ (l : List ℕ). value_of INT l) h.1)
-manchester_lexeme (Dec number) cs h =
+own_token (Dec number) cs h =
     own_lexeme (Dec number) cs DEC (inr (inl (refl, subst (Matches manchester_test decimal_literal) (sym h.1) (matches_decimal number h.0)))) (ap (λ (l : List ℕ). value_of DEC l) h.1)
-manchester_lexeme (Sign mark) cs h = mark_lexeme mark cs h
+own_token (Sign mark) cs h = mark_lexeme mark cs h
+own_token t cs h = inl (refl, h)
 
--- both ways
-
-spells_as : (t : Token) (cs : List ℕ) (value : Option Token) → SaysManchester value cs → value ≡ Some t → SpellsManchester t cs
-spells_as t cs value (own_token u e h) v = let same : Some u ≡ Some t = sym e ∙ v in let one : u ≡ t = cc in subst (λ (x : Token). SpellsManchester x cs) one h
-spells_as t cs value (own_space e h) v = let none : None ≡ Some t = sym e ∙ v in absurd (cc)
-spells_as t cs value (own_hash e h) v = let none : None ≡ Some t = sym e ∙ v in absurd (cc)
+stand : Stand (IsLexeme manchester_grammar) is_gap value_of SpellsManchester
+unfolding manchester_grammar
+stand = lexemes_stand manchester_test own_terminals SpellsManchester manchester_tests (record { shared = shared_as; says = own_says; token = own_token })
 
 -- Characters are written for a token exactly where they are a lexeme that stands for it.
 pub manchester_spells : (t : Token) (cs : List ℕ) → SpellsManchester t cs ↔ ((kind : ℕ) × IsLexeme manchester_grammar kind cs × (value_of kind cs ≡ Some t))
-manchester_spells t cs = (λ h. manchester_lexeme t cs h, λ o. spells_as t cs (value_of o.0 cs) (lexeme_says_manchester o.0 cs o.1) o.2)
+manchester_spells t cs = spelled_exactly (IsLexeme manchester_grammar) is_gap value_of SpellsManchester stand t cs
+
+gaps_pass : check_gaps is_gap manchester_table ≡ true
+unfolding manchester_table
+gaps_pass = refl
+
+-- The lexemes of the automaton are the tokens of Manchester Syntax, white space and comments.
+pub manchester_is_language : IsLanguage manchester_automaton value_of SpellsManchester
+manchester_is_language = table_is_language is_gap manchester_table (IsLexeme manchester_grammar) value_of SpellsManchester manchester_knows gaps_pass stand

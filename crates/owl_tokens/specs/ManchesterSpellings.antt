@@ -1,9 +1,9 @@
 -- How the tokens of Manchester Syntax are written (section 2.1).
 use Rattle.std.specs.Prelude.{◌≡◌, ◌⊎◌, ℕ, true, List, ◌∷◌, ◌++◌, codes, flat_map}
 use Rattle.std.specs.Char.{is_ascii_digit}
-use Rattle.owl_text.specs.Iri.{IsIri, is_among}
-use Rattle.owl_text.specs.Names.{IsLabel, IsLanguageTag, IsNameFrom, IsPrefixName, IsRunOf, SpellsLocal, is_start}
-use Rattle.owl_text.specs.Tokens.{character_spelling}
+use Rattle.owl_characters.specs.Iri.{IsIri, is_among}
+use Rattle.owl_characters.specs.Names.{IsLabel, IsLanguageTag, IsNameFrom, IsPrefixName, IsRunOf, SpellsLocal, is_start}
+use Rattle.owl_tokens.specs.Tokens.{character_spelling}
 use Rattle.owl_tokens.specs.declared.token.Sign.{Sign as Mark}
 use Rattle.owl_tokens.specs.declared.token.Sign.TheVariants.{Open, Close, Equals, Carets, OpenBrace, CloseBrace, OpenBracket, CloseBracket, Comma, Less, AtMost, Greater, AtLeast}
 use Rattle.owl_tokens.specs.declared.token.Token.{Token}

@@ -6,13 +6,13 @@ use Rattle.std.proofs.lemmas.Bool.{both_ways, eqb-true, false_from_ne_true, or_c
 use Rattle.owl_lexer.specs.Patterns.{Matches, Pattern}
 use Rattle.owl_lexer.specs.Patterns.Pattern.{both}
 use Rattle.owl_lexer.specs.PatternWords.{◌or◌, maybe}
-use Rattle.owl_text.specs.AllAreLaws.{AllAre-append}
-use Rattle.owl_text.specs.Iri.{AllAre}
-use Rattle.owl_text.specs.NameLaws.{ends_in_dot-append}
-use Rattle.owl_text.specs.Names.{IsNameFrom, IsPrefixName, ends_in_dot, in_ranges, is_base, is_dot, is_inner, is_label_start, is_part, is_start, part_ranges, start_ranges}
+use Rattle.owl_characters.specs.AllAreLaws.{AllAre-append}
+use Rattle.owl_characters.specs.Iri.{AllAre}
+use Rattle.owl_characters.specs.NameLaws.{ends_in_dot-append}
+use Rattle.owl_characters.specs.Names.{IsNameFrom, IsPrefixName, ends_in_dot, in_ranges, is_base, is_dot, is_inner, is_label_start, is_part, is_start, part_ranges, start_ranges}
 use Rattle.owl_tokens.specs.CharacterLaws.{SharedTests}
 use Rattle.owl_tokens.specs.LastLaws.{all_before_last, last_is, last_of}
-use Rattle.owl_tokens.specs.PatternLaws.{IsOne, all_match, matches_all, one_is, or_is}
+use Rattle.owl_lexer.specs.PatternLaws.{IsOne, all_match, matches_all, one_is, or_is}
 use Rattle.owl_tokens.specs.SharedPatterns.{base, digit, dot, more_part, more_start, name_end, part, prefix, start, word}
 
 pub start_is : (test : ℕ → ℕ → Bool) → SharedTests test → IsOne test start is_start

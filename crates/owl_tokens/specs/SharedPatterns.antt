@@ -7,7 +7,7 @@ use Rattle.owl_lexer.specs.Grammars.CharacterSet.{inside, outside}
 use Rattle.owl_lexer.specs.Patterns.{Pattern}
 use Rattle.owl_lexer.specs.Patterns.Pattern.{one, many}
 use Rattle.owl_lexer.specs.PatternWords.{◌then◌, ◌or◌, maybe, some}
-use Rattle.owl_text.specs.Names.{base_ranges, part_ranges, start_ranges}
+use Rattle.owl_characters.specs.Names.{base_ranges, part_ranges, start_ranges}
 use Rattle.owl_tokens.specs.declared.kinds.TheConstants.{AT, BLANK, CARETS, CLOSE, COMMENT, IRI, NAME, OPEN, SPACE, STR, WORD}
 
 -- each of these characters is a range

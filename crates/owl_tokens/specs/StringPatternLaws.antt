@@ -7,10 +7,10 @@ use Rattle.std.proofs.lemmas.List.{length-append}
 use Rattle.owl_lexer.specs.Patterns.{Joins, Matches, Pattern}
 use Rattle.owl_lexer.specs.Patterns.Pattern.{many}
 use Rattle.owl_lexer.specs.PatternWords.{◌or◌, ◌then◌}
-use Rattle.owl_text.specs.SpellingLaws.{escaped_is, unescaped_is}
-use Rattle.owl_text.specs.Tokens.{character_spelling, is_escaped}
+use Rattle.owl_tokens.specs.SpellingLaws.{escaped_is, unescaped_is}
+use Rattle.owl_tokens.specs.Tokens.{character_spelling, is_escaped}
 use Rattle.owl_tokens.specs.CharacterLaws.{SharedTests}
-use Rattle.owl_tokens.specs.PatternLaws.{IsOne, behind_mark, mark_before, mark_passes, matches_mark, one_is}
+use Rattle.owl_lexer.specs.PatternLaws.{IsOne, behind_mark, mark_before, mark_passes, matches_mark, one_is}
 use Rattle.owl_tokens.specs.SharedPatterns.{backslash, quote, quoted_string, string_character, string_escaped}
 use Rattle.owl_tokens.specs.Values.{between_ends, unescaped, unescaped_behind}
 

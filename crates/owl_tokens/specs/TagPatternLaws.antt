@@ -6,13 +6,13 @@ use Rattle.std.proofs.lemmas.Bool.{and_from, and_parts, both_ways, cases_Bool, c
 use Rattle.owl_lexer.specs.Patterns.{Joins, Matches, Pattern}
 use Rattle.owl_lexer.specs.Patterns.Pattern.{many}
 use Rattle.owl_lexer.specs.PatternWords.{◌or◌, ◌then◌, some}
-use Rattle.owl_text.specs.Iri.{AllAre}
-use Rattle.owl_text.specs.LanguageTagLaws.{alphabetic_is_alphanumeric, tag_from_fits, tag_to_fits}
-use Rattle.owl_text.specs.Names.{IsLanguageTag, IsRunOf, is_hyphen}
-use Rattle.owl_text.specs.Subtags.{tag_fits}
+use Rattle.owl_characters.specs.Iri.{AllAre}
+use Rattle.owl_characters.specs.LanguageTagLaws.{alphabetic_is_alphanumeric, tag_from_fits, tag_to_fits}
+use Rattle.owl_characters.specs.Names.{IsLanguageTag, IsRunOf, is_hyphen}
+use Rattle.owl_characters.specs.Subtags.{tag_fits}
 use Rattle.owl_tokens.specs.CharacterLaws.{SharedTests}
 use Rattle.owl_tokens.specs.IriPatternLaws.{letter_is}
-use Rattle.owl_tokens.specs.PatternLaws.{IsOne, behind_mark, mark_before, matches_run, one_as, one_is, or_is, run_matches}
+use Rattle.owl_lexer.specs.PatternLaws.{IsOne, behind_mark, mark_before, matches_run, one_as, one_is, or_is, run_matches}
 use Rattle.owl_tokens.specs.SharedPatterns.{at_sign, digit, hyphen, language_tag, letter}
 
 or_turned : (a b d : Bool) → ((a || b) || d) ≡ ((d || a) || b)

@@ -3,8 +3,8 @@
 use crate::token::Token;
 use crate::values::value;
 use crate::{functional_table, manchester_table};
+use owl_characters::NoMemory;
 use owl_lexer::{TokenLanguage, class_of, kind_in, step_in};
-use owl_text::NoMemory;
 use std::alloc::Global;
 
 /// The state of a table where a lexeme begins.
@@ -18,7 +18,9 @@ pub struct Functional;
 pub struct Manchester;
 
 impl TokenLanguage for Functional {
+    ghost use Rattle.owl_tokens.specs.FunctionalSpellingLaws.{functional_is_language};
     ghost use Rattle.owl_tokens.specs.FunctionalTable.{functional_automaton};
+    ghost use Rattle.owl_tokens.specs.Tokens.{Spells};
     ghost use Rattle.owl_tokens.specs.Values.{value_of};
 
     type Token = Token;
@@ -26,6 +28,8 @@ impl TokenLanguage for Functional {
     ghost automaton = { functional_automaton };
 
     ghost value_of = { value_of };
+
+    ghost spells = { Spells };
 
     fn start() -> u8 {
         FIRST_STATE
@@ -45,10 +49,14 @@ impl TokenLanguage for Functional {
     fn value(alloc: Global, kind: u8, spelling: &[char]) -> Result<Option<Token>, NoMemory> {
         value(alloc, kind, spelling)
     }
+
+    ghost is_language = { functional_is_language };
 }
 
 impl TokenLanguage for Manchester {
+    ghost use Rattle.owl_tokens.specs.ManchesterSpellingLaws.{manchester_is_language};
     ghost use Rattle.owl_tokens.specs.ManchesterTable.{manchester_automaton};
+    ghost use Rattle.owl_tokens.specs.ManchesterSpellings.{SpellsManchester};
     ghost use Rattle.owl_tokens.specs.Values.{value_of};
 
     type Token = Token;
@@ -56,6 +64,8 @@ impl TokenLanguage for Manchester {
     ghost automaton = { manchester_automaton };
 
     ghost value_of = { value_of };
+
+    ghost spells = { SpellsManchester };
 
     fn start() -> u8 {
         FIRST_STATE
@@ -75,4 +85,6 @@ impl TokenLanguage for Manchester {
     fn value(alloc: Global, kind: u8, spelling: &[char]) -> Result<Option<Token>, NoMemory> {
         value(alloc, kind, spelling)
     }
+
+    ghost is_language = { manchester_is_language };
 }

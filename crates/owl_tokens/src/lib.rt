@@ -10,8 +10,5 @@ mod token;
 mod values;
 
 pub use languages::{Functional, Manchester};
-pub use laws::{
-    functional_lexemes_are_spelled, functional_rests_are_lexemes, functional_texts_are_lexemes,
-    lexemes_are_known, manchester_lexemes_are_spelled,
-};
+pub use laws::{functional_lexemes_are_spelled, lexemes_are_known, manchester_lexemes_are_spelled};
 pub use token::{Sign, Token};

@@ -1,6 +1,6 @@
 //! The tokens of the two syntaxes.
 
-use owl_text::Text;
+use owl_characters::Text;
 
 /// A punctuation mark.
 #[derive(Clone, Copy, Debug, PartialEq, Eq)]

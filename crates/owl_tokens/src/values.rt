@@ -7,7 +7,7 @@ ghost use Rattle.owl_tokens.specs.Values.{between_ends, local_in, prefix_in, pre
 
 use crate::kinds;
 use crate::token::{Sign, Token};
-use owl_text::{NoMemory, Text};
+use owl_characters::{NoMemory, Text};
 use std::alloc::Global;
 
 /// The first characters, so many.

@@ -4,7 +4,7 @@ use Rattle.std.specs.Result.{IsErrAnd}
 use Rattle.std.proofs.lemmas.List.{append_assoc, append-nil}
 use Rattle.owl_atom.specs.declared.prefixes.Prefix.{Prefix}
 use Rattle.owl_tree.specs.Ontologies.{IsSameOntology, Ontology}
-use Rattle.owl_doc.specs.Functional.{ReadsFunctional}
+use Rattle.fss_terms.specs.Functional.{ReadsFunctional}
 use Rattle.fss_read.specs.Reading.{Awaits, EndsInNone, Leads, Reading, Refuses, Starts}
 use Rattle.owl_top.specs.Outcome.{IsNoDocument}
 use Rattle.owl_top.specs.Answers.{IsLed, IsOnlyReading}

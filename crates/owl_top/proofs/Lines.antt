@@ -1,6 +1,6 @@
 -- The lines of the note.
 use Rattle.std.proofs.Common.{◌≡◌, ℕ, Bool, true, false, List, [], ◌∷◌, length, nat_le, if◌then◌else◌, refl, ap, ◌∙◌}
-use Rattle.owl_text.specs.Limit.{most_bytes}
+use Rattle.owl_characters.specs.Limit.{most_bytes}
 use Rattle.owl_top.specs.Commands.{IsAmong, Request, translates, shows, compares, names_of}
 use Rattle.owl_top.specs.Outcome.{IsRefusal, IsRefusalLine, LineFor, Outcome, SuccessLine, has_defect, of_imports, of_length, of_no_memory, of_output, of_read_fault, of_reader, of_refusal, of_success, of_write_fault, too_deep, too_heavy, too_large, too_long_output}
 use Rattle.owl_top.specs.Answers.{IsProper, settled, trouble_outcome}

@@ -4,7 +4,7 @@ use Rattle.std.specs.List.{sum_by}
 use Rattle.std.specs.Str.{encode_utf8_all}
 use Rattle.std.proofs.lemmas.Bool.{le-leb, leb-true}
 use Rattle.std.proofs.lemmas.Bool.Decides.{nat_tests}
-use Rattle.owl_text.specs.Limit.{most_bytes}
+use Rattle.owl_characters.specs.Limit.{most_bytes}
 use Rattle.owl_list.specs.Ascending.{ascending}
 use Rattle.owl_atom.specs.declared.prefixes.Prefix.{Prefix}
 use Rattle.owl_tree.specs.Ontologies.{IsSameOntology, Ontology, canonical_ontology}
@@ -12,7 +12,7 @@ use Rattle.owl_tree.specs.OntologyLaws.{same_ontology_is_equal_form, same_ontolo
 use Rattle.owl_tree.specs.Order.{tree_cmp}
 use Rattle.owl_tree.specs.Trees.{kids_of, weight}
 use Rattle.owl_doc.specs.Counts.{subtrees_of}
-use Rattle.owl_doc.specs.Functional.{ReadsFunctional}
+use Rattle.fss_terms.specs.Functional.{ReadsFunctional}
 use Rattle.fss_write.specs.Text.{text_of}
 use Rattle.owl_top.specs.Commands.{Asks, HasNoCommand, Request, translates, shows, compares, words_of}
 use Rattle.owl_top.specs.Summary.{count_line, name_lines}

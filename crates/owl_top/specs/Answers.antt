@@ -2,13 +2,13 @@
 use Rattle.std.specs.Prelude.{◌≡◌, ◌++◌, ◌⊎◌, ℕ, Bool, List, [], ◌∷◌, Option, Some, IsTrue, length, nat_le, if◌then◌else◌, string_bytes, codes}
 use Rattle.std.specs.List.{AllByRecursion}
 use Rattle.std.specs.Str.{encode_utf8_all}
-use Rattle.owl_text.specs.Limit.{most_bytes}
+use Rattle.owl_characters.specs.Limit.{most_bytes}
 use Rattle.owl_port.specs.Outside.{Rose}
 use Rattle.owl_port.specs.declared.whole.ReadFault as port
 use Rattle.owl_port.specs.declared.whole.ReadFault.TheVariants as pf
 use Rattle.owl_atom.specs.declared.prefixes.Prefix.{Prefix}
 use Rattle.owl_tree.specs.Ontologies.{IsSameOntology, Ontology}
-use Rattle.owl_doc.specs.Functional.{ReadsFunctional}
+use Rattle.fss_terms.specs.Functional.{ReadsFunctional}
 use Rattle.fss_read.specs.Reading.{Awaits, Reading}
 use Rattle.fss_read.specs.declared.fault.ReadFault as read
 use Rattle.fss_read.specs.declared.fault.ReadFault.TheVariants as rf

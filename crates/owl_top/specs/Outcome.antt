@@ -2,12 +2,12 @@
 use Rattle.std.specs.Prelude.{◌≡◌, ◌≢◌, ◌<◌, ◌≤◌, ◌+◌, ◌⊎◌, ℕ, Option, Some, List, [], ◌∷◌, ◌++◌, length, take, codes}
 use Rattle.std.specs.Fmt.{decimal}
 use Rattle.std.specs.Str.{encode_utf8_all}
-use Rattle.owl_text.specs.Limit.{most_bytes}
+use Rattle.owl_characters.specs.Limit.{most_bytes}
 use Rattle.owl_port.specs.Outside.{before}
 use Rattle.owl_atom.specs.declared.prefixes.Prefix.{Prefix}
 use Rattle.owl_tree.specs.Ontologies.{IsSameOntology, Ontology, canonical_ontology}
 use Rattle.owl_doc.specs.Counts.{axiom_count}
-use Rattle.owl_doc.specs.Functional.{ReadsFunctional}
+use Rattle.fss_terms.specs.Functional.{ReadsFunctional}
 use Rattle.fss_read.specs.declared.fault.Reason.{Reason}
 use Rattle.fss_read.specs.declared.fault.Reason.TheVariants.{BadUtf8, BadToken, NotHere, UnknownPrefix, PrefixTwice, PrefixFixed, BadLiteral, EmptyKey}
 use Rattle.fss_write.specs.Text.{declared_prefixes, text_of}

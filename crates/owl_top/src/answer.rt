@@ -6,7 +6,7 @@ ghost use Rattle.owl_top.specs.Outcome.{too_long_output};
 ghost use Rattle.owl_top.specs.Answers.{outcome_of};
 
 use crate::status::Status;
-use owl_text::{NoMemory, Text};
+use owl_characters::{NoMemory, Text};
 use std::alloc::{AllocError, Global};
 
 /// The status of a run, the text for the output, which is empty unless all is well, and the line for the note.

@@ -5,7 +5,7 @@ ghost use Rattle.std.specs.Str.{encode_utf8_all};
 ghost use Rattle.owl_top.specs.Commands.{HasNoCommand, IsCommand, IsName};
 ghost use Rattle.owl_top.specs.declared.command.Target.TheVariants.{Fss};
 
-use owl_text::{NoMemory, Text};
+use owl_characters::{NoMemory, Text};
 use std::alloc::{AllocError, Global};
 use thiserror::Error;
 

@@ -3,7 +3,7 @@
 ghost use Rattle.std.specs.Prelude.{◌≡◌, ◌≢◌, ◌↔◌, [], IsTrue, IfOk};
 ghost use Rattle.std.specs.Str.{encode_utf8_all};
 ghost use Rattle.owl_doc.specs.Documents.{ontology_of};
-ghost use Rattle.owl_doc.specs.Functional.{ReadsFunctional};
+ghost use Rattle.fss_terms.specs.Functional.{ReadsFunctional};
 ghost use Rattle.fss_write.specs.Text.{declared_prefixes, text_of};
 ghost use Rattle.owl_top.specs.Outcome.{IsSuccess, not_built, shown, translation};
 ghost use Rattle.owl_top.specs.Answers.{IsComparison, limited, outcome_of, settled};
@@ -13,8 +13,8 @@ use crate::answer::{Answer, refused, said, told, too_long_output};
 use crate::status::Status;
 use crate::summary::summary;
 use fss_write::{WriteFault, write};
+use owl_characters::{MOST_BYTES, NoMemory, Text};
 use owl_doc::Doc;
-use owl_text::{MOST_BYTES, NoMemory, Text};
 use std::alloc::Global;
 
 /// The answer for a document with imports.

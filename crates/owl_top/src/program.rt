@@ -11,8 +11,8 @@ use crate::answer::Answer;
 use crate::command::{Command, WordsFault};
 use crate::request::answer_to;
 use crate::status::Status;
+use owl_characters::NoMemory;
 use owl_port::{Failed, Shelf, Sink, put_all};
-use owl_text::NoMemory;
 use std::alloc::Global;
 
 /// Writes a line to the note. A fault of the note changes nothing.

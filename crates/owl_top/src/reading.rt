@@ -1,7 +1,7 @@
 //! Reads the bytes of one document.
 
 ghost use Rattle.std.specs.Prelude.{◌≡◌, ◌≢◌, ◌+◌, ◌++◌, ◌<◌, ◌≤◌, length, None, IfOk, IfErr, OnOk};
-ghost use Rattle.owl_text.specs.Limit.{most_bytes};
+ghost use Rattle.owl_characters.specs.Limit.{most_bytes};
 ghost use Rattle.owl_doc.specs.Documents.{ontology_of};
 ghost use Rattle.fss_read.specs.Reading.{Leads, Refuses, Starts};
 ghost use Rattle.fss_read.specs.declared.fault.ReadFault.TheVariants.{Memory};
@@ -9,8 +9,8 @@ ghost use Rattle.owl_top.specs.Outcome.{IsNoDocument};
 ghost use Rattle.owl_top.specs.Answers.{IsOnlyReading};
 
 use fss_read::{ReadFault, Reader};
+use owl_characters::NoMemory;
 use owl_doc::Doc;
-use owl_text::NoMemory;
 use std::alloc::Global;
 
 /// How many bytes are read at a time.

@@ -13,9 +13,9 @@ use crate::command::{Command, Target};
 use crate::document::{comparison, showing, translation};
 use crate::reading::read_document;
 use crate::trouble::Trouble;
+use owl_characters::{MOST_BYTES, NoMemory, Text};
 use owl_doc::Doc;
 use owl_port::{Shelf, read_all};
-use owl_text::{MOST_BYTES, NoMemory, Text};
 use std::alloc::Global;
 
 /// The document of this name.

@@ -7,8 +7,8 @@ ghost use Rattle.owl_doc.specs.Heads.{StandsBeside, head_of};
 ghost use Rattle.owl_top.specs.Summary.{count_line, head_lines, iri_line, name_lines, size_lines, summary_text};
 
 use owl_atom::Iri;
+use owl_characters::{NoMemory, Text};
 use owl_doc::{Counts, Doc, Head};
-use owl_text::{NoMemory, Text};
 use std::alloc::{AllocError, Global};
 
 /// A line with an IRI in full, if it is there.

@@ -7,7 +7,7 @@ ghost use Rattle.owl_top.specs.Answers.{IsProper, of_reader, of_shelf, outcome_o
 use crate::answer::{Answer, refused};
 use crate::status::Status;
 use fss_read::Reason;
-use owl_text::NoMemory;
+use owl_characters::NoMemory;
 use std::alloc::{AllocError, Global};
 
 /// Why a document is not read.

@@ -4,8 +4,8 @@ use Rattle.std.specs.List.{find, list_all}
 use Rattle.std.specs.Str.{IsUtf8, bytes_eq, chars, encode_utf8_all}
 use Rattle.std.specs.Prelude.{nat_le, ◌&&◌}
 use Rattle.std.proofs.lemmas.Str.{encodes-chars}
-use Rattle.owl_text.specs.AsciiLaws.{ascii_bytes, ascii_chars}
-use Rattle.owl_text.specs.Iri.{is_ascii}
+use Rattle.owl_characters.specs.AsciiLaws.{ascii_bytes, ascii_chars}
+use Rattle.owl_characters.specs.Iri.{is_ascii}
 use Rattle.owl_tree.specs.declared.tag.Tag.{Tag}
 use Rattle.owl_tree.specs.declared.tag.Tag.TheVariants as tag
 use Rattle.owl_tree.specs.Tags.{all_tags, is_axiom, keyword_of, number_of}

@@ -5,7 +5,7 @@ use Rattle.std.specs.Prelude.{◌≡◌, ◌⊎◌, ℕ, List, [], ◌∷◌, �
 use Rattle.std.proofs.Common.{◌∙◌, ap, arith, inl, inr, refl, subst, sym}
 use Rattle.std.specs.Cmp.{unsigned_Decides}
 use Rattle.owl_list.specs.AscendingLaws.{all_in, in_none}
-use Rattle.owl_text.specs.Iri.{IsIri, is_iri_character}
+use Rattle.owl_characters.specs.Iri.{IsIri, is_iri_character}
 use Rattle.owl_tree.specs.declared.atom.Atom.{Atom}
 use Rattle.owl_tree.specs.declared.atom.Atom.TheVariants as atom
 use Rattle.owl_tree.specs.declared.tag.Tag.{Tag}

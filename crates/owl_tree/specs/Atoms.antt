@@ -1,7 +1,7 @@
 -- What atoms are (Structural Specification, sections 2.4, 5.6.2, 5.7 and 8.3).
 use Rattle.std.specs.Prelude.{◌<◌, ◌^◌}
-use Rattle.owl_text.specs.Iri.{IsIri}
-use Rattle.owl_text.specs.Names.{IsLabel}
+use Rattle.owl_characters.specs.Iri.{IsIri}
+use Rattle.owl_characters.specs.Names.{IsLabel}
 use Rattle.owl_atom.specs.Literals.{IsLiteral}
 use Rattle.owl_tree.specs.declared.atom.Atom.{Atom}
 use Rattle.owl_tree.specs.declared.atom.Atom.TheVariants.{Iri, Label, Literal, Number}

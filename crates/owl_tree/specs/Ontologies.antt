@@ -2,8 +2,8 @@
 use Rattle.std.specs.Prelude.{◌≡◌, ℕ, ◌+◌, IfSome, IsTrue, List, map, Contains, Option}
 use Rattle.std.specs.List.{AllByRecursion, sum_by}
 use Rattle.owl_list.specs.Ascending.{ascending, HoldSame}
-use Rattle.owl_text.specs.Iri.{IsIri}
-use Rattle.owl_text.specs.Order.{text_cmp}
+use Rattle.owl_characters.specs.Iri.{IsIri}
+use Rattle.owl_characters.specs.Order.{text_cmp}
 use Rattle.owl_tree.specs.declared.tag.Tag.TheVariants as tag
 use Rattle.owl_tree.specs.Canonical.{canonical}
 use Rattle.owl_tree.specs.Equivalence.{IsEquivalent}

@@ -4,9 +4,9 @@ use Rattle.std.specs.Prelude.{◌≡◌, ◌↔◌, ◌+◌, List, map, Contains
 use Rattle.std.specs.List.{AllByRecursion, sum_by}
 use Rattle.owl_list.specs.Ascending.{ascending, HoldSame}
 use Rattle.owl_list.specs.AscendingLaws.{all_same, all_map, all_before_map, all_later, same_sym, same_trans, same_from_equal, same_map, in_map, from_map, ascending_ascends, ascending_holds, ascending_again, ascending_same, same_ascending}
-use Rattle.owl_text.specs.Iri.{IsIri}
-use Rattle.owl_text.specs.Order.{text_cmp}
-use Rattle.owl_text.specs.OrderLaws.{texts_total}
+use Rattle.owl_characters.specs.Iri.{IsIri}
+use Rattle.owl_characters.specs.Order.{text_cmp}
+use Rattle.owl_characters.specs.OrderLaws.{texts_total}
 use Rattle.owl_tree.specs.Canonical.{canonical}
 use Rattle.owl_tree.specs.CanonicalLaws.{canonical_tag, forms_again}
 use Rattle.owl_tree.specs.EquivalenceLaws.{equivalent_is_equal_form}

@@ -12,8 +12,8 @@ use Rattle.std.proofs.Common.{◌≡◌, ◌↔◌, IsTrue, ◌==◌, ℕ, ◌-�
 use Rattle.std.specs.List.{slice_get}
 use Rattle.std.proofs.lemmas.Cmp.{nat_cmp_total, on_total, then_total, tied_itself}
 use Rattle.std.proofs.lemmas.Str.{encodes_same}
-use Rattle.owl_text.specs.Order.{text_cmp}
-use Rattle.owl_text.specs.OrderLaws.{equal_ties, texts_total}
+use Rattle.owl_characters.specs.Order.{text_cmp}
+use Rattle.owl_characters.specs.OrderLaws.{equal_ties, texts_total}
 use Rattle.owl_atom.specs.Literals.{LiteralParts, literal_cmp}
 use Rattle.owl_atom.specs.LiteralLaws as literals
 use Rattle.owl_atom.specs.LiteralLaws.{total_order}

@@ -9,3 +9,5 @@ pub mod TurtleValues
 pub mod WorkedCases
 pub mod StringLaws
 pub mod NameLaws
+pub mod TurtleSpellings
+pub mod TurtleSpellingLaws

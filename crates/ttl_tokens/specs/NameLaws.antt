@@ -4,9 +4,9 @@ use Rattle.std.proofs.Math.Seq.{take-append_seam, drop-append-add}
 use Rattle.std.specs.Prelude.{filter, flat_map}
 use Rattle.std.specs.List.{AllByRecursion, position_or_len}
 use Rattle.std.specs.Char.{is_ascii_hexdigit}
-use Rattle.owl_text.specs.Names.{AreLocalPieces, IsPieceOf, IsPrefixName, Piece, SpellsLocal, is_base, is_escapable, is_inner, is_local_inner, is_local_start, piece_spelling, piece_text}
-use Rattle.owl_text.specs.Names.Piece.{plain, percent, escaped}
-use Rattle.owl_text.specs.Iri.{AllAre}
+use Rattle.owl_characters.specs.Names.{AreLocalPieces, IsPieceOf, IsPrefixName, Piece, SpellsLocal, is_base, is_escapable, is_inner, is_local_inner, is_local_start, piece_spelling, piece_text}
+use Rattle.owl_characters.specs.Names.Piece.{plain, percent, escaped}
+use Rattle.owl_characters.specs.Iri.{AllAre}
 use Rattle.ttl_tokens.specs.StringLaws.{differs}
 use Rattle.ttl_tokens.specs.TurtleValues.{is_backslash, is_colon, local_text, prefix_text}
 

@@ -3,7 +3,7 @@ use Rattle.std.specs.Prelude.{◌≡◌, ℕ, zero, suc, ◌+◌, List, [], ◌�
 use Rattle.owl_lexer.specs.Automata.{kind_of}
 use Rattle.owl_lexer.specs.Tables.{automaton_of}
 use Rattle.owl_lexer.specs.Grammars.CharacterSet.{inside}
-use Rattle.owl_text.specs.Names.{base_ranges}
+use Rattle.owl_characters.specs.Names.{base_ranges}
 use Rattle.ttl_tokens.specs.TurtleGrammar.{turtle_grammar, iriref_kind, prefixed_name_kind, blank_node_label_kind, langtag_kind, integer_kind, decimal_kind, double_kind, string_literal_quote_kind, string_literal_single_quote_kind, string_literal_long_quote_kind, string_literal_long_single_quote_kind, a_word_kind, prefix_word_kind, base_word_kind}
 use Rattle.ttl_tokens.specs.TurtleTable.{turtle_table}
 use Rattle.ttl_tokens.specs.TurtleValues.{token_of}

@@ -4,7 +4,7 @@ ghost use Rattle.std.specs.Prelude.{◌≡◌, ◌<◌, ◌≤◌, length, IfOk}
 ghost use Rattle.ttl_tokens.specs.Escapes.{escape_length, escaped, first_character, hex_number, hex_value, length_behind, string_escape, unescaped};
 
 use crate::parts::{front, past};
-use owl_text::{NoMemory, Text};
+use owl_characters::{NoMemory, Text};
 use std::alloc::Global;
 
 /// The value of a hexadecimal digit, and 0 of another character.

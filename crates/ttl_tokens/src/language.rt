@@ -3,8 +3,8 @@
 use crate::table::{INTERVALS, KINDS, OTHERS, ROWS};
 use crate::token::Token;
 use crate::values::token_of;
+use owl_characters::NoMemory;
 use owl_lexer::{TokenLanguage, class_of, kind_in, step_in};
-use owl_text::NoMemory;
 use std::alloc::Global;
 
 /// The tokens of Turtle (RDF 1.1 Turtle, section 6.5).
@@ -13,6 +13,8 @@ pub struct Turtle;
 #[tactic(auto, unfolding(crate::specs::TurtleTable::turtle_table))]
 impl TokenLanguage for Turtle {
     ghost use Rattle.owl_lexer.specs.Tables.{automaton_of};
+    ghost use Rattle.ttl_tokens.specs.TurtleSpellingLaws.{turtle_is_language};
+    ghost use Rattle.ttl_tokens.specs.TurtleSpellings.{SpellsTurtle};
     ghost use Rattle.ttl_tokens.specs.TurtleTable.{turtle_table};
     ghost use Rattle.ttl_tokens.specs.TurtleValues.{token_of};
 
@@ -21,6 +23,8 @@ impl TokenLanguage for Turtle {
     ghost automaton = { automaton_of turtle_table };
 
     ghost value_of = { token_of };
+
+    ghost spells = { SpellsTurtle };
 
     fn start() -> u8 {
         0
@@ -37,4 +41,6 @@ impl TokenLanguage for Turtle {
     fn value(alloc: Global, kind: u8, spelling: &[char]) -> Result<Option<Token>, NoMemory> {
         token_of(alloc, kind, spelling)
     }
+
+    ghost is_language = { turtle_is_language };
 }

@@ -5,7 +5,7 @@ ghost use Rattle.std.specs.List.{AllByRecursion};
 ghost use Rattle.owl_lexer.specs.Automata.{Knows};
 ghost use Rattle.owl_lexer.specs.Grammars.{IsLexeme};
 ghost use Rattle.owl_lexer.specs.Tables.{automaton_of};
-ghost use Rattle.owl_text.specs.Names.{IsPrefixName, SpellsLocal};
+ghost use Rattle.owl_characters.specs.Names.{IsPrefixName, SpellsLocal};
 ghost use Rattle.ttl_tokens.specs.EscapedText.{IsPiece, Piece, characters_of, piece_spelling};
 ghost use Rattle.ttl_tokens.specs.Escapes.{unescaped};
 ghost use Rattle.ttl_tokens.specs.StringLaws.{IsUndone};

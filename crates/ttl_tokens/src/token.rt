@@ -1,6 +1,6 @@
 //! The tokens of Turtle.
 
-use owl_text::Text;
+use owl_characters::Text;
 
 /// A word or a sign that stands for itself (RDF 1.1 Turtle, section 6.5).
 #[derive(Clone, Copy, Debug, PartialEq, Eq)]

@@ -8,7 +8,7 @@ use crate::escapes::unescaped;
 use crate::kinds::*;
 use crate::parts::{front, inside, past};
 use crate::token::{Symbol, Token};
-use owl_text::{NoMemory, Text};
+use owl_characters::{NoMemory, Text};
 use std::alloc::Global;
 
 /// The characters as a text.

@@ -10,6 +10,7 @@ mod datatypes;
 mod kinds;
 #[cfg(test)]
 mod lexer;
+mod numbers;
 #[cfg(test)]
 mod port;
 #[cfg(test)]

@@ -1,6 +1,6 @@
 //! The classes of characters, and a refusal as text.
 
-use owl_text::{NoMemory, is_base, is_part, is_start};
+use owl_characters::{NoMemory, is_base, is_part, is_start};
 use std::test::Fail;
 
 #[test]

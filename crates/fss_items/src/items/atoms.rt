@@ -3,7 +3,7 @@
 ghost use Rattle.std.specs.Prelude.{◌≡◌, ◌≢◌, ◌≤◌, ◌<◌, ◌+◌, ◌^◌, [], IfErr, IfOk, OnOk, length, true};
 ghost use Rattle.owl_arena.specs.Held.{AreHeld, trees_at};
 ghost use Rattle.owl_doc.specs.Documents.{with_arena};
-ghost use Rattle.owl_doc.specs.declared.term.Term.TheVariants as term;
+ghost use Rattle.fss_terms.specs.declared.term.Term.TheVariants as term;
 ghost use Rattle.owl_tree.specs.Rows.{sort_of};
 ghost use Rattle.owl_tree.specs.Shape.{IsShaped};
 ghost use Rattle.owl_tree.specs.Trees.{leaf};

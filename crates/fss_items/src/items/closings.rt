@@ -2,7 +2,7 @@
 
 ghost use Rattle.std.specs.Prelude.{◌≡◌, ◌≢◌, ◌≤◌, ◌<◌, ◌+◌, ◌^◌, [], IfErr, IfOk, false, length, true};
 ghost use Rattle.owl_doc.specs.Documents.{with_arena};
-ghost use Rattle.owl_doc.specs.declared.term.Term.TheVariants.{Closing};
+ghost use Rattle.fss_terms.specs.declared.term.Term.TheVariants.{Closing};
 ghost use Rattle.owl_tree.specs.Trees.{Tree};
 ghost use Rattle.std.specs.Prelude.{List};
 ghost use Rattle.fss_items.specs.Bodies.{AreReady, Barred, Turned};

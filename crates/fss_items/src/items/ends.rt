@@ -3,7 +3,7 @@
 ghost use Rattle.std.specs.Prelude.{◌≡◌, ◌≢◌, ◌≤◌, ◌<◌, ◌+◌, ◌^◌, ◌↔◌, [], Bool, IfErr, IfOk, IsTrue, List, OnOk, false, true, length};
 ghost use Rattle.owl_arena.specs.Held.{tree_at};
 ghost use Rattle.owl_doc.specs.Documents.{Document, IsAnnotationAt, IsBegun, ontology_of};
-ghost use Rattle.owl_doc.specs.declared.term.Term.TheVariants.{Closing};
+ghost use Rattle.fss_terms.specs.declared.term.Term.TheVariants.{Closing};
 ghost use Rattle.fss_items.specs.declared.items.parts.Open as kept;
 ghost use Rattle.fss_items.specs.declared.items.parts.Waiting.TheVariants as waiting;
 ghost use Rattle.fss_items.specs.Bodies.{AreReady, Bars, MayAdd, MayAnnotate, Steps};

@@ -2,7 +2,7 @@
 
 ghost use Rattle.std.specs.Prelude.{◌≡◌, ◌-◌, [], IfErr, IfOk, Some, length, slice_get};
 ghost use Rattle.owl_tree.specs.Tags.{keyword_of};
-ghost use Rattle.owl_doc.specs.declared.term.Term.TheVariants.{Keyword};
+ghost use Rattle.fss_terms.specs.declared.term.Term.TheVariants.{Keyword};
 ghost use Rattle.fss_items.specs.declared.items.parts.Stage.{Stage};
 ghost use Rattle.fss_items.specs.declared.items.parts.Waiting.TheVariants as waiting;
 ghost use Rattle.fss_items.specs.Bodies.{AreReady};
@@ -14,8 +14,8 @@ use super::atoms::{DEEPEST, is_full};
 use super::parts::Open;
 use super::places::may_begin;
 use crate::item_fault::ItemFault;
+use owl_characters::Text;
 use owl_doc::Builder;
-use owl_text::Text;
 use owl_tree::Tag;
 
 /// The tag of the kid that a keyword begins in the innermost construct.

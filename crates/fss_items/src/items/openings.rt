@@ -1,7 +1,7 @@
 //! Brackets that open groups.
 
 ghost use Rattle.std.specs.Prelude.{◌≡◌, ◌≢◌, [], IfErr, List, OnOk};
-ghost use Rattle.owl_doc.specs.declared.term.Term.TheVariants.{Opening};
+ghost use Rattle.fss_terms.specs.declared.term.Term.TheVariants.{Opening};
 ghost use Rattle.owl_tree.specs.Trees.{Tree};
 ghost use Rattle.fss_items.specs.Bodies.{AreReady, Barred, Turned};
 ghost use Rattle.fss_items.specs.InHand.{HaveKids, constructs_before, group_in};

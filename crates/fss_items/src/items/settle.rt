@@ -2,7 +2,7 @@
 
 ghost use Rattle.std.specs.Prelude.{◌≡◌, ◌≢◌, ◌≤◌, ◌<◌, ◌+◌, ◌^◌, ◌∷◌, [], Bool, IfErr, IfOk, List, OnOk, false, length, true};
 ghost use Rattle.owl_doc.specs.Documents.{IsBegun, with_arena};
-ghost use Rattle.owl_doc.specs.declared.term.Term.TheVariants as term;
+ghost use Rattle.fss_terms.specs.declared.term.Term.TheVariants as term;
 ghost use Rattle.owl_tree.specs.Trees.{Tree, leaf};
 ghost use Rattle.fss_items.specs.declared.items.parts.Stage.{Stage};
 ghost use Rattle.fss_items.specs.declared.items.parts.Waiting.TheVariants as waiting;
@@ -17,7 +17,8 @@ use super::parts::Open;
 use super::places::has_notes;
 use super::stack::{begin, put_leaf, shut};
 use crate::item_fault::ItemFault;
-use owl_doc::{Builder, Term};
+use fss_terms::Term;
+use owl_doc::Builder;
 use owl_tree::{Atom, Tag};
 use std::alloc::Global;
 

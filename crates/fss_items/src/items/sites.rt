@@ -2,7 +2,7 @@
 
 ghost use Rattle.std.specs.Prelude.{◌≡◌, ◌-◌, ◌≤◌, ◌⊎◌, [], Bool, IfErr, IfSome, IsNone, List, Some, length, slice_get, true};
 ghost use Rattle.owl_doc.specs.Documents.{Document};
-ghost use Rattle.owl_doc.specs.declared.term.Term.TheVariants as term;
+ghost use Rattle.fss_terms.specs.declared.term.Term.TheVariants as term;
 ghost use Rattle.owl_tree.specs.Rows.{sort_of};
 ghost use Rattle.owl_tree.specs.Trees.{Tree};
 ghost use Rattle.owl_tree.specs.declared.atom.Atom.{Atom};

@@ -2,7 +2,7 @@
 
 ghost use Rattle.std.specs.Prelude.{◌≡◌, ◌≢◌, ◌≤◌, ◌<◌, ◌+◌, ◌^◌, [], IfErr, IfOk, OnOk, length};
 ghost use Rattle.owl_doc.specs.Documents.{IsBegun};
-ghost use Rattle.owl_doc.specs.declared.term.Term.TheVariants as term;
+ghost use Rattle.fss_terms.specs.declared.term.Term.TheVariants as term;
 ghost use Rattle.fss_items.specs.declared.items.parts.Waiting.TheVariants as waiting;
 ghost use Rattle.fss_items.specs.Bodies.{AreReady, Bars, Steps};
 ghost use Rattle.fss_items.specs.InHand.{HaveKids, constructs_before};
@@ -19,9 +19,10 @@ use super::waiting::{
     take_import_name, take_keyword,
 };
 use crate::item_fault::ItemFault;
+use fss_terms::Term;
 use owl_atom::Iri;
-use owl_doc::{Builder, Term};
-use owl_text::Text;
+use owl_characters::Text;
+use owl_doc::Builder;
 use owl_tree::{Atom, Tag};
 use std::alloc::Global;
 

@@ -2,8 +2,8 @@
 
 ghost use Rattle.std.specs.Prelude.{◌≡◌, ◌≢◌, ◌≤◌, ◌<◌, ◌+◌, ◌^◌, [], Bool, IfErr, IfOk, IfSome, IsNone, List, OnOk, codes, false, length, true, ℕ};
 ghost use Rattle.owl_doc.specs.Documents.{Document, IsBegun, with_arena};
-ghost use Rattle.owl_doc.specs.declared.term.Term.TheVariants as term;
-ghost use Rattle.owl_doc.specs.Functional.{iri_term};
+ghost use Rattle.fss_terms.specs.declared.term.Term.TheVariants as term;
+ghost use Rattle.fss_terms.specs.Functional.{iri_term};
 ghost use Rattle.owl_tree.specs.declared.atom.Atom.TheVariants as held;
 ghost use Rattle.owl_tree.specs.Trees.{Tree};
 ghost use Rattle.fss_items.specs.declared.items.parts.Open as kept;
@@ -20,9 +20,10 @@ use super::parts::{Open, Stage, Waiting};
 use super::places::{has_notes, is_leaf};
 use super::stack::{begin, put_leaf};
 use crate::item_fault::ItemFault;
+use fss_terms::Term;
 use owl_atom::Iri;
-use owl_doc::{Builder, Term};
-use owl_text::Text;
+use owl_characters::Text;
+use owl_doc::Builder;
 use owl_tree::{Atom, Tag};
 use std::alloc::Global;
 

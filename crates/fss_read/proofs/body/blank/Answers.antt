@@ -1,7 +1,7 @@
 use Rattle.std.proofs.Common.{[], ◌∷◌, ap, refl, sym, Some}
-use Rattle.owl_text.specs.declared.token.Token.TheVariants as lexeme
+use Rattle.owl_tokens.specs.declared.token.Token.TheVariants as lexeme
 use Rattle.owl_tree.specs.declared.atom.Atom.TheVariants as atom
-use Rattle.owl_doc.specs.declared.term.Term.TheVariants as term
+use Rattle.fss_terms.specs.declared.term.Term.TheVariants as term
 use Rattle.fss_read.proofs.Bodies.{given_err, given_ok, single_blocks, single_passes}
 use Rattle.fss_read.proofs.body.blank.Goals as goal
 

@@ -1,9 +1,9 @@
 use Rattle.std.proofs.Common.{[], ◌∷◌, refl, ap}
-use Rattle.owl_text.specs.declared.token.Sign.{Sign}
-use Rattle.owl_text.specs.declared.token.Token.TheVariants as lexeme
-use Rattle.owl_doc.specs.declared.term.Term.TheVariants as term
+use Rattle.owl_tokens.specs.declared.token.Sign.{Sign}
+use Rattle.owl_tokens.specs.declared.token.Token.TheVariants as lexeme
+use Rattle.fss_terms.specs.declared.term.Term.TheVariants as term
 use Rattle.fss_read.proofs.Bodies.{given_err, given_ok, no_term_blocks, single_blocks, single_passes}
-use Rattle.fss_read.proofs.Terms.{term_of}
+use Rattle.fss_read.proofs.Terms.{no_bracket, term_of}
 use Rattle.fss_read.proofs.body.bracket.Goals as goal
 
 pub returns-in-Open-clause-passes : goal.returns-in-Open-clause-passes
@@ -26,8 +26,6 @@ returns-in-Close-clause-blocks c =
     given_err c.given-in-Close.result c.args.items.now (lexeme.Sign c.args.sign ∷ []) term.Closing
     (single_blocks c.args.items.now (lexeme.Sign c.args.sign) term.Closing refl (ap (λ (s : Sign). term_of c.args.items.now.prefixes (lexeme.Sign s)) c.in-Close.is)) c.given-in-Close.ensures.barred
 
-pub returns-in-Equals-clause-blocks : goal.returns-in-Equals-clause-blocks
-returns-in-Equals-clause-blocks c = λ _. no_term_blocks c.args.items.now (lexeme.Sign c.args.sign) refl (ap (λ (s : Sign). term_of c.args.items.now.prefixes (lexeme.Sign s)) c.in-Equals.is)
-
-pub returns-in-Carets-clause-blocks : goal.returns-in-Carets-clause-blocks
-returns-in-Carets-clause-blocks c = λ _. no_term_blocks c.args.items.now (lexeme.Sign c.args.sign) refl (ap (λ (s : Sign). term_of c.args.items.now.prefixes (lexeme.Sign s)) c.in-Carets.is)
+pub returns-in_default-clause-blocks : goal.returns-in_default-clause-blocks
+returns-in_default-clause-blocks c =
+    λ _. no_term_blocks c.args.items.now (lexeme.Sign c.args.sign) refl (no_bracket c.args.items.now.prefixes c.args.sign c.in_default.not-Open c.in_default.not-Close)

@@ -1,6 +1,6 @@
 use Rattle.std.proofs.Common.{[], ◌∷◌, ap}
-use Rattle.owl_text.specs.declared.token.Token.TheVariants as lexeme
-use Rattle.owl_doc.specs.declared.term.Term.TheVariants as term
+use Rattle.owl_tokens.specs.declared.token.Token.TheVariants as lexeme
+use Rattle.fss_terms.specs.declared.term.Term.TheVariants as term
 use Rattle.fss_read.proofs.Bodies.{at_token_blocks, given_err, given_ok, no_term_blocks, single_blocks, single_passes}
 use Rattle.fss_read.proofs.Terms.{is_string, term_of}
 use Rattle.fss_read.proofs.body.fresh.Goals as goal
@@ -34,6 +34,10 @@ returns-in-Blank-clause-blocks c =
 pub returns-in-At-clause-blocks : goal.returns-in-At-clause-blocks
 returns-in-At-clause-blocks c =
     λ _. no_term_blocks c.args.items.now c.args.token (ap is_string c.in-At.is) (ap (term_of c.args.items.now.prefixes) c.in-At.is)
+
+pub returns-in-Dec-clause-blocks : goal.returns-in-Dec-clause-blocks
+returns-in-Dec-clause-blocks c =
+    λ _. no_term_blocks c.args.items.now c.args.token (ap is_string c.in-Dec.is) (ap (term_of c.args.items.now.prefixes) c.in-Dec.is)
 
 pub returns-in-Iri-clause-blocks : goal.returns-in-Iri-clause-blocks
 returns-in-Iri-clause-blocks c =

@@ -1,8 +1,8 @@
 use Rattle.std.proofs.Common.{◌≡◌, List, [], ◌∷◌, ◌∙◌, subst, Some, None}
 use Rattle.owl_atom.specs.declared.prefixes.Prefix.{Prefix}
 use Rattle.owl_tree.specs.declared.atom.Atom.TheVariants as atom
-use Rattle.owl_doc.specs.Terms.{iri_of_token}
-use Rattle.owl_doc.specs.declared.term.Term.TheVariants as term
+use Rattle.fss_terms.specs.Terms.{iri_of_token}
+use Rattle.fss_terms.specs.declared.term.Term.TheVariants as term
 use Rattle.fss_read.proofs.Bodies.{given_err, given_ok, iri_blocks, no_name_blocks, single_blocks, single_passes}
 use Rattle.fss_read.proofs.Shared.{err_with}
 use Rattle.fss_read.proofs.Terms.{iri_no_string, iri_term_of}

@@ -1,9 +1,9 @@
 use Rattle.std.proofs.Common.{[], ◌∷◌, refl, sym, ap, Some}
 use Rattle.std.specs.Str.Parse.{digits_value}
-use Rattle.owl_text.specs.declared.token.Token.TheVariants as lexeme
+use Rattle.owl_tokens.specs.declared.token.Token.TheVariants as lexeme
 use Rattle.owl_tree.specs.declared.atom.Atom.TheVariants as atom
 use Rattle.owl_tree.specs.declared.row.AtomSort.TheVariants as sort
-use Rattle.owl_doc.specs.declared.term.Term.TheVariants as term
+use Rattle.fss_terms.specs.declared.term.Term.TheVariants as term
 use Rattle.fss_read.proofs.Bodies.{given_err, given_ok, large_blocks, single_blocks, single_passes, sort_blocks}
 use Rattle.fss_read.proofs.Shared.{err_with}
 use Rattle.fss_read.proofs.body.number.Goals as goal

@@ -1,6 +1,6 @@
 use Rattle.std.proofs.Common.{◌≢◌, [], ◌∷◌, IfErr, sym, subst}
-use Rattle.owl_text.specs.declared.token.Token.{Token}
-use Rattle.owl_text.specs.declared.token.Token.TheVariants as lexeme
+use Rattle.owl_tokens.specs.declared.token.Token.{Token}
+use Rattle.owl_tokens.specs.declared.token.Token.TheVariants as lexeme
 use Rattle.fss_read.specs.Parsing.{BodyBlocks}
 use Rattle.fss_read.specs.declared.token_fault.TokenFault.TheVariants.{Memory}
 use Rattle.fss_read.proofs.body.onward.Goals as goal

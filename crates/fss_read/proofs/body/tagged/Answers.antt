@@ -1,8 +1,8 @@
 use Rattle.std.proofs.Common.{[], ◌∷◌}
 use Rattle.std.specs.Str.{chars}
-use Rattle.owl_text.specs.declared.token.Token.TheVariants as lexeme
+use Rattle.owl_tokens.specs.declared.token.Token.TheVariants as lexeme
 use Rattle.owl_tree.specs.declared.atom.Atom.TheVariants as atom
-use Rattle.owl_doc.specs.declared.term.Term.TheVariants as term
+use Rattle.fss_terms.specs.declared.term.Term.TheVariants as term
 use Rattle.fss_read.proofs.Bodies.{given_err, given_ok, tagged_blocks, tagged_made, tagged_passes}
 use Rattle.fss_read.proofs.body.tagged.Goals as goal
 

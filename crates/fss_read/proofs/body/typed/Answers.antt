@@ -1,11 +1,11 @@
 use Rattle.std.proofs.Common.{◌≡◌, ◌∙◌, ℕ, List, [], ◌∷◌, None, Some, Err, subst, sym, ap}
-use Rattle.owl_text.specs.declared.token.Sign.TheVariants as mark
-use Rattle.owl_text.specs.declared.token.Token.TheVariants as lexeme
+use Rattle.owl_tokens.specs.declared.token.Sign.TheVariants as mark
+use Rattle.owl_tokens.specs.declared.token.Token.TheVariants as lexeme
 use Rattle.owl_atom.specs.Literals.{DenotesLiteral}
 use Rattle.owl_atom.specs.declared.prefixes.Prefix.{Prefix}
 use Rattle.owl_tree.specs.declared.atom.Atom.TheVariants as atom
-use Rattle.owl_doc.specs.Terms.{iri_of_token}
-use Rattle.owl_doc.specs.declared.term.Term.TheVariants as term
+use Rattle.fss_terms.specs.Terms.{iri_of_token}
+use Rattle.fss_terms.specs.declared.term.Term.TheVariants as term
 use Rattle.fss_read.proofs.Bodies.{bad_literal, given_err, given_ok, typed_blocks, typed_none, typed_passes, untyped_blocks}
 use Rattle.fss_read.proofs.Shared.{err_with}
 use Rattle.fss_read.proofs.body.typed.Goals as goal

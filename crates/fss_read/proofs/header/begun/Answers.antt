@@ -1,6 +1,6 @@
 use Rattle.std.proofs.Common.{◌↔◌, List, IfOk, subst, sym}
 use Rattle.fss_items.specs.Bodies.{Body, Completes, IsBodyOf}
-use Rattle.owl_doc.specs.declared.term.Term.{Term}
+use Rattle.fss_terms.specs.declared.term.Term.{Term}
 use Rattle.owl_tree.specs.Ontologies.{Ontology}
 use Rattle.fss_read.specs.Parsing.{header_name}
 use Rattle.fss_read.specs.declared.stage.Header.{Header}

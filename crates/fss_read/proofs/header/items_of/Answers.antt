@@ -1,7 +1,7 @@
 use Rattle.std.proofs.Common.{◌↔◌, List, ap, subst}
 use Rattle.std.specs.Prelude.{Option}
 use Rattle.owl_doc.specs.Documents.{Document}
-use Rattle.owl_doc.specs.declared.term.Term.{Term}
+use Rattle.fss_terms.specs.declared.term.Term.{Term}
 use Rattle.owl_tree.specs.Ontologies.{Ontology, OntologyName}
 use Rattle.fss_items.specs.Bodies.{Completes, IsBodyOf}
 use Rattle.fss_read.proofs.header.items_of.Goals as goal

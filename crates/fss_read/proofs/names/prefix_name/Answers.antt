@@ -1,7 +1,7 @@
 use Rattle.std.proofs.Common.{◌≡◌, ℕ, List, [], refl, ap, sym, ◌∙◌, Bool, true, false}
-use Rattle.owl_text.specs.declared.token.Token.{Token}
-use Rattle.owl_text.specs.declared.token.Token.TheVariants as lexeme
-use Rattle.owl_text.specs.AsciiLaws.{ascii_chars}
+use Rattle.owl_tokens.specs.declared.token.Token.{Token}
+use Rattle.owl_tokens.specs.declared.token.Token.TheVariants as lexeme
+use Rattle.owl_characters.specs.AsciiLaws.{ascii_chars}
 use Rattle.fss_read.proofs.names.prefix_name.Goals as goal
 
 not_empty : (b : Bool) (t : Token) (name local other empty : List ℕ) → empty ≡ [] → t ≡ lexeme.Name name local → (local ≡ empty → b ≡ true) → b ≡ false → t ≡ lexeme.Name other [] → ⊥

@@ -1,6 +1,6 @@
 use Rattle.std.proofs.Common.{refl, ap, sym, ◌∙◌}
-use Rattle.owl_text.specs.declared.token.Token.TheVariants as lexeme
-use Rattle.owl_text.specs.AsciiLaws.{ascii_chars}
+use Rattle.owl_tokens.specs.declared.token.Token.TheVariants as lexeme
+use Rattle.owl_characters.specs.AsciiLaws.{ascii_chars}
 use Rattle.fss_read.proofs.Prologues.{between_blocks, ontology_passes, prefix_passes}
 use Rattle.fss_read.proofs.Shared.{not_so}
 use Rattle.fss_read.proofs.prologue.keyword.Goals as goal

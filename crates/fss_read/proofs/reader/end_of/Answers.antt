@@ -1,5 +1,5 @@
 use Rattle.std.proofs.Common.{◌∙◌}
-use Rattle.owl_doc.specs.Terms.{tokens_of}
+use Rattle.fss_terms.specs.Terms.{tokens_of}
 use Rattle.fss_read.specs.Parsing.{parse_of}
 use Rattle.fss_read.proofs.Readings.{blocked_none, ends_none, ends_with}
 use Rattle.fss_read.proofs.Shared.{err_with}

@@ -1,7 +1,13 @@
 use Rattle.fss_read.specs.Parsing.{count_of, parse_of}
-use Rattle.fss_read.proofs.Few.{room_before}
+use Rattle.fss_read.proofs.Few.{room_before, tokens_added}
 use Rattle.fss_read.proofs.Readings.{bytes_refused, leads_on, refused_on}
 use Rattle.fss_read.proofs.reader.take.Goals as goal
+
+pub take_all-requires-clause-tokens : goal.take_all-requires-clause-tokens
+take_all-requires-clause-tokens c = tokens_added _ c.feed.new.into.items c.new-tokens.ensures.items c.in-Ok.ensures.spelled
+
+pub refused-requires-clause-tokens : goal.refused-requires-clause-tokens
+refused-requires-clause-tokens c = tokens_added _ c.feed.new.into.items c.new-tokens.ensures.items c.in-Err.ensures.spelled
 
 pub refused-requires-clause-room : goal.refused-requires-clause-room
 refused-requires-clause-room c =
@@ -9,7 +15,7 @@ refused-requires-clause-room c =
 
 pub returns-in-Err-clause-refusal : goal.returns-in-Err-clause-refusal
 returns-in-Err-clause-refusal c =
-    λ told. bytes_refused c.args.lexer.now.begun (parse_of c.args.parser.now) c.args.fed c.args.piece.now _ c.feed.new.into.items c.in-Err.fault (c.in-Err.ensures.bad c.requires.open_yet.lexer_open (λ e. told (c.refused.ensures.memory e)))
+    λ told. bytes_refused c.tokens_come_one_way.ensures.rest c.args.lexer.now.begun (parse_of c.args.parser.now) c.args.fed c.args.piece.now _ c.feed.new.into.items c.in-Err.fault (c.in-Err.ensures.bad c.requires.open_yet.lexer_open (λ e. told (c.refused.ensures.memory e)))
 
 pub returns-in-Ok-clause-leads : goal.returns-in-Ok-clause-leads
 returns-in-Ok-clause-leads c =

@@ -1,8 +1,8 @@
 use Rattle.std.proofs.Common.{Err, List, ℕ, [], ◌++◌, ◌≤◌, ap, sym, subst}
 use Rattle.owl_arena.specs.Held.{Held, tree_at}
 use Rattle.owl_atom.specs.declared.prefixes.Prefix.{Prefix}
-use Rattle.owl_text.specs.Utf8.{size}
-use Rattle.owl_text.specs.Limit.{most_bytes}
+use Rattle.owl_characters.specs.Utf8.{size}
+use Rattle.owl_characters.specs.Limit.{most_bytes}
 use Rattle.fss_write.specs.Parts.{IsTooLong}
 use Rattle.fss_write.specs.Text.{axiom_text, written_text}
 use Rattle.fss_write.specs.declared.fault.WriteFault.TheVariants.{TooLong}

@@ -5,9 +5,9 @@ use Rattle.owl_atom.specs.Prefixes.{IsTable}
 use Rattle.owl_arena.specs.Held.{Held}
 use Rattle.owl_arena.specs.Shared.{AreShared}
 use Rattle.owl_doc.specs.Documents.{ontology_of}
-use Rattle.owl_doc.specs.Functional.{ReadsFunctional}
-use Rattle.owl_text.specs.Utf8.{size}
-use Rattle.owl_text.specs.Limit.{most_bytes}
+use Rattle.fss_terms.specs.Functional.{ReadsFunctional}
+use Rattle.owl_characters.specs.Utf8.{size}
+use Rattle.owl_characters.specs.Limit.{most_bytes}
 use Rattle.fss_write.specs.Parts.{HaveIris, IsTooLong}
 use Rattle.fss_write.specs.Text.{declared_prefixes, lines_of, text_of, written_prefixes}
 use Rattle.fss_write.specs.declared.fault.WriteFault.TheVariants.{TooLong}

@@ -3,7 +3,7 @@ use Rattle.std.specs.Ordering.{is_lt}
 use Rattle.std.specs.Str.{chars}
 use Rattle.std.proofs.lemmas.List.Sorted.{IsPartitionPoint-from_clause}
 use Rattle.std.proofs.lemmas.Str.{encodes-chars}
-use Rattle.owl_text.specs.Order.{text_cmp}
+use Rattle.owl_characters.specs.Order.{text_cmp}
 use Rattle.owl_atom.proofs.Fronts.{parted}
 use Rattle.owl_atom.proofs.by_iri.count_below.Goals as goal
 

@@ -1,5 +1,5 @@
 use Rattle.std.proofs.Common.{◌∙◌}
-use Rattle.owl_text.specs.Names.{is_label_start}
+use Rattle.owl_characters.specs.Names.{is_label_start}
 use Rattle.owl_atom.proofs.Labels.{first_is}
 use Rattle.owl_atom.proofs.label.begins_as_label.Goals as goal
 

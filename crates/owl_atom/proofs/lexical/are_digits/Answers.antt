@@ -4,8 +4,8 @@ use Rattle.std.specs.Str.{chars}
 use borrow.Author.Tests.{tests}
 use Rattle.std.proofs.lemmas.Iterator.{YieldsList-from_chars}
 use Rattle.std.proofs.lemmas.Iterator.Search.{all_from_yields_List}
-use Rattle.owl_text.specs.Iri.{AllAre}
-use Rattle.owl_text.specs.AllAreLaws.{all_are}
+use Rattle.owl_characters.specs.Iri.{AllAre}
+use Rattle.owl_characters.specs.AllAreLaws.{all_are}
 use Rattle.owl_atom.proofs.lexical.are_digits.Goals as goal
 
 pub returns : goal.returns

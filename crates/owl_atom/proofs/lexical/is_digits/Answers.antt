@@ -1,6 +1,6 @@
 use Rattle.std.proofs.Common.{not, subst}
 use Rattle.std.specs.Char.{is_ascii_digit}
-use Rattle.owl_text.specs.Names.{IsRunOf}
+use Rattle.owl_characters.specs.Names.{IsRunOf}
 use Rattle.std.proofs.lemmas.Bool.{both_ways, not_from_true}
 use Rattle.owl_atom.proofs.Characters.{empty_chars, some_chars}
 use Rattle.owl_atom.proofs.LexicalForms.{all_run, run_all}

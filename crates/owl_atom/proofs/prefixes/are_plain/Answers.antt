@@ -3,8 +3,8 @@ use Rattle.std.specs.Str.{chars}
 use borrow.Author.Tests.{tests}
 use Rattle.std.proofs.lemmas.Iterator.{YieldsList-from_chars}
 use Rattle.std.proofs.lemmas.Iterator.Search.{all_from_yields_List}
-use Rattle.owl_text.specs.Iri.{AllAre}
-use Rattle.owl_text.specs.AllAreLaws.{all_are}
+use Rattle.owl_characters.specs.Iri.{AllAre}
+use Rattle.owl_characters.specs.AllAreLaws.{all_are}
 use Rattle.owl_atom.specs.Prefixes.{is_plain_character}
 use Rattle.owl_atom.proofs.prefixes.are_plain.Goals as goal
 

@@ -2,8 +2,8 @@
 use Rattle.std.proofs.Common.{rules, arith, refl, subst, ap, ◌∙◌, ◌≡◌, ◌+◌, ℕ, List, [], ◌∷◌, ◌++◌, length, drop, take, get_or}
 use Rattle.std.proofs.lemmas.List.{length-append, length-take-le}
 use Rattle.std.specs.Char.{len_utf8}
-use Rattle.owl_text.specs.Utf8.{size}
-use Rattle.owl_text.specs.Utf8Laws.{size_append}
+use Rattle.owl_characters.specs.Utf8.{size}
+use Rattle.owl_characters.specs.Utf8Laws.{size_append}
 use Rattle.owl_lexer.specs.Giving.{Begun}
 use Rattle.owl_lexer.specs.Hands.{Takes, Refuses, begun_of}
 use Rattle.owl_lexer.proofs.Feeding.{alone, if_err, item_is, on_ok, parts_of, refuses_front, refuses_here, refuses_in, refuses_memory, room_left, takes_front, takes_held, takes_more, with_next}
@@ -12,7 +12,7 @@ use Rattle.owl_lexer.proofs.hand.+feeding.Goals as goal
 pub push-returns-in-Some-clause-ok : goal.push-returns-in-Some-clause-ok
 push-returns-in-Some-clause-ok g t c =
     takes_held g.L.TokenLanguage.automaton g.L.TokenLanguage.value_of c.args.hand.now c.hold.new.hand c.args.c c.args.into.now.items c.in_ok-hold.ensures.ready
-    (record { at = c.in_ok-hold.ensures.at; held = c.in_ok-hold.ensures.held; end = c.in_ok-hold.ensures.end })
+    (record { at = c.in_ok-hold.ensures.at; held = c.in_ok-hold.ensures.held; end = c.in_ok-hold.ensures.end; scalar = search rules })
 
 pub push-returns-in_default-front-clause-err : goal.push-returns-in_default-front-clause-err
 push-returns-in_default-front-clause-err g t c =

@@ -1,6 +1,6 @@
 -- The longest lexeme in front is given and what stands behind it is taken again, until nothing is in hand.
 use Rattle.std.proofs.Common.{rules, arith, ap, ◌∙◌, ◌≡◌, drop}
-use Rattle.owl_text.specs.Utf8.{size}
+use Rattle.owl_characters.specs.Utf8.{size}
 use Rattle.owl_lexer.proofs.Feeding.{if_err, parts_of}
 use Rattle.owl_lexer.proofs.Finishing.{turns_bad, turns_finish, turns_memory, turns_more, turns_refused}
 use Rattle.owl_lexer.proofs.hand.finish.Goals as goal
@@ -36,4 +36,4 @@ loop-front-preserved g c =
 
 pub returns-clause-ok : goal.returns-clause-ok
 returns-clause-ok g c =
-    turns_finish g.L.TokenLanguage.automaton g.L.TokenLanguage.value_of c.args.hand.now c.loop-front.hand c.args.into.now.items c.loop-front.into.items c.loop-front.invariant (search rules)
+    turns_finish g.L.TokenLanguage.automaton g.L.TokenLanguage.value_of c.args.hand.now c.loop-front.hand c.args.into.now.items c.loop-front.into.items c.requires.ready c.loop-front.invariant (search rules)

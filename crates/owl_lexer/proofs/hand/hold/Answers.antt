@@ -6,9 +6,9 @@ use Rattle.owl_lexer.proofs.hand.hold.Goals as goal
 pub returns-in-Some-clause-ready : goal.returns-in-Some-clause-ready
 returns-in-Some-clause-ready g c =
     ready_whole g.L.TokenLanguage.automaton c.args.hand.now _ c.args.c c.in-Some.kind c.requires.ready
-    (record { at = refl; held = search rules; end = search rules }) c.requires.step (sym c.kind.ensures ∙ c.in-Some.is) (search rules)
+    (record { at = refl; held = search rules; end = search rules; scalar = search rules }) c.requires.step (sym c.kind.ensures ∙ c.in-Some.is) (search rules)
 
 pub returns-in_default-clause-ready : goal.returns-in_default-clause-ready
 returns-in_default-clause-ready g c =
     ready_more g.L.TokenLanguage.automaton c.args.hand.now _ c.args.c c.requires.ready
-    (record { at = refl; held = search rules; end = search rules }) c.requires.step (search rules) refl
+    (record { at = refl; held = search rules; end = search rules; scalar = search rules }) c.requires.step (search rules) refl

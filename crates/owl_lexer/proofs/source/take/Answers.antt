@@ -12,7 +12,7 @@ returns-then-passes-clause-ok g c =
 
 pub returns-in-More-clause-ok : goal.returns-in-More-clause-ok
 returns-in-More-clause-ok g c =
-    takes_unfinished g.L.TokenLanguage.automaton g.L.TokenLanguage.value_of c.args.source.now.hand c.args.source.now.feed c.push.new.self c.args.source.now.fresh c.args.byte c.args.into.now.items c.requires.ready (c.in-More.ensures.step c.requires.ready.clean).1
+    takes_unfinished g.L.TokenLanguage.automaton g.L.TokenLanguage.value_of c.args.source.now.hand c.args.source.now.feed c.push.new.self c.args.source.now.fresh c.args.byte c.args.into.now.items c.requires.ready (c.in-More.ensures.step c.requires.ready.clean).0 (c.in-More.ensures.step c.requires.ready.clean).1
 
 pub returns-else-passes-clause-ok : goal.returns-else-passes-clause-ok
 returns-else-passes-clause-ok g c =

@@ -1,8 +1,10 @@
-use Rattle.owl_text.proofs.OneWay.{same_splits, same_continues}
+use Rattle.owl_text.specs.declared.dialect.Dialect.TheVariants.{Functional, Manchester}
 use Rattle.owl_text.proofs.laws.tokens_come_one_way.Goals as goal
 
 pub returns-clause-whole : goal.returns-clause-whole
-returns-clause-whole c = λ bytes ts us e f h k. let same = same_splits bytes ts us e f h k in (same.tokens, same.ending)
+returns-clause-whole c Functional = c.tokens_come_one_way.ensures.whole
+returns-clause-whole c Manchester = c.tokens_come_one_way-2.ensures.whole
 
 pub returns-clause-rest : goal.returns-clause-rest
-returns-clause-rest c = λ begun more ts us e f h k. let same = same_continues begun more ts us e f h k in (same.tokens, same.ending)
+returns-clause-rest c Functional = c.tokens_come_one_way.ensures.rest
+returns-clause-rest c Manchester = c.tokens_come_one_way-2.ensures.rest

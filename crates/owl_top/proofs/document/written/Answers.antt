@@ -2,7 +2,7 @@ use Rattle.std.proofs.Common.{List, ℕ, Err, ap, sym, subst, ◌∙◌}
 use Rattle.std.specs.Str.{encode_utf8_all}
 use Rattle.std.proofs.lemmas.Result.{IfOk-weaker}
 use Rattle.owl_doc.specs.Documents.{ontology_of}
-use Rattle.owl_doc.specs.Functional.{ReadsFunctional}
+use Rattle.fss_terms.specs.Functional.{ReadsFunctional}
 use Rattle.fss_write.specs.Text.{declared_prefixes}
 use Rattle.owl_top.specs.declared.answer.Answer.{Answer}
 use Rattle.owl_top.proofs.Outcomes.{translation_fits, translation_passes}

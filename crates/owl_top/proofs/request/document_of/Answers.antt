@@ -1,5 +1,5 @@
 use Rattle.std.proofs.Common.{Some, Err, List, ℕ, ap, sym, ◌∙◌, ◌<◌, ◌≤◌, length, arith}
-use Rattle.owl_text.specs.Limit.{most_bytes}
+use Rattle.owl_characters.specs.Limit.{most_bytes}
 use Rattle.owl_doc.specs.Documents.{ontology_of}
 use Rattle.owl_top.proofs.Answering.{reader_trouble, says_only, shelf_trouble}
 use Rattle.owl_top.proofs.request.document_of.Goals as goal

@@ -2,7 +2,7 @@ use Rattle.std.proofs.Common.{ap, ◌∙◌}
 use Rattle.std.specs.Str.{encode_utf8_all}
 use Rattle.std.proofs.lemmas.Result.{IfOk-weaker}
 use Rattle.std.proofs.lemmas.Str.{encodes-chars}
-use Rattle.owl_text.specs.declared.text.Text.{Text}
+use Rattle.owl_characters.specs.declared.text.Text.{Text}
 use Rattle.owl_top.proofs.summary.summary.Goals as goal
 
 pub returns : goal.returns

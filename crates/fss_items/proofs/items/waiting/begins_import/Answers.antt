@@ -1,6 +1,6 @@
 use Rattle.std.proofs.Common.{refl, sym, ◌∙◌}
 use Rattle.std.proofs.lemmas.Bool.{true≢false}
-use Rattle.owl_text.specs.AsciiLaws.{ascii_chars}
+use Rattle.owl_characters.specs.AsciiLaws.{ascii_chars}
 use Rattle.fss_items.proofs.items.waiting.begins_import.Goals as goal
 
 pub returns-in-Imports-clause-yes : goal.returns-in-Imports-clause-yes

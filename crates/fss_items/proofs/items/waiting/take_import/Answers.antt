@@ -1,5 +1,5 @@
 use Rattle.std.proofs.Common.{subst, sym, refl}
-use Rattle.owl_doc.specs.declared.term.Term.{Term}
+use Rattle.fss_terms.specs.declared.term.Term.{Term}
 use Rattle.fss_items.specs.declared.items.parts.Waiting.TheVariants as waiting
 use Rattle.fss_items.specs.Bodies.{Steps}
 use Rattle.fss_items.specs.Waits.{in_hand}

@@ -1,6 +1,6 @@
 use Rattle.std.proofs.Common.{rules, ◌≡◌, ap, refl, sym, ◌∙◌, true, false}
 use Rattle.std.specs.Prelude.{List, ℕ, ◌∷◌, []}
-use Rattle.owl_doc.specs.declared.term.Term.TheVariants.{Keyword}
+use Rattle.fss_terms.specs.declared.term.Term.TheVariants.{Keyword}
 use Rattle.fss_items.specs.declared.items.parts.Waiting.TheVariants as waiting
 use Rattle.fss_items.specs.Waits.{may_be_item}
 use Rattle.fss_items.proofs.Waited.{bars_item, item_waits, one_item, waits_on}

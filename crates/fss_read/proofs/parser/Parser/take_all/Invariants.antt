@@ -1,7 +1,7 @@
 use Rattle.std.proofs.Common.{◌≤◌, ◌+◌, ◌*◌, length}
 use Rattle.std.specs.Vec.Iter.{into_iter_items}
-use Rattle.owl_text.specs.Lexing.{AreTokens}
-use Rattle.owl_doc.specs.Terms.{tokens_of}
+use Rattle.owl_tokens.specs.Tokens.{AreTokens}
+use Rattle.fss_terms.specs.Terms.{tokens_of}
 use Rattle.fss_read.specs.Parsing.{IsWell, Passes, count_of, parse_of}
 use Rattle.fss_read.proofs.parser.Parser.take_all.Given as goal
 

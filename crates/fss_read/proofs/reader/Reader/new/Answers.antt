@@ -1,5 +1,5 @@
 use Rattle.std.proofs.Common.{None, ap}
-use Rattle.owl_text.specs.Lexing.{Lexing}
+use Rattle.owl_lexer.specs.Lexing.{Lexing}
 use Rattle.fss_read.specs.Parsing.{parse_of}
 use Rattle.fss_read.proofs.Readings.{starts_reading}
 use Rattle.fss_read.proofs.reader.Reader.new.Goals as goal

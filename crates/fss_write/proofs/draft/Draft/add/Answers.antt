@@ -1,6 +1,6 @@
 use Rattle.std.proofs.Common.{arith}
 use Rattle.std.specs.Str.{chars}
-use Rattle.owl_text.specs.Utf8Laws.{size_append}
+use Rattle.owl_characters.specs.Utf8Laws.{size_append}
 use Rattle.fss_write.proofs.Sizes.{size_chars}
 use Rattle.fss_write.proofs.draft.Draft.add.Goals as goal
 

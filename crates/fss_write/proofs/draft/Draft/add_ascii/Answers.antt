@@ -1,5 +1,5 @@
 use Rattle.std.proofs.Common.{◌≡◌, ◌++◌, List, ℕ, OnOk, IsErrOf, subst}
-use Rattle.owl_text.specs.AsciiLaws.{ascii_chars}
+use Rattle.owl_characters.specs.AsciiLaws.{ascii_chars}
 use Rattle.fss_write.specs.Parts.{IsTooLong}
 use Rattle.fss_write.specs.declared.fault.WriteFault.TheVariants.{TooLong}
 use Rattle.fss_write.proofs.draft.Draft.add_ascii.Goals as goal

@@ -1,7 +1,7 @@
 use Rattle.std.proofs.Common.{Err, ap, ◌∙◌}
 use Rattle.std.specs.Str.{chars}
 use Rattle.std.specs.declared.str.Chars.{Chars}
-use Rattle.owl_text.specs.Tokens.{character_spelling}
+use Rattle.owl_tokens.specs.Tokens.{character_spelling}
 use Rattle.fss_write.specs.declared.fault.WriteFault.TheVariants.{TooLong}
 use Rattle.fss_write.proofs.Escapes.{left_at_first, left_after, left_at_last, left_too_long}
 use Rattle.fss_write.proofs.Joins.{passed_on}

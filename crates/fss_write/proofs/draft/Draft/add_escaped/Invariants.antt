@@ -1,5 +1,5 @@
 use Rattle.std.specs.Str.{chars}
-use Rattle.owl_text.specs.Tokens.{character_spelling}
+use Rattle.owl_tokens.specs.Tokens.{character_spelling}
 use Rattle.fss_write.proofs.Escapes.{IsLeft}
 use Rattle.fss_write.proofs.draft.Draft.add_escaped.Given as goal
 

@@ -1,6 +1,6 @@
 use Rattle.std.proofs.Common.{arith, ap, ◌∙◌}
 use Rattle.std.specs.List.{list_all}
-use Rattle.owl_text.specs.Iri.{is_ascii}
+use Rattle.owl_characters.specs.Iri.{is_ascii}
 use Rattle.fss_write.proofs.Sizes.{decimal_ascii}
 use Rattle.fss_write.proofs.draft.Draft.add_number.Goals as goal
 

@@ -1,6 +1,6 @@
 use Rattle.std.proofs.Common.{◌≡◌, ◌<◌, ◌++◌, Err, List, ℕ, length, arith, ap, subst, ◌∙◌, codes}
 use Rattle.std.specs.Str.{chars}
-use Rattle.owl_text.specs.Iri.{IsIri}
+use Rattle.owl_characters.specs.Iri.{IsIri}
 use Rattle.owl_atom.specs.declared.prefixes.Prefix.{Prefix}
 use Rattle.fss_write.specs.Parts.{IsTooLong}
 use Rattle.fss_write.specs.Text.{full_iri, prefix_line}

@@ -1,0 +1,4 @@
+pub mod Terms
+pub mod Spelling
+pub mod Functional
+pub mod Abbreviations

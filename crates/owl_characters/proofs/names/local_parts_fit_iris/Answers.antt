@@ -1,0 +1,5 @@
+use Rattle.owl_characters.specs.NameCharacterLaws.{local_fits}
+use Rattle.owl_characters.proofs.names.local_parts_fit_iris.Goals as goal
+
+pub returns : goal.returns
+returns c = local_fits

@@ -1,0 +1,187 @@
+-- What is told of lexemes and characters, in tokens and bytes.
+use Rattle.std.proofs.Common.{◌≡◌, inl, inr, ℕ, ◌+◌, Option, None, Some, List, [], ◌∷◌, ◌++◌, length, refl, sym, ap, ◌∙◌, subst, arith}
+use Rattle.std.specs.Char.{encode_utf8}
+use Rattle.std.specs.Str.{encode_utf8_all}
+use Rattle.std.proofs.lemmas.List.{append_assoc, length-append}
+use Rattle.std.proofs.lemmas.Str.{encode_same, len_utf8_bounds, length-encode}
+use Rattle.owl_characters.specs.Utf8.{size}
+use Rattle.owl_characters.specs.Utf8Laws.{size_is}
+use Rattle.owl_lexer.specs.Adding.{tokens_of}
+use Rattle.owl_lexer.specs.AddingLaws.{tokens-append}
+use Rattle.owl_lexer.specs.Automata.{Automaton, run}
+use Rattle.owl_lexer.specs.BytesGiving.{AddsBytes, AddsSomeBytes, AddsSomeLastBytes, BegunBytes, end_of_bytes}
+use Rattle.owl_lexer.specs.BytesLaws.{no_whole}
+use Rattle.owl_lexer.specs.HoldingLaws.{run-append, run-none}
+use Rattle.owl_lexer.specs.Languages.{AreSpelled, IsLanguage}
+use Rattle.owl_lexer.specs.Lexing.{Adds, AddsSome, AddsSomeLast, Begun, Continues, HoldsNone, end_of, nothing_begun}
+use Rattle.owl_lexer.specs.LexingLaws.{IsSound, always_split, bytes_of, lexemes_continue, split_spelled, tokens_continue}
+use Rattle.owl_lexer.specs.Sources.{EndsBytes, EndsBytesBadly, EndsPieces, EndsPiecesBadly, IsOpen, IsPart, RefusesBytes, RefusesPiece, TakesBytes, TakesPiece, begun_in, bytes_in}
+use Rattle.owl_lexer.specs.declared.fault.LexFault.{LexFault}
+use Rattle.owl_lexer.specs.declared.placed.Placed.{Placed}
+use Rattle.owl_lexer.specs.declared.source.Source.{Source}
+
+sound_of : (a : Automaton) (source : Source) → IsOpen a source → IsSound (begun_in source)
+sound_of a source r = record { scalars = r.ready.scalars; first = r.start }
+
+-- what is added
+
+adds_tokens : {T : Type 0} → (a : Automaton) (value : ℕ → List ℕ → Option T) (spells : T → List ℕ → Type 0) → IsLanguage a value spells → (old new : BegunBytes) (bytes : List ℕ) (before after : List (Placed T)) → IsSound old → IsSound new → AddsBytes a value old bytes before after new → Adds spells (bytes_of old) bytes before after (bytes_of new)
+adds_tokens {T = T} a value spells l old new bytes before after s t g = record {
+  given = tokens_of value g.given;
+  added = g.added;
+  gives = record {
+    all = λ more tokens e k.
+        let o = tokens_continue a value spells l old s (bytes ++ more) tokens e k in
+        let rest = g.gives.all more o.lexemes e o.continues in
+        (tokens_of value rest.0, sym o.are ∙ ap (tokens_of value) rest.1 ∙ tokens-append value g.given rest.0, lexemes_continue a value spells l new t more rest.0 e rest.2);
+    only = λ more rest e k.
+        let o = tokens_continue a value spells l new t more rest e k in
+        subst (λ (ts : List (Placed T)). Continues spells (bytes_of old) (bytes ++ more) ts e) (tokens-append value g.given o.lexemes ∙ ap (λ (ts : List (Placed T)). tokens_of value g.given ++ ts) o.are)
+        (lexemes_continue a value spells l old s (bytes ++ more) (g.given ++ o.lexemes) e (g.gives.only more o.lexemes e o.continues));
+  };
+}
+
+some_tokens : {T : Type 0} → (a : Automaton) (value : ℕ → List ℕ → Option T) (spells : T → List ℕ → Type 0) → IsLanguage a value spells → (old : BegunBytes) (bytes : List ℕ) (before after : List (Placed T)) → IsSound old → AddsSomeBytes a value old bytes before after → AddsSome spells (bytes_of old) bytes before after
+some_tokens a value spells l old bytes before after s g = record {
+  given = tokens_of value g.given;
+  added = g.added;
+  next = λ more tokens e k.
+      let o = tokens_continue a value spells l old s (bytes ++ more) tokens e k in
+      let rest = g.next more o.lexemes e o.continues in
+      (tokens_of value rest.0, sym o.are ∙ ap (tokens_of value) rest.1 ∙ tokens-append value g.given rest.0);
+}
+
+some_last_tokens : {T : Type 0} → (a : Automaton) (value : ℕ → List ℕ → Option T) (spells : T → List ℕ → Type 0) → IsLanguage a value spells → (old : BegunBytes) (before after : List (Placed T)) → IsSound old → AddsSomeLastBytes a value old before after → AddsSomeLast spells (bytes_of old) before after
+some_last_tokens a value spells l old before after s g = record {
+  given = tokens_of value g.given;
+  added = g.added;
+  next = λ tokens e k.
+      let o = tokens_continue a value spells l old s [] tokens e k in
+      let rest = g.next o.lexemes e o.continues in
+      (tokens_of value rest.0, sym o.are ∙ ap (tokens_of value) rest.1 ∙ tokens-append value g.given rest.0);
+}
+
+-- what is added is spelled
+
+spelled_front : {T : Type 0} → (spells : T → List ℕ → Type 0) (xs ys : List (Placed T)) → AreSpelled spells (xs ++ ys) → AreSpelled spells xs
+spelled_front spells [] ys h = tt
+spelled_front spells (x ∷ xs) ys h = (h.0, spelled_front spells xs ys h.1)
+
+spelled_both : {T : Type 0} → (spells : T → List ℕ → Type 0) (before given after : List (Placed T)) → after ≡ before ++ given → AreSpelled spells given → AreSpelled spells before → AreSpelled spells after
+spelled_both spells before given after e h k = subst (AreSpelled spells) (sym e) (all before k)
+  where
+    all : (xs : List _) → AreSpelled spells xs → AreSpelled spells (xs ++ given)
+    all [] k = h
+    all (x ∷ xs) k = (k.0, all xs k.1)
+
+some_spelled : {T : Type 0} → (a : Automaton) (value : ℕ → List ℕ → Option T) (spells : T → List ℕ → Type 0) → IsLanguage a value spells → (old : Begun) (bytes : List ℕ) (before after : List (Placed T)) → AddsSome spells old bytes before after → AreSpelled spells before → AreSpelled spells after
+some_spelled a value spells l old bytes before after g =
+    let o = always_split a value spells l old.fresh old.at (old.held ++ (bytes ++ [])) in
+    let rest = g.next [] o.tokens o.ending o.splits in
+    spelled_both spells before g.given after g.added
+    (spelled_front spells g.given rest.0 (subst (AreSpelled spells) rest.1 (split_spelled spells old.fresh old.at (old.held ++ (bytes ++ [])) o.tokens o.ending o.splits)))
+
+some_last_spelled : {T : Type 0} → (a : Automaton) (value : ℕ → List ℕ → Option T) (spells : T → List ℕ → Type 0) → IsLanguage a value spells → (old : Begun) (before after : List (Placed T)) → AddsSomeLast spells old before after → AreSpelled spells before → AreSpelled spells after
+some_last_spelled a value spells l old before after g =
+    let o = always_split a value spells l old.fresh old.at (old.held ++ []) in
+    let rest = g.next o.tokens o.ending o.splits in
+    spelled_both spells before g.given after g.added
+    (spelled_front spells g.given rest.0 (subst (AreSpelled spells) rest.1 (split_spelled spells old.fresh old.at (old.held ++ []) o.tokens o.ending o.splits)))
+
+-- what is held
+
+part_begins_none : (bytes : List ℕ) → IsPart bytes → (c : ℕ) (rest : List ℕ) → bytes ≡ encode_utf8 c ++ rest → ⊥
+part_begins_none bytes (inr u) c rest e = no_whole bytes u c rest e
+part_begins_none bytes (inl none) c rest e =
+    let sizes : 0 ≡ length (encode_utf8 c) + length rest = sym (ap (λ (l : List ℕ). length l) none) ∙ ap (λ (l : List ℕ). length l) e ∙ length-append (encode_utf8 c) rest in
+    let is = length-encode c in
+    let bounds = len_utf8_bounds c in
+    let low = bounds.0 in
+    omega arith
+
+-- characters whose bytes stand in front of what is held are in hand
+held_front : (held cs bytes rest : List ℕ) → IsPart bytes → encode_utf8_all held ++ bytes ≡ encode_utf8_all cs ++ rest → (more : List ℕ) × (held ≡ cs ++ more)
+held_front held [] bytes rest p e = (held, refl)
+held_front [] (c ∷ cs) bytes rest p e = absurd (part_begins_none bytes p c (encode_utf8_all cs ++ rest) (e ∙ append_assoc (encode_utf8 c) (encode_utf8_all cs) rest))
+held_front (h ∷ held) (c ∷ cs) bytes rest p e =
+    let same = encode_same h c (encode_utf8_all held ++ bytes) (encode_utf8_all cs ++ rest) (sym (append_assoc (encode_utf8 h) (encode_utf8_all held) bytes) ∙ e ∙ append_assoc (encode_utf8 c) (encode_utf8_all cs) rest) in
+    let o = held_front held cs bytes rest p same.1 in
+    let first : h ≡ c = same.0 in
+    let others : held ≡ cs ++ o.0 = o.1 in
+    (o.0, cc)
+
+holds_none : {T : Type 0} → (a : Automaton) (value : ℕ → List ℕ → Option T) (spells : T → List ℕ → Type 0) → IsLanguage a value spells → (source : Source) → IsOpen a source → HoldsNone spells (bytes_in source)
+holds_none a value spells l source r t spelling rest c s space e =
+    let front = held_front source.hand.held.items (spelling ++ c ∷ []) source.feed.held rest r.part e in
+    let runs : Some source.hand.state ≡ None =
+    sym r.ready.leads
+    ∙ ap (run a (Some a.start)) front.1
+    ∙ run-append a (Some a.start) (spelling ++ c ∷ []) front.0
+    ∙ ap (λ (o : Option ℕ). run a o front.0) (l.ends t spelling c s space)
+    ∙ run-none a front.0 in
+    cc
+
+-- the places
+
+held_is : (begun : BegunBytes) → length (encode_utf8_all begun.held ++ begun.bytes) ≡ size begun.held + length begun.bytes
+held_is begun = length-append (encode_utf8_all begun.held) begun.bytes ∙ ap (λ (n : ℕ). n + length begun.bytes) (size_is begun.held)
+
+pub end_is : (begun : BegunBytes) → end_of (bytes_of begun) ≡ end_of_bytes begun
+end_is begun = let held = held_is begun in omega arith
+
+-- a piece of bytes, and the end
+
+pub takes_piece : {T : Type 0} → (a : Automaton) (value : ℕ → List ℕ → Option T) (spells : T → List ℕ → Type 0) → IsLanguage a value spells → (old new : Source) (bytes : List ℕ) (before after : List (Placed T)) → IsOpen a old → TakesBytes a value old bytes before after new → TakesPiece a spells old bytes before after new
+takes_piece a value spells l old new bytes before after r t =
+    let adds = adds_tokens a value spells l (begun_in old) (begun_in new) bytes before after (sound_of a old r) (sound_of a new t.ready) t.adds in
+    let some : AddsSome spells (bytes_in old) bytes before after = record { given = adds.given; added = adds.added; next = λ more tokens e k. let o = adds.gives.all more tokens e k in (o.0, o.1) } in
+    let few = t.few in
+    let end = t.end in
+    let old_held = held_is (begun_in old) in
+    let new_held = held_is (begun_in new) in
+    record {
+      ready = t.ready;
+      adds = adds;
+      spelled = some_spelled a value spells l (bytes_in old) bytes before after some;
+      few = omega arith;
+      early = holds_none a value spells l new t.ready;
+      end = omega arith;
+    }
+
+pub refuses_piece : {T : Type 0} → (a : Automaton) (value : ℕ → List ℕ → Option T) (spells : T → List ℕ → Type 0) → IsLanguage a value spells → (old : Source) (bytes : List ℕ) (before after : List (Placed T)) (fault : LexFault) → IsOpen a old → RefusesBytes a value (begun_in old) bytes before after fault → RefusesPiece spells (bytes_in old) bytes before after fault
+refuses_piece a value spells l old bytes before after fault r t =
+    let sound = sound_of a old r in
+    let some = some_tokens a value spells l (begun_in old) bytes before after sound t.some in
+    record {
+      bad = λ ne.
+          let bad = t.bad ne in
+          record { given = tokens_of value bad.given; added = bad.added; ends = λ more. lexemes_continue a value spells l (begun_in old) sound (bytes ++ more) bad.given (Some fault) (bad.ends more) };
+      some = some;
+      spelled = some_spelled a value spells l (bytes_in old) bytes before after some;
+    }
+
+pub ends_pieces : {T : Type 0} → (a : Automaton) (value : ℕ → List ℕ → Option T) (spells : T → List ℕ → Type 0) → IsLanguage a value spells → (old new : Source) (before after : List (Placed T)) → IsOpen a old → EndsBytes a value old before after new → EndsPieces a spells old before after new
+ends_pieces a value spells l old new before after r t =
+    let last = lexemes_continue a value spells l (begun_in old) (sound_of a old r) [] t.adds.given None t.adds.last in
+    let few = t.few in
+    let held = held_is (begun_in old) in
+    record {
+      ready = t.ready;
+      begun = ap bytes_of t.begun ∙ ap nothing_begun (sym (end_is (begun_in old)));
+      adds = record { given = tokens_of value t.adds.given; added = t.adds.added; continues = last };
+      spelled = spelled_both spells before (tokens_of value t.adds.given) after t.adds.added
+          (split_spelled spells old.fresh old.hand.at ((bytes_in old).held ++ []) (tokens_of value t.adds.given) None last);
+      few = omega arith;
+    }
+
+pub ends_pieces_badly : {T : Type 0} → (a : Automaton) (value : ℕ → List ℕ → Option T) (spells : T → List ℕ → Type 0) → IsLanguage a value spells → (old : Source) (before after : List (Placed T)) (fault : LexFault) → IsOpen a old → EndsBytesBadly a value (begun_in old) before after fault → EndsPiecesBadly spells (bytes_in old) before after fault
+ends_pieces_badly a value spells l old before after fault r t =
+    let sound = sound_of a old r in
+    let some = some_last_tokens a value spells l (begun_in old) before after sound t.some in
+    record {
+      bad = λ ne.
+          let bad = t.bad ne in
+          record { given = tokens_of value bad.given; added = bad.added; continues = lexemes_continue a value spells l (begun_in old) sound [] bad.given (Some fault) bad.last };
+      some = some;
+      spelled = some_last_spelled a value spells l (bytes_in old) before after some;
+    }

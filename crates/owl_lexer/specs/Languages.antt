@@ -1,0 +1,40 @@
+-- Languages of tokens: an automaton whose lexemes are what is written for the tokens, white space, and comments.
+use Rattle.std.specs.Prelude.{◌≡◌, ℕ, ◌<◌, false, not, true, List, [], ◌∷◌, ◌++◌, length, Option, None, Some}
+use Rattle.std.specs.List.{AllByRecursion}
+use Rattle.owl_characters.specs.Iri.{AllAre}
+use Rattle.owl_characters.specs.Names.{IsRunOf}
+use Rattle.owl_lexer.specs.Automata.{Automaton, Spells, run}
+use Rattle.owl_lexer.specs.Splitting.{is_comment_start, is_line_end, is_space}
+use Rattle.owl_lexer.specs.declared.placed.Placed.{Placed}
+
+-- a number sign, and then no line end
+abbrev pub IsCommentText : List ℕ → Type 0
+IsCommentText [] = ⊥
+IsCommentText (c ∷ cs) = (c ≡ 35) × AllAre (λ d. not (is_line_end d)) cs
+
+-- What a lexeme of this value says of its characters: they are written for its token, or they are white space or a
+-- comment.
+pub data Says {T : Type 0} (spells : T → List ℕ → Type 0) (value : Option T) (cs : List ℕ) : Type 0 where
+  token : (t : T) → value ≡ Some t → spells t cs → Says spells value cs
+  space : value ≡ None → IsRunOf is_space cs → Says spells value cs
+  comment : value ≡ None → IsCommentText cs → Says spells value cs
+
+-- the characters begin with neither white space nor a comment
+abbrev pub BeginsNoGap : List ℕ → Type 0
+BeginsNoGap [] = Unit {0}
+BeginsNoGap (c ∷ cs) = (is_space c ≡ false) × (is_comment_start c ≡ false)
+
+-- The lexemes that the automaton knows, with the values of their kinds, are the tokens with their spellings, white space
+-- and comments. A spelling is not empty, begins with neither white space nor a comment, and white space ends it.
+pub record IsLanguage {T : Type 0} (a : Automaton) (value : ℕ → List ℕ → Option T) (spells : T → List ℕ → Type 0) : Type 0 where
+  pub says : (kind : ℕ) (cs : List ℕ) → Spells a kind cs → Says spells (value kind cs) cs
+  pub token : (t : T) (cs : List ℕ) → spells t cs → (kind : ℕ) × Spells a kind cs × (value kind cs ≡ Some t)
+  pub space : (cs : List ℕ) → IsRunOf is_space cs → (kind : ℕ) × Spells a kind cs
+  pub comment : (cs : List ℕ) → IsCommentText cs → (kind : ℕ) × Spells a kind cs
+  pub some : (t : T) (cs : List ℕ) → spells t cs → 0 < length cs
+  pub no_gap : (t : T) (cs : List ℕ) → spells t cs → BeginsNoGap cs
+  pub ends : (t : T) (cs : List ℕ) (c : ℕ) → spells t cs → is_space c ≡ true → run a (Some a.start) (cs ++ c ∷ []) ≡ None
+
+-- each token is written somehow
+abbrev pub AreSpelled : {T : Type 0} → (T → List ℕ → Type 0) → List (Placed T) → Type 0
+AreSpelled {T} spells tokens = AllByRecursion (λ (p : Placed T). (spelling : List ℕ) × spells p.token spelling) tokens

@@ -1,0 +1,115 @@
+-- The lexemes of Turtle are its tokens, white space and comments.
+use Rattle.std.proofs.Common.{◌≡◌, inl, inr, ℕ, Bool, true, false, not, ◌||◌, Option, None, Some, List, [], ◌∷◌, refl, sym, ap, ◌∙◌}
+use Rattle.std.specs.Prelude.{◌==◌, codes}
+use Rattle.std.specs.List.{list_all}
+use Rattle.std.proofs.lemmas.Bool.{and_parts, eqb-true, or_cases}
+use Rattle.owl_characters.specs.Names.{IsRunOf}
+use Rattle.owl_lexer.specs.GapTestLaws.{Stand, table_is_language}
+use Rattle.owl_lexer.specs.GapTests.{check_gaps}
+use Rattle.owl_lexer.specs.Grammars.{IsLexeme, IsLexemeOf, Terminal, test_of}
+use Rattle.owl_lexer.specs.Languages.{IsCommentText, IsLanguage, Says}
+use Rattle.owl_lexer.specs.Languages.Says.{token, space, comment}
+use Rattle.owl_lexer.specs.PatternLaws.{IsOne, comment_matches, each_is, matches_comment, matches_run, one_is, run_matches}
+use Rattle.owl_lexer.specs.Patterns.Pattern.{one}
+use Rattle.owl_lexer.specs.Splitting.{is_line_end, is_space}
+use Rattle.owl_lexer.specs.Tables.{automaton_of}
+use Rattle.ttl_tokens.specs.TurtleGrammar.{comment_kind, turtle_grammar, white_space_kind}
+use Rattle.ttl_tokens.specs.TurtleLaws.{turtle_knows}
+use Rattle.ttl_tokens.specs.TurtleSpellings.{SpellsTurtle}
+use Rattle.ttl_tokens.specs.TurtleTable.{turtle_table}
+use Rattle.ttl_tokens.specs.TurtleValues.{token_of}
+use Rattle.ttl_tokens.specs.declared.token.Token.{Token}
+
+abbrev in_turtle : ℕ → ℕ → Bool
+in_turtle = test_of turtle_grammar.sets
+
+-- white space and comments
+
+swapped : (x y : Bool) → (x || (y || false)) ≡ (y || (x || false))
+swapped true true = refl
+swapped true false = refl
+swapped false true = refl
+swapped false false = refl
+
+white_is : IsOne in_turtle (one 22) is_space
+unfolding turtle_grammar
+white_is =
+    one_is in_turtle 22 is_space (λ c. each_is (32 ∷ 9 ∷ 13 ∷ 10 ∷ []) c ∙ ap (λ b. (32 == c) || ((9 == c) || b)) (swapped (13 == c) (10 == c)))
+
+hash_is : IsOne in_turtle (one 7) (λ c. (35 == c) || false)
+unfolding turtle_grammar
+hash_is = one_is in_turtle 7 (λ c. (35 == c) || false) (λ c. each_is (codes "#") c)
+
+in_line_is : IsOne in_turtle (one 23) (λ c. not (is_line_end c))
+unfolding turtle_grammar
+in_line_is = one_is in_turtle 23 (λ c. not (is_line_end c)) (λ c. ap not (each_is (10 ∷ 13 ∷ []) c))
+
+space_lexeme : (cs : List ℕ) → IsRunOf is_space cs → IsLexeme turtle_grammar white_space_kind cs
+unfolding turtle_grammar
+space_lexeme cs h = inl (refl, matches_run in_turtle (one 22) is_space white_is cs h)
+
+comment_lexeme : (cs : List ℕ) → IsCommentText cs → IsLexeme turtle_grammar comment_kind cs
+unfolding turtle_grammar
+comment_lexeme cs h = inr (inl (refl, matches_comment in_turtle (one 7) (one 23) hash_is in_line_is cs h))
+
+abbrev pub is_gap : ℕ → Bool
+is_gap kind = (kind == white_space_kind) || (kind == comment_kind)
+
+gaps_are_none : (kind : ℕ) (cs : List ℕ) → is_gap kind ≡ true → token_of kind cs ≡ None
+gaps_are_none kind cs h = elim (or_cases (kind == white_space_kind) (kind == comment_kind) h) [
+  | inl e ↦ ap (λ (k : ℕ). token_of k cs) (eqb-true kind white_space_kind e)
+  | inr e ↦ ap (λ (k : ℕ). token_of k cs) (eqb-true kind comment_kind e)
+]
+
+-- all other lexemes stand for tokens
+
+abbrev is_some : Option Token → Bool
+is_some None = false
+is_some (Some t) = true
+
+some_token : (o : Option Token) → is_some o ≡ true → (t : Token) × (o ≡ Some t)
+some_token None h = absurd (cc)
+some_token (Some t) h = (t, refl)
+
+-- what all terminals pass by their kinds, a lexeme does
+kind_passes : (test : ℕ → ℕ → Bool) (f : ℕ → Bool) (xs : List Terminal) (kind : ℕ) (cs : List ℕ) → list_all (λ x. f x.kind) xs ≡ true → IsLexemeOf test xs kind cs → f kind ≡ true
+kind_passes test f [] kind cs h m = elim m [ ]
+kind_passes test f (x ∷ xs) kind cs h (inl m) = ap f (sym m.0) ∙ (and_parts (f x.kind) (list_all (λ x. f x.kind) xs) h).0
+kind_passes test f (x ∷ xs) kind cs h (inr m) = kind_passes test f xs kind cs (and_parts (f x.kind) (list_all (λ x. f x.kind) xs) h).1 m
+
+-- the terminals behind those of white space and comments
+abbrev behind_gaps : List Terminal → List Terminal
+behind_gaps [] = []
+behind_gaps (x ∷ []) = []
+behind_gaps (x ∷ y ∷ xs) = xs
+
+others_are_some : (cs : List ℕ) → list_all (λ x. is_some (token_of x.kind cs)) (behind_gaps turtle_grammar.terminals) ≡ true
+unfolding turtle_grammar
+others_are_some cs = refl
+
+says_token : (kind : ℕ) (cs : List ℕ) → IsLexeme turtle_grammar kind cs → IsLexemeOf in_turtle (behind_gaps turtle_grammar.terminals) kind cs → Says SpellsTurtle (token_of kind cs) cs
+says_token kind cs m other =
+    let o = some_token (token_of kind cs) (kind_passes in_turtle (λ k. is_some (token_of k cs)) (behind_gaps turtle_grammar.terminals) kind cs (others_are_some cs) other) in
+    token o.0 o.1 (kind, m, o.1)
+
+says : (kind : ℕ) (cs : List ℕ) → IsLexeme turtle_grammar kind cs → Says SpellsTurtle (token_of kind cs) cs
+unfolding turtle_grammar
+says kind cs (inl m) = space (ap (λ (k : ℕ). token_of k cs) (sym m.0)) (run_matches in_turtle (one 22) is_space white_is cs m.1)
+says kind cs (inr (inl m)) = comment (ap (λ (k : ℕ). token_of k cs) (sym m.0)) (comment_matches in_turtle (one 7) (one 23) hash_is in_line_is cs m.1)
+says kind cs (inr (inr m)) = says_token kind cs (inr (inr m)) m
+
+gaps_pass : check_gaps is_gap turtle_table ≡ true
+unfolding turtle_table
+gaps_pass = refl
+
+lexemes_stand : Stand (IsLexeme turtle_grammar) is_gap token_of SpellsTurtle
+lexemes_stand = record {
+  says = says;
+  token = λ t cs h. h;
+  space = λ cs h. (white_space_kind, space_lexeme cs h);
+  comment = λ cs h. (comment_kind, comment_lexeme cs h);
+  none = gaps_are_none;
+}
+
+pub turtle_is_language : IsLanguage (automaton_of turtle_table) token_of SpellsTurtle
+turtle_is_language = table_is_language is_gap turtle_table (IsLexeme turtle_grammar) token_of SpellsTurtle turtle_knows gaps_pass lexemes_stand

@@ -1,0 +1,10 @@
+-- How the tokens of Turtle are written (RDF 1.1 Turtle, section 6.5).
+use Rattle.std.specs.Prelude.{◌≡◌, ℕ, List, Some}
+use Rattle.owl_lexer.specs.Grammars.{IsLexeme}
+use Rattle.ttl_tokens.specs.TurtleGrammar.{turtle_grammar}
+use Rattle.ttl_tokens.specs.TurtleValues.{token_of}
+use Rattle.ttl_tokens.specs.declared.token.Token.{Token}
+
+-- The characters are a lexeme of the grammar that stands for this token.
+abbrev pub SpellsTurtle : Token → List ℕ → Type 0
+SpellsTurtle token cs = (kind : ℕ) × IsLexeme turtle_grammar kind cs × (token_of kind cs ≡ Some token)
