@@ -4,12 +4,12 @@ pub mod Labels
 pub mod LanguageTags
 pub mod LiteralForms
 pub mod PrefixTables
+pub mod PrefixBlocks
 pub mod Shortening
 pub mod Fronts
 pub mod ByIri
 pub mod LocalParts
 pub mod FixedPrefixes
-pub mod PrefixEdits
 pub mod Words
 pub mod AsciiTexts
 pub mod DatatypeRows

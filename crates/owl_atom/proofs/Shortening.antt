@@ -7,8 +7,10 @@ use Rattle.std.specs.Str.{IsCharBoundary, encode_utf8_all}
 use Rattle.std.proofs.lemmas.Bool.{ltb-true, ltb-false, true≢false}
 use Rattle.std.proofs.lemmas.Option.{same_Some, get_or_from_slice_get}
 use Rattle.std.proofs.lemmas.Str.{length-le-encodes}
+use Rattle.owl_atom.specs.declared.by_iri.ByIri.{ByIri}
 use Rattle.owl_atom.specs.declared.prefixes.Prefix.{Prefix}
-use Rattle.owl_atom.specs.Prefixes.{AreAscending, IsBetter, Cuts, Shortens}
+use Rattle.owl_atom.specs.Prefixes.{AreAscending, IsBetter, IsTable, Cuts, Shortens}
+use Rattle.owl_atom.specs.ByIri.{IsIndex}
 use Rattle.owl_atom.specs.Places.{CutsAt, CutsNowhere, IsBestOf, IsBest, first, longer}
 use Rattle.owl_atom.specs.PrefixLaws.{contained, earlier_better, found, stands}
 use Rattle.owl_atom.proofs.PrefixTables.{ascends}
@@ -189,3 +191,10 @@ none_cuts prefixes iri (Some (place, begin)) h = (
 pub at_boundary : (prefixes : List Prefix) (among : ℕ → Prefix → Type 0) (iri : List ℕ) (r : Option (ℕ × ℕ)) → IsBest prefixes among iri r → IfSome r (λ cut. IsCharBoundary (encode_utf8_all iri) cut.1)
 at_boundary prefixes among iri None h = tt
 at_boundary prefixes among iri (Some (place, begin)) h = h.cuts.boundary
+
+-- a table with an index, as it is seen
+pub indexed : (o : Option ByIri) (index : ByIri) (held table : List Prefix) → o ≡ Some index → held ≡ table → IsTable held × IfSome o (λ i. IsIndex held i) → AreAscending table × IsIndex table index
+indexed o index held table e same it = (
+  subst AreAscending same it.0.ascending,
+  subst (λ t. IsIndex t index) same (subst (λ i. IfSome i (λ j. IsIndex held j)) e it.1),
+)

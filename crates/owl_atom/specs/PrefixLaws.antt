@@ -22,12 +22,15 @@ passed prefix others name e = ap (λ b. cond b (Some prefix) (prefix_in others n
 pub met : (prefix : Prefix) (others : List Prefix) (name : List ℕ) → prefix.name ≡ name → prefix_in (prefix ∷ others) name ≡ Some prefix
 met prefix others name e = ap (λ b. cond b (Some prefix) (prefix_in others name)) (equal prefix.name name e)
 
--- a name that is less than those of these prefixes
+-- a name that is less than those of these prefixes, and one that is greater
 
 abbrev pub Below : List ℕ → List Prefix → Type 0
 Below name prefixes = AllByRecursion (λ other. text_cmp name other.name ≡ Less) prefixes
 
-below_too : (a b : List ℕ) (prefixes : List Prefix) → text_cmp a b ≡ Less → Below b prefixes → Below a prefixes
+abbrev pub Above : List ℕ → List Prefix → Type 0
+Above name prefixes = AllByRecursion (λ other. text_cmp other.name name ≡ Less) prefixes
+
+pub below_too : (a b : List ℕ) (prefixes : List Prefix) → text_cmp a b ≡ Less → Below b prefixes → Below a prefixes
 below_too a b [] e h = tt
 below_too a b (x ∷ xs) e h = (texts_total.trans a b x.name e h.0, below_too a b xs e h.1)
 

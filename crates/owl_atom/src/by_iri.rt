@@ -11,8 +11,9 @@ ghost use Rattle.owl_atom.specs.ByIri.{AreFronts, IsFirst, IsIndex, front_cmp, o
 ghost use Rattle.owl_atom.specs.Places.{IsBest, first};
 ghost use Rattle.owl_atom.specs.Prefixes.{AreAscending};
 
+use crate::blocks::Blocks;
 use crate::iri::Iri;
-use crate::prefixes::{Prefix, is_plain_local, longer, push};
+use crate::prefixes::{is_plain_local, longer, push};
 use owl_characters::NoMemory;
 use owl_list::arrange;
 use std::alloc::Global;
@@ -35,7 +36,7 @@ pub struct ByIri {
 
 impl ByIri {
     /// The prefixes of this table by their IRIs.
-    pub fn of(alloc: Global, held: &[Prefix]) -> Result<ByIri, NoMemory>
+    pub fn of(alloc: Global, held: &Blocks) -> Result<ByIri, NoMemory>
         ensures { IfOk result (λ index. IsIndex held.now index) }
     {
         let mut fronts = fronts_of(alloc, held)?;
@@ -73,24 +74,24 @@ impl ByIri {
 }
 
 /// The fronts of all prefixes of a table.
-fn fronts_of(alloc: Global, held: &[Prefix]) -> Result<Vec<Front>, NoMemory>
+fn fronts_of(alloc: Global, held: &Blocks) -> Result<Vec<Front>, NoMemory>
     ensures { IfOk result (λ fronts. AreFronts held.now (length held.now) fronts.items) }
 {
     let mut fronts = Vec::new(alloc);
     for place in 0..held.len() {
-        let iri = held[place].iri.copy(alloc)?;
+        let iri = held.at(place).iri.copy(alloc)?;
         push(&mut fronts, Front { iri, place })?;
     }
     Ok(fronts)
 }
 
 /// The lengths of the IRIs of all prefixes of a table, in bytes.
-fn lengths_of(alloc: Global, held: &[Prefix]) -> Result<Vec<usize>, NoMemory>
+fn lengths_of(alloc: Global, held: &Blocks) -> Result<Vec<usize>, NoMemory>
     ensures { IfOk result (λ lengths. lengths.items ≡ map size_of held.now) }
 {
     let mut lengths = Vec::new(alloc);
-    for prefix in held {
-        push(&mut lengths, prefix.iri.text().len())?;
+    for place in 0..held.len() {
+        push(&mut lengths, held.at(place).iri.text().len())?;
     }
     Ok(lengths)
 }

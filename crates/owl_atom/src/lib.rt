@@ -2,6 +2,7 @@
 //! and prefixes, and the datatypes that are built in.
 #![tactic(auto)]
 
+mod blocks;
 mod by_iri;
 mod datatypes;
 mod fault;

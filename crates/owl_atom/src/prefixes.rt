@@ -8,9 +8,10 @@ ghost use Rattle.owl_characters.specs.Order.{text_cmp, text_eq};
 ghost use Rattle.owl_atom.specs.declared.fault.DeclareFault.{DeclareFault};
 ghost use Rattle.owl_atom.specs.declared.fault.ExpandFault.{ExpandFault};
 ghost use Rattle.owl_atom.specs.declared.prefixes.Prefix.{Prefix};
-ghost use Rattle.owl_atom.specs.Places.{IsPlaceOf, IsGapFor, CutsAt, CutsNowhere, IsBest, first, longer};
+ghost use Rattle.owl_atom.specs.Places.{CutsAt, CutsNowhere, IsBest, first, longer};
 ghost use Rattle.owl_atom.specs.Prefixes.{prefix_in, AreAscending, IsTable, is_declared, is_fixed, fixed, fixed_prefixes, iri_of, expansion, is_plain_start, is_plain_character, IsPlainLocal, Cuts, Shortens};
 
+use crate::blocks::Blocks;
 use crate::by_iri::ByIri;
 use crate::fault::{DeclareFault, ExpandFault};
 use crate::iri::Iri;
@@ -32,7 +33,7 @@ pub struct Prefix {
 /// see as the list of its prefixes, in the order of the bytes of their names.
 #[derive(Debug, Drop)]
 pub struct Prefixes {
-    held: Vec<Prefix>,
+    held: Blocks,
     by_iri: Option<ByIri>,
 }
 
@@ -45,9 +46,9 @@ impl Model for Prefixes {
 
     ghost Value = { List Prefix };
 
-    ghost view = { λ p. p.held.items };
+    ghost view = { λ p. p.held };
 
-    ghost invariant = { λ p. IsTable p.held.items × IfSome p.by_iri (λ index. IsIndex p.held.items index) };
+    ghost invariant = { λ p. IsTable p.held × IfSome p.by_iri (λ index. IsIndex p.held index) };
 }
 
 impl Prefixes {
@@ -56,7 +57,7 @@ impl Prefixes {
         ensures { result ≡ [] }
     {
         Prefixes {
-            held: Vec::new(alloc),
+            held: Blocks::empty(alloc),
             by_iri: None,
         }
     }
@@ -71,6 +72,7 @@ impl Prefixes {
         push(&mut held, fixed(alloc, "rdf", RDF)?)?;
         push(&mut held, fixed(alloc, "rdfs", RDFS)?)?;
         push(&mut held, fixed(alloc, "xsd", XSD)?)?;
+        let held = Blocks::of(held)?;
         Ok(Prefixes { held, by_iri: None })
     }
 
@@ -78,7 +80,7 @@ impl Prefixes {
     pub fn copy(&self, alloc: Global) -> Result<Prefixes, NoMemory>
         ensures { IfOk result (λ prefixes. prefixes ≡ self.now) }
     {
-        let held = copy_all(alloc, &self.held)?;
+        let held = self.held.copy(alloc)?;
         Ok(Prefixes { held, by_iri: None })
     }
 
@@ -97,7 +99,7 @@ impl Prefixes {
         ensures { (prefix : Prefix) × (slice_get self.now place ≡ Some prefix) × (chars result.0.now ≡ prefix.name)
             × (result.0.now ≡ encode_utf8_all prefix.name) × (result.1.now ≡ prefix.iri) }
     {
-        let prefix = &self.held[place];
+        let prefix = self.held.at(place);
         (prefix.name.as_str(), &prefix.iri)
     }
 
@@ -105,9 +107,9 @@ impl Prefixes {
     pub fn is_declared(&self, name: &str) -> bool
         ensures { result ≡ is_declared self.now (chars name.now) }
     {
-        match place_of(&self.held, name) {
-            Ok(place) => self.held[place].declared,
-            Err(_) => false,
+        match self.held.find(name) {
+            Some(prefix) => prefix.declared,
+            None => false,
         }
     }
 
@@ -124,11 +126,14 @@ impl Prefixes {
         ensures others { (other : List ℕ) → other ≢ chars name.now → prefix_in self.new other ≡ prefix_in self.old other }
         ensures err { OnErr result (self.new ≡ self.old) }
     {
-        self.by_iri = None;
-        match place_of(&self.held, name) {
-            Ok(place) => declare_again(&mut self.held[place], iri),
-            Err(place) => Ok(add(&mut self.held, place, name, iri, true)?),
+        if self.is_declared(name) {
+            return Err(DeclareFault::PrefixTwice);
         }
+        let fixed = self.is_fixed(name);
+        if fixed && !is_fixed_to(name, &iri) {
+            return Err(DeclareFault::PrefixFixed);
+        }
+        Ok(self.put(name, iri, fixed, true)?)
     }
 
     /// Gives the name this IRI, also where it stands for one IRI alone. The
@@ -140,14 +145,37 @@ impl Prefixes {
         ensures others { (other : List ℕ) → other ≢ chars name.now → prefix_in self.new other ≡ prefix_in self.old other }
         ensures err { OnErr result (self.new ≡ self.old) }
     {
-        self.by_iri = None;
-        match place_of(&self.held, name) {
-            Ok(place) => {
-                self.held[place].iri = iri;
-                Ok(())
-            }
-            Err(place) => add(&mut self.held, place, name, iri, false),
+        let fixed = self.is_fixed(name);
+        let declared = self.is_declared(name);
+        self.put(name, iri, fixed, declared)
+    }
+
+    /// Whether the name stands for one IRI alone.
+    fn is_fixed(&self, name: &str) -> bool
+        ensures { result ≡ is_fixed self.now (chars name.now) }
+    {
+        match self.held.find(name) {
+            Some(prefix) => prefix.fixed,
+            None => false,
         }
+    }
+
+    /// Gives the name this IRI and these marks.
+    fn put(&mut self, name: &str, iri: Iri, fixed: bool, declared: bool) -> Result<(), NoMemory>
+        requires { IsPrefixName (chars name.now) }
+        ensures here { OnOk result (prefix_in self.new (chars name.now)
+            ≡ Some (record { name = chars name.now; iri = iri; fixed = fixed; declared = declared })) }
+        ensures others { (other : List ℕ) → other ≢ chars name.now → prefix_in self.new other ≡ prefix_in self.old other }
+        ensures err { OnErr result (self.new ≡ self.old) }
+    {
+        let name = Text::of(self.held.allocator(), name)?;
+        self.by_iri = None;
+        self.held.put(Prefix {
+            name,
+            iri,
+            fixed,
+            declared,
+        })
     }
 
     /// The IRI that an abbreviated one stands for. `UnknownPrefix` exactly
@@ -157,9 +185,9 @@ impl Prefixes {
         ensures ok { IfOk result (λ iri. expansion self.now (chars name.now) (chars local.now) ≡ Some iri) }
         ensures unknown { IsErrOf result ExpandFault.UnknownPrefix ↔ (prefix_in self.now (chars name.now) ≡ None) }
     {
-        match place_of(&self.held, name) {
-            Ok(place) => Ok(self.held[place].iri.followed_by(alloc, local)?),
-            Err(_) => Err(ExpandFault::UnknownPrefix),
+        match self.held.find(name) {
+            Some(prefix) => Ok(prefix.iri.followed_by(alloc, local)?),
+            None => Err(ExpandFault::UnknownPrefix),
         }
     }
 
@@ -183,39 +211,10 @@ impl Prefixes {
     pub fn order_by_iri(&mut self) -> Result<(), NoMemory>
         ensures { self.new ≡ self.old }
     {
-        let index = ByIri::of(*self.held.allocator(), &self.held)?;
+        let index = ByIri::of(self.held.allocator(), &self.held)?;
         self.by_iri = Some(index);
         Ok(())
     }
-}
-
-/// Where the prefix of this name stands, or the place where it would stand.
-fn place_of(held: &[Prefix], name: &str) -> Result<usize, usize>
-    requires { AreAscending held.now }
-    ensures bound { (IfOk result (λ place. place < length held.now)) × (IfErr result (λ place. place ≤ length held.now)) }
-    ensures found { IfOk result (λ place. IsPlaceOf held.now (chars name.now) place) }
-    ensures absent { IfErr result (λ place. IsGapFor held.now (chars name.now) place) }
-{
-    held.binary_search_by(|prefix| prefix.name.as_str().cmp(name))
-}
-
-/// Declares a prefix that stands in a table.
-fn declare_again(prefix: &mut Prefix, iri: Iri) -> Result<(), DeclareFault>
-    ensures twice { IsErrOf result DeclareFault.PrefixTwice ↔ (prefix.old.declared ≡ true) }
-    ensures fixed { IsErrOf result DeclareFault.PrefixFixed ↔ ((prefix.old.declared ≡ false)
-        × (prefix.old.fixed ≡ true) × (iri_of fixed_prefixes prefix.old.name ≢ Some iri)) }
-    ensures ok { OnOk result (prefix.new ≡ record prefix.old { iri = iri; declared = true }) }
-    ensures err { OnErr result (prefix.new ≡ prefix.old) }
-{
-    if prefix.declared {
-        return Err(DeclareFault::PrefixTwice);
-    }
-    if prefix.fixed && !is_fixed_to(prefix.name.as_str(), &iri) {
-        return Err(DeclareFault::PrefixFixed);
-    }
-    prefix.iri = iri;
-    prefix.declared = true;
-    Ok(())
 }
 
 /// Whether a prefix of this name stands for this IRI beforehand.
@@ -231,39 +230,8 @@ fn is_fixed_to(name: &str, iri: &Iri) -> bool
     }
 }
 
-/// Puts a new prefix at this place. At want of memory nothing changes.
-fn add(
-    held: &mut Vec<Prefix>,
-    place: usize,
-    name: &str,
-    iri: Iri,
-    declared: bool,
-) -> Result<(), NoMemory>
-    requires { place ≤ length held.old.items }
-    ensures items { held.new.items ≡ (if is_ok result
-        then insert held.old.items place (record { name = chars name.now; iri = iri; fixed = false; declared = declared })
-        else held.old.items) }
-{
-    let name = Text::of(*held.allocator(), name)?;
-    let prefix = Prefix {
-        name,
-        iri,
-        fixed: false,
-        declared,
-    };
-    put(held, place, prefix)?;
-    Ok(())
-}
-
-fn put(held: &mut Vec<Prefix>, place: usize, prefix: Prefix) -> Result<(), AllocError>
-    requires { place ≤ length held.old.items }
-    ensures { held.new.items ≡ (if is_ok result then insert held.old.items place prefix else held.old.items) }
-{
-    Ok(held.insert(place, prefix)?)
-}
-
 pub fn push<T: Drop>(items: &mut Vec<T>, item: T) -> Result<(), AllocError>
-    ensures { OnOk result (items.new.items ≡ items.old.items ++ item ∷ []) }
+    ensures { items.new.items ≡ (if is_ok result then items.old.items ++ item ∷ [] else items.old.items) }
 {
     Ok(items.push(item)?)
 }
@@ -283,17 +251,7 @@ fn fixed(alloc: Global, name: &str, iri: &str) -> Result<Prefix, NoMemory>
     })
 }
 
-fn copy_all(alloc: Global, held: &[Prefix]) -> Result<Vec<Prefix>, NoMemory>
-    ensures { IfOk result (λ copies. copies.items ≡ held.now) }
-{
-    let mut copies = Vec::new(alloc);
-    for prefix in held {
-        push(&mut copies, copy_of(alloc, prefix)?)?;
-    }
-    Ok(copies)
-}
-
-fn copy_of(alloc: Global, prefix: &Prefix) -> Result<Prefix, NoMemory>
+pub fn copy_of(alloc: Global, prefix: &Prefix) -> Result<Prefix, NoMemory>
     ensures { IfOk result (λ copy. copy ≡ prefix.now) }
 {
     let name = Text::of(alloc, prefix.name.as_str())?;
@@ -307,7 +265,7 @@ fn copy_of(alloc: Global, prefix: &Prefix) -> Result<Prefix, NoMemory>
 }
 
 /// The best of the prefixes that cut the IRI, with the byte where it cuts.
-fn best_of(held: &[Prefix], iri: &Iri) -> Option<(usize, usize)>
+fn best_of(held: &Blocks, iri: &Iri) -> Option<(usize, usize)>
     requires { AreAscending held.now }
     ensures { IsBest held.now (first (length held.now)) iri.now result }
 {
@@ -331,11 +289,11 @@ pub fn longer(best: Option<(usize, usize)>, cut: Option<(usize, usize)>) -> Opti
 
 /// The place, and where the local part of the IRI begins, where the prefix at
 /// the place cuts it.
-fn cut_at(held: &[Prefix], place: usize, iri: &Iri) -> Option<(usize, usize)>
+fn cut_at(held: &Blocks, place: usize, iri: &Iri) -> Option<(usize, usize)>
     requires { place < length held.now }
     ensures { IsBest held.now (λ k prefix. k ≡ place) iri.now result }
 {
-    cut(&held[place], iri).map(|begin| (place, begin))
+    cut(held.at(place), iri).map(|begin| (place, begin))
 }
 
 /// Where the local part of the IRI begins, where the prefix cuts it.

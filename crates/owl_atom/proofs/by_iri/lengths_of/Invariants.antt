@@ -3,5 +3,5 @@ use Rattle.std.specs.Prelude.{map}
 use Rattle.owl_atom.specs.ByIri.{size_of}
 use Rattle.owl_atom.proofs.by_iri.lengths_of.Given as goal
 
-abbrev pub invariant-loop-prefix : goal.invariant-loop-prefix
-invariant-loop-prefix l = l.lengths.items ≡ map size_of (take l.prefix-index l.held)
+abbrev pub invariant-loop-place : goal.invariant-loop-place
+invariant-loop-place l = l.lengths.items ≡ map size_of (take l.place l.held)

@@ -4,7 +4,7 @@ use Rattle.std.proofs.lemmas.Fn.{always_returns_same}
 use Rattle.std.proofs.lemmas.Str.{encodes-chars}
 use Rattle.owl_characters.specs.Order.{text_cmp}
 use Rattle.owl_atom.proofs.PrefixTables.{searched_found, searched_absent}
-use Rattle.owl_atom.proofs.prefixes.place_of.Goals as goal
+use Rattle.owl_atom.proofs.blocks.place_of.Goals as goal
 
 pub returns-clause-found : goal.returns-clause-found
 returns-clause-found c =
