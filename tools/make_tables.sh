@@ -1,5 +1,5 @@
 #!/usr/bin/env bash
-# Makes the tables of all grammars of lexemes: tools/make_tables.sh. With --check
+# Makes the tables of all grammars, of lexemes and of sentences: tools/make_tables.sh. With --check
 # nothing is written: it fails where a table is not that of its grammar.
 set -euo pipefail
 cd -- "$(dirname -- "$(readlink -f -- "${BASH_SOURCE[0]}")")/.."
@@ -18,3 +18,11 @@ shared=("$tokens/specs/SharedPatterns.antt" "$tokens/src/kinds.rt" crates/owl_ch
 make_table functional_grammar owl_tokens functional_table FunctionalOrigin "$tokens/specs/FunctionalGrammar.antt" "${shared[@]}"
 make_table manchester_grammar owl_tokens manchester_table ManchesterOrigin "$tokens/specs/ManchesterGrammar.antt" "${shared[@]}"
 make_table turtle_grammar ttl_tokens table TurtleOrigin crates/ttl_tokens/specs/TurtleGrammar.antt
+
+# The grammar, its crate and its name, and the names of the table's files.
+make_grammar() {
+    local grammar=$1 crate=crates/$2 name=$3 definition=$4 module=$5
+    python3 tools/make_grammar.py ${check:+"$check"} "$grammar" "$name" "$crate" "$definition" "$module"
+}
+
+make_grammar crates/grammar_tests/items.grammar grammar_tests items ItemsTable items_table

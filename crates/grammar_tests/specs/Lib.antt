@@ -1,0 +1,4 @@
+pub mod ItemsTable
+pub mod ItemsPage
+pub mod Events
+pub mod WorkedCases
