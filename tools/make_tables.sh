@@ -26,3 +26,9 @@ make_grammar() {
 }
 
 make_grammar crates/grammar_tests/items.grammar grammar_tests items ItemsTable items_table
+
+# The grammar of Functional-Style Syntax follows from the rows of tags.
+functional=$(mktemp)
+trap 'rm -f "$functional"' EXIT
+python3 tools/make_fss_grammar.py crates/owl_tree >"$functional"
+make_grammar "$functional" fss_grammar functional Table table

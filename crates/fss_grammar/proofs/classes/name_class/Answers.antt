@@ -1,0 +1,11 @@
+use Rattle.std.proofs.Common.{true, false, refl, sym, ap}
+use Rattle.owl_characters.specs.AsciiLaws.{ascii_chars}
+use Rattle.fss_grammar.specs.Classes.{class_number}
+use Rattle.fss_grammar.specs.ClassLaws.{name_told}
+use Rattle.fss_grammar.proofs.classes.name_class.Goals as goal
+
+pub returns-then-is : goal.returns-then-is
+returns-then-is c = sym (ap class_number (name_told c.args.local.now _ c.is.result c.is.ensures (ascii_chars _ refl) true c.if-is.true))
+
+pub returns-else-is : goal.returns-else-is
+returns-else-is c = sym (ap class_number (name_told c.args.local.now _ c.is.result c.is.ensures (ascii_chars _ refl) false c.if-is.false))
