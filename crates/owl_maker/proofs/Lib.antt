@@ -1,0 +1,9 @@
+pub mod Keys
+pub mod Follow
+pub mod Stacks
+pub mod Tops
+pub mod Added
+pub mod Acts
+pub mod Shutting
+pub mod Ended
+pub mod Shut

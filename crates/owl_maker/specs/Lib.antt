@@ -1,0 +1,5 @@
+pub mod Constructs
+pub mod Makings
+pub mod Steps
+pub mod Kept
+pub mod MakerLaws
