@@ -28,6 +28,12 @@ pub enum RowFault {
     /// A row has to say its status.
     #[error("no status")]
     NoStatus,
+    /// A row of tokens has to have a document.
+    #[error("no document")]
+    NoDocument,
+    /// A document whose tokens are told is short.
+    #[error("too long a document")]
+    TooLong,
     /// Want of memory.
     #[error("out of memory")]
     Memory,

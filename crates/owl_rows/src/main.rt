@@ -12,6 +12,8 @@
 //! - `out-piece N`: a write of the output takes at most N bytes; `fail-put N`: the write with this number fails;
 //!   `room N`: the output takes at most N bytes in all; `fail-note N`: the write of the note with this number fails.
 //! - `cuts`: the row is run once for each `piece` from 1 to 16.
+//! - `tokens LANGUAGE`, in place of words: the tokens of the document, in each cut in two pieces, are the output, a line
+//!   for each, and behind them a line for how they end. With `open` the end is not told.
 //!
 //! The parts of a text stand one a line: `= TEXT`, `| TEXT` with a line feed behind, `* COUNT TEXT` so many times, and
 //! `< FILE`, all bytes of a file of the topic's folder. A line that begins with `#` is a comment.
@@ -20,6 +22,7 @@
 #![tactic(auto)]
 
 mod answer;
+mod described;
 mod devices;
 mod fault;
 mod line;
@@ -27,6 +30,7 @@ mod part;
 mod report;
 mod row;
 mod tally;
+mod token;
 mod topic;
 
 use std::process::ExitCode;

@@ -3,6 +3,7 @@
 use crate::answer::{Answer, answer_to};
 use crate::fault::RowFault;
 use crate::row::Row;
+use crate::token::{Language, tokens_of};
 use std::alloc::{AllocError, Global};
 use std::fmt::Write;
 
@@ -17,12 +18,30 @@ pub fn report_of(alloc: Global, row: &Row<'_>) -> Result<String, RowFault> {
 }
 
 fn report_all(alloc: Global, row: &Row<'_>, report: &mut String) -> Result<(), RowFault> {
+    if let Some(language) = row.tokens {
+        return report_tokens(alloc, row, language, report);
+    }
     if !row.cuts {
         return compare(&answer_to(alloc, row, row.devices)?, row, report);
     }
     for size in 1..=LARGEST_PIECE {
         let answer = answer_to(alloc, row, row.devices.in_pieces(size))?;
         compare(&answer, row, report)?;
+    }
+    Ok(())
+}
+
+/// The tokens in each cut of the document in two pieces.
+fn report_tokens(
+    alloc: Global,
+    row: &Row<'_>,
+    language: Language,
+    report: &mut String,
+) -> Result<(), RowFault> {
+    let document = row.documents.first().ok_or(RowFault::NoDocument)?;
+    for cut in 0..=document.bytes.len() {
+        let text = tokens_of(alloc, language, &document.bytes, cut, !row.is_open)?;
+        compare_texts("output", text.as_bytes(), &row.output, report)?;
     }
     Ok(())
 }

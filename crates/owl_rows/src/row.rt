@@ -4,6 +4,7 @@ use crate::devices::Devices;
 use crate::fault::RowFault;
 use crate::line::{is_comment, number_of, set};
 use crate::part::{Part, append_line, append_part};
+use crate::token::{Language, language_of};
 use anyhow::{Context, Result};
 use std::alloc::Global;
 use std::rt::Files;
@@ -21,6 +22,10 @@ pub struct Row<'a> {
     /// The words of the command line, with white space between them.
     pub words: Option<&'a str>,
     pub documents: Vec<Document<'a>>,
+    /// Whose tokens of the document are told, in place of a run.
+    pub tokens: Option<Language>,
+    /// Whether the end of the document is not told.
+    pub is_open: bool,
     pub devices: Devices,
     /// Whether it is run once for each of some sizes of pieces.
     pub cuts: bool,
@@ -54,6 +59,8 @@ impl<'a> Row<'a> {
         Row {
             words: None,
             documents: Vec::new(alloc),
+            tokens: None,
+            is_open: false,
             devices: Devices::default(),
             cuts: false,
             status: None,
@@ -93,6 +100,8 @@ impl<'a> Row<'a> {
     fn say(&mut self, alloc: Global, word: &str, rest: &'a str) -> Result<(), RowFault> {
         match word {
             "words" => set(&mut self.words, rest),
+            "tokens" => set(&mut self.tokens, language_of(rest)?),
+            "open" => self.leave_open(),
             "document" => self.begin_document(alloc, rest),
             "output" => set(&mut self.output, Vec::new(alloc)),
             "status" => set(&mut self.status, number_of(rest)?),
@@ -121,6 +130,11 @@ impl<'a> Row<'a> {
 
     fn cut(&mut self) -> Result<(), RowFault> {
         self.cuts = true;
+        Ok(())
+    }
+
+    fn leave_open(&mut self) -> Result<(), RowFault> {
+        self.is_open = true;
         Ok(())
     }
 
