@@ -7,7 +7,7 @@ ghost use Rattle.owl_arena.specs.Nodes.{IsSameForm};
 ghost use Rattle.owl_tree.specs.Mixes.{mix_step};
 
 use crate::expr_id::ExprId;
-use owl_tree::{Atom, Tag};
+use owl_tree::{Atom, Tag, mix_step};
 
 /// A leaf, or a tag over kids that stand before it.
 #[derive(Debug, PartialEq, Eq, Drop)]
@@ -45,14 +45,6 @@ fn mix_kids(mix: u64, kids: &[ExprId]) -> u64
         mixed = mix_step(mixed, kid.place() as u64);
     }
     mixed
-}
-
-/// The mix after one more number.
-#[tactic(auto, unfolding(owl_tree::specs::Mixes::mix_step))]
-fn mix_step(mix: u64, number: u64) -> u64
-    ensures { result ≡ mix_step mix number }
-{
-    mix.wrapping_mul(1_000_003).wrapping_add(number)
 }
 
 /// A tree's root, and the depth and weight of the tree.

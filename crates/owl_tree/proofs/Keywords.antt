@@ -1,6 +1,10 @@
--- The keywords of tags, and what tells tags apart.
-use Rattle.std.proofs.Common.{◌≡◌, ℕ, true, List, Option, Some, refl, sym, ap, ◌∙◌}
+-- The numbers and keywords of tags, and what tells tags apart.
+use Rattle.std.proofs.Common.{◌≡◌, ℕ, ◌+◌, ◌<◌, ◌≤◌, get_or, true, List, Option, Some, refl, sym, ap, ◌∙◌}
 use Rattle.std.specs.List.{find, list_all}
+use Rattle.std.proofs.lemmas.List.FromFn.{get_or-range_with_len}
+use Rattle.std.proofs.Math.ListN.{get_or-map}
+use Rattle.std.proofs.Math.Nat.{add_comm}
+use Rattle.std.proofs.lemmas.Bool.{leb-true}
 use Rattle.std.specs.Str.{IsUtf8, bytes_eq, chars, encode_utf8_all}
 use Rattle.std.specs.Prelude.{nat_le, ◌&&◌}
 use Rattle.std.proofs.lemmas.Str.{encodes-chars}
@@ -36,6 +40,18 @@ is_named t word u e =
 -- no two tags have one keyword
 pub same_keyword : (t u : Tag) → keyword_of t ≡ keyword_of u → t ≡ u
 same_keyword t u e = let same = sym (is_found t) ∙ ap (λ word. tag_of_keyword word all_tags) e ∙ is_found u in cc
+
+-- the tag at a place has the number behind it
+pub numbered : (t : Tag) (place : ℕ) → t ≡ get_or all_tags place t → place < 77 → number_of t ≡ place + 1
+unfolding all_tags number_of
+numbered t place e within =
+    ap number_of e ∙ sym (get_or-map number_of all_tags place t) ∙ get_or-range_with_len 1 77 place (number_of t) within ∙ add_comm 1 place
+
+pub one_at_least : (t : Tag) → 1 ≤ number_of t
+unfolding number_of
+one_at_least tag.Class = leb-true 1 1 refl
+one_at_least tag.Datatype = leb-true 1 2 refl
+one_at_least _ = leb-true 1 _ refl
 
 pub axioms_numbered : (t : Tag) → is_axiom t ≡ (nat_le 41 (number_of t) && nat_le (number_of t) 77)
 unfolding number_of

@@ -8,6 +8,7 @@ pub mod Trees
 pub mod TreeLaws
 pub mod Equivalence
 pub mod Shape
+pub mod Frames
 pub mod Order
 pub mod OrderLaws
 pub mod Canonical

@@ -27,7 +27,8 @@ use Rattle.owl_tree.specs.Order.{atom_cmp, kids_cmp, tag_cmp, tree_cmp}
 use Rattle.owl_tree.specs.Tags.{all_tags, number_of}
 use Rattle.owl_tree.specs.Trees.{Tree, Kids, leaf, node, no_kids, kid}
 
-stands : (t : Tag) → slice_get all_tags (number_of t - 1) ≡ Some t
+-- a tag stands at its number
+pub stands : (t : Tag) → slice_get all_tags (number_of t - 1) ≡ Some t
 unfolding all_tags number_of
 stands tag.Class = refl
 stands _ = refl

@@ -139,9 +139,10 @@ fn mix_text(mix: u64, text: &str) -> u64
     mixed
 }
 
-/// The mix after one more number.
+/// The mix after one more number: the mix times 1000003 and the number more,
+/// modulo 2^64.
 #[tactic(auto, unfolding(crate::specs::Mixes::mix_step))]
-fn mix_step(mix: u64, number: u64) -> u64
+pub fn mix_step(mix: u64, number: u64) -> u64
     ensures { result ≡ mix_step mix number }
 {
     mix.wrapping_mul(1_000_003).wrapping_add(number)

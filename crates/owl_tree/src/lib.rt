@@ -7,7 +7,7 @@ mod laws;
 mod row;
 mod tag;
 
-pub use atom::Atom;
+pub use atom::{Atom, mix_step};
 pub use laws::{
     canonical_forms, equivalence_is_equal_forms, ontologies_are_same_by_equal_forms,
     trees_are_ordered,

@@ -188,6 +188,14 @@ impl Tag {
         self as u8 + 1
     }
 
+    /// The tag with this number, if there is one.
+    pub fn numbered(number: u8) -> Option<Tag>
+        ensures some { IfSome result (λ tag. number_of tag ≡ number) }
+        ensures none { IsNone result → (tag : Tag) → number_of tag ≡ number → ⊥ }
+    {
+        Some(*TAGS.get(number.checked_sub(1)? as usize)?)
+    }
+
     /// The name of the tag, and its keyword in Functional-Style Syntax.
     #[tactic(auto, using(crate::proofs::Keywords::own_characters), unfolding(crate::specs::Tags::keyword_of))]
     pub fn keyword(self) -> &'static str
