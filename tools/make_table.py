@@ -17,6 +17,7 @@ import sys
 
 EMPTY = ("empty",)
 NO_STATE = 255
+ASCII = 128
 LINE_WIDTH = 92
 TITLES = {"functional": "Functional-Style Syntax", "manchester": "Manchester Syntax", "turtle": "Turtle"}
 
@@ -267,6 +268,9 @@ class Table:
             self.intervals.append((behind - 1, class_of(first)))
         self.others = class_of(firsts[-1])
 
+    def class_in(self, c):
+        return next((number for last, number in self.intervals if c <= last), self.others)
+
     def make_states(self):
         first = frozenset(self.terminals)
         numbers = {first: 0}
@@ -297,6 +301,11 @@ class Table:
     def rust(self, language):
         rows = "".join(f"    [{', '.join(map(str, row))}],\n" for row in self.rows)
         return f"""//! The table of the automaton of {TITLES[language]}, made by `tools/make_table.py`.
+
+/// The class of each ASCII character.
+#[rattlefmt::skip]
+pub const ASCII: [u8; {ASCII}] = [
+{filled(map(self.class_in, range(ASCII)))}];
 
 /// The last character of each interval, and the class of its characters.
 #[rattlefmt::skip]

@@ -65,6 +65,26 @@ impl Text {
         Ok(Text { string })
     }
 
+    /// The text with no characters, with room for so many bytes. Takes no memory
+    /// for none.
+    pub fn with_capacity(alloc: Global, bytes: usize) -> Result<Text, NoMemory>
+        ensures { IfOk result (λ text. text ≡ []) }
+    {
+        let string = String::with_capacity(alloc, bytes)?;
+        Ok(Text { string })
+    }
+
+    /// The text of these characters.
+    pub fn of_chars(alloc: Global, chars: &[char]) -> Result<Text, NoMemory>
+        ensures { IfOk result (λ text. text ≡ chars.now) }
+    {
+        let mut text = Text::with_capacity(alloc, chars.len())?;
+        for c in chars {
+            text.push(*c)?;
+        }
+        Ok(text)
+    }
+
     /// The same characters. Takes no memory.
     pub fn as_str(&self) -> &str
         ensures chars { chars result.now ≡ self.now }

@@ -42,6 +42,7 @@ impl Utf8Feed {
 
     /// Takes the next byte. Where no character begins, it takes nothing from
     /// then on, and answers the same.
+    #[inline(always)]
     pub fn push(&mut self, byte: u8) -> Utf8Step
         requires { self.old.at + length self.old.held < 2 ^ 62 }
         ensures step { self.old.bad ≡ false → Steps self.old byte result self.new }
@@ -50,6 +51,22 @@ impl Utf8Feed {
         if self.bad {
             return Utf8Step::Bad { at: self.at };
         }
+        if byte < 128 && self.partial == Partial::Nothing {
+            let at = self.at;
+            self.at += 1;
+            let c = char::from(byte);
+            return Utf8Step::Char { c, at };
+        }
+        self.step(byte)
+    }
+
+    /// Takes the next byte, whatever is begun.
+    #[inline(never)]
+    fn step(&mut self, byte: u8) -> Utf8Step
+        requires open { self.old.bad ≡ false }
+        requires room { self.old.at + length self.old.held < 2 ^ 62 }
+        ensures { Steps self.old byte result self.new }
+    {
         match judge(self.partial, byte) {
             Judged::Goes(partial) => {
                 self.partial = partial;

@@ -4,6 +4,7 @@ use Rattle.std.proofs.Common.{Result, Ok, Err}
 use Rattle.std.specs.Prelude.{◌&&◌, OnOk, IfErr}
 use Rattle.owl_characters.specs.declared.utf8_step.BadUtf8.{BadUtf8 as Fault}
 use Rattle.std.specs.Char.{IsScalar, encode_utf8, len_utf8}
+use Rattle.std.specs.Str.{encode_utf8_all}
 use Rattle.std.proofs.lemmas.Bool.{and_parts, eqb-true}
 use Rattle.std.proofs.lemmas.List.{append_assoc, append-nil, length-append}
 use Rattle.std.proofs.lemmas.Str.{length-encode}
@@ -20,11 +21,14 @@ use Rattle.owl_lexer.specs.Cutting.{Cuts, Lexeme, Stops}
 use Rattle.owl_lexer.specs.DecodingLaws.{decode}
 use Rattle.owl_lexer.specs.Giving.{Begun, Continues, EndsAt, Gives, GivesSome, end_of}
 use Rattle.owl_lexer.specs.Hands.{IsFrontOf, Finishes, FinishesBadly, IsReady, Refuses, Takes, begun_of}
-use Rattle.owl_lexer.specs.Sources.{EndsBytes, EndsBytesBadly, IsOpen, RefusesBytes, TakesBytes, begun_in}
+use Rattle.owl_lexer.specs.Lexing.{KeepsEnd}
+use Rattle.owl_lexer.specs.LexingLaws.{bytes_of}
+use Rattle.owl_lexer.specs.Sources.{EndsBytes, EndsBytesBadly, IsOpen, RefusesBytes, TakesBytes, begun_in, bytes_in}
 use Rattle.owl_lexer.specs.declared.hand.Front.{Front}
 use Rattle.owl_lexer.specs.declared.hand.Hand.{Hand}
 use Rattle.owl_lexer.specs.declared.placed.Placed.{Placed}
 use Rattle.owl_lexer.specs.declared.source.Source.{Source}
+use Rattle.owl_lexer.proofs.Ends.{keeps_none, keeps_unfinished, keeps_whole}
 
 -- the characters that are begun
 abbrev pub characters_of : BegunBytes → Begun
@@ -79,6 +83,7 @@ takes_unfinished a value hand old new fresh b before r u e =
     let at : new.at ≡ old.at = ap (λ (f : Feeding). f.at) e in
     let held : new.held ≡ old.held ++ b ∷ [] = ap (λ (f : Feeding). f.held) e in
     let sizes : length new.held ≡ length old.held + 1 = ap (λ (l : List ℕ). length l) held ∙ length-append old.held (b ∷ []) in
+    let begun : BegunBytes = record { at = hand.at; held = hand.held.items; bytes = old.held; fresh = fresh } in
     record {
       ready = record { ready = r.ready; place = r.place ∙ sym at; clean = ap (λ (f : Feeding). f.bad) e; first = r.first; start = r.start; part = inr (subst IsUnfinished (sym held) u) };
       adds = record {
@@ -88,6 +93,7 @@ takes_unfinished a value hand old new fresh b before r u e =
       };
       few = omega arith;
       end = omega arith;
+      ends = subst (λ (l : List ℕ). KeepsEnd (bytes_of begun) (b ∷ []) (bytes_of (record begun { bytes = l }))) (sym held) (keeps_unfinished begun b);
     }
 
 -- a byte that makes a character whole
@@ -177,6 +183,7 @@ takes_whole a value old new b c before after r f plain_c fresh t =
       adds = record { given = t.adds.given; added = t.adds.added; gives = subst (GivesBytes a (begun_in old) (b ∷ []) t.adds.given) begun gives };
       few = omega arith;
       end = omega arith;
+      ends = keeps_whole (begun_in old) (begun_in new) b c f.is held fresh t.ends;
     }
 
 pub refuses_whole : {T : Type 0} → (a : Automaton) (value : ℕ → List ℕ → Option T) (old : Source) (new : Feeding) (b c : ℕ) (before after : List (Placed T)) (fault : LexFault) → IsOpen a old → FeedsWhole old.feed new b c → (old.fresh && is_mark c) ≡ false → Refuses a value (begun_of old.hand) (c ∷ []) before after fault → RefusesBytes a value (begun_in old) (b ∷ []) before after fault
@@ -254,6 +261,7 @@ takes_mark a value old new b c before r f passes fresh moved =
       };
       few = omega arith;
       end = omega arith;
+      ends = keeps_none (bytes_in old) (bytes_in new) (b ∷ []) (ap (λ (l : List ℕ). encode_utf8_all l ++ new.feed.held) (held ∙ none) ∙ feed_held) fresh;
     }
 
 -- no character is begun, and none follows

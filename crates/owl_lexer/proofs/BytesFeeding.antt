@@ -7,9 +7,10 @@ use Rattle.owl_lexer.specs.AddingLaws.{added_both}
 use Rattle.owl_lexer.specs.Automata.{Automaton}
 use Rattle.owl_lexer.specs.BytesGiving.{EndsBytesAt, GivesSomeBytes}
 use Rattle.owl_lexer.specs.BytesLaws.{ends_behind_bytes, gives_both_bytes, some_behind_bytes}
-use Rattle.owl_lexer.specs.Sources.{RefusesBytes, TakesBytes, begun_in}
+use Rattle.owl_lexer.specs.Sources.{RefusesBytes, TakesBytes, begun_in, bytes_in}
 use Rattle.owl_lexer.specs.declared.placed.Placed.{Placed}
 use Rattle.owl_lexer.specs.declared.source.Source.{Source}
+use Rattle.owl_lexer.proofs.Ends.{keeps_both}
 use Rattle.owl_lexer.proofs.Feeding.{parted}
 
 takes_both_bytes : {T : Type 0} → (a : Automaton) (value : ℕ → List ℕ → Option T) (old mid new : Source) (bs ds : List ℕ) (before between after : List (Placed T)) → TakesBytes a value old bs before between mid → TakesBytes a value mid ds between after new → TakesBytes a value old (bs ++ ds) before after new
@@ -28,6 +29,7 @@ takes_both_bytes a value old mid new bs ds before between after t u =
       };
       few = omega arith;
       end = omega arith;
+      ends = keeps_both (bytes_in old) (bytes_in mid) (bytes_in new) bs ds t.ends u.ends;
     }
 
 pub takes_more_bytes : {T : Type 0} → (a : Automaton) (value : ℕ → List ℕ → Option T) (old mid new : Source) (bytes : List ℕ) (i : ℕ) (before between after : List (Placed T)) → i < length bytes → TakesBytes a value old (take i bytes) before between mid → TakesBytes a value mid (get_or bytes i 0 ∷ []) between after new → TakesBytes a value old (take (i + 1) bytes) before after new

@@ -1,9 +1,9 @@
--- The class of a character stands at the first interval that does not end before it.
-use Rattle.std.proofs.Common.{◌≡◌, ℕ, zero, suc, ◌<◌, ◌≤◌, true, false, List, [], ◌∷◌, length, get_or, refl, ◌∙◌, arith}
+-- The class of a character stands at the first interval that does not end before it, or at its place in a table of classes.
+use Rattle.std.proofs.Common.{◌≡◌, ◌==◌, ℕ, ◌+◌, zero, suc, add-zero, ap, sym, ◌<◌, ◌≤◌, true, false, List, [], ◌∷◌, length, get_or, refl, ◌∙◌, arith}
 use Rattle.std.specs.Prelude.{nat_le, nat_lt}
 use Rattle.std.specs.List.Sorted.{IsPartitionPoint, IsPartitionedBy}
-use Rattle.std.proofs.lemmas.Bool.{and_parts, cond-false, cond-true, le-leb, leb-true, lt-leb, lt-ltb, ltb-false, ltb-true}
-use Rattle.owl_lexer.specs.Tables.{ascend_from, are_ascending, class_in}
+use Rattle.std.proofs.lemmas.Bool.{and_parts, cond-false, cond-true, eqb-true, le-leb, leb-true, lt-leb, lt-ltb, ltb-false, ltb-true}
+use Rattle.owl_lexer.specs.Tables.{are_classes_from, ascend_from, are_ascending, class_in}
 
 -- the intervals end at or behind where they begin
 ends_above : (first : ℕ) (xs : List (ℕ × ℕ)) (j : ℕ) (d : ℕ × ℕ) → ascend_from first xs ≡ true → j < length xs → first ≤ (get_or xs j d).0
@@ -38,3 +38,12 @@ class_at (x ∷ xs) others c (suc place) h =
     let below = ltb-true x.0 c (h.0 0 x (omega arith) (omega arith)) in
     cond-false (nat_le c x.0) x.1 (class_in xs others c) (lt-leb c x.0 below)
     ∙ class_at xs others c place (λ k d le lt. h.0 (suc k) d (omega arith) (omega arith), λ k d le lt. h.1 (suc k) d (omega arith) (omega arith))
+
+pub class_there : (first : ℕ) (xs : List (ℕ × ℕ)) (others : ℕ) (classes : List ℕ) (place d : ℕ) → are_classes_from first xs others classes ≡ true → place < length classes → get_or classes place d ≡ class_in xs others (first + place)
+class_there first xs others [] place d h lt = absurd (omega arith)
+class_there first xs others (class ∷ classes) zero d h lt =
+    eqb-true class (class_in xs others first) (and_parts (class == class_in xs others first) (are_classes_from (first + 1) xs others classes) h).0
+    ∙ ap (class_in xs others) (sym (add-zero first))
+class_there first xs others (class ∷ classes) (suc place) d h lt =
+    class_there (first + 1) xs others classes place d (and_parts (class == class_in xs others first) (are_classes_from (first + 1) xs others classes) h).1 (omega arith)
+    ∙ ap (class_in xs others) (omega arith)

@@ -22,6 +22,7 @@ use Rattle.owl_lexer.specs.Holding.{IsFront}
 use Rattle.owl_lexer.specs.declared.hand.Front.{Front}
 use Rattle.owl_lexer.specs.declared.hand.Hand.{Hand}
 use Rattle.owl_lexer.specs.declared.placed.Placed.{Placed}
+use Rattle.owl_lexer.proofs.Ends.{ends_behind as end_behind, ends_both as end_both}
 use Rattle.owl_lexer.proofs.Hands.{Grows}
 
 -- a lexeme stands for one token at most
@@ -49,6 +50,7 @@ takes_held a value old new c before r g =
       few = omega arith;
       short = omega arith;
       end = omega arith;
+      ends = record { front = []; parts = sym g.held };
     }
 
 -- memory ran out, and no lexeme was given
@@ -147,6 +149,7 @@ takes_front {T = T} a value old mid new front c cs before between after g stuck 
       few = omega arith;
       short = omega arith;
       end = omega arith;
+      ends = end_behind front.length old.held.items mid.held.items cs new.held.items c (ap (λ (b : Begun). b.held) g.begun) is t.ends;
     }
 
 pub refuses_front : {T : Type 0} → (a : Automaton) (value : ℕ → List ℕ → Option T) (old mid : Hand) (front : Front) (c : ℕ) (cs : List ℕ) (before between after : List (Placed T)) (fault : LexFault) → GivesFront a value old mid front before between → a.step old.state c ≡ None → cs ≡ drop front.length old.held.items ++ c ∷ [] → Refuses a value (begun_of mid) cs between after fault → Refuses a value (begun_of old) (c ∷ []) before after fault
@@ -193,6 +196,7 @@ takes_both a value old mid new cs ds before between after t u =
       few = omega arith;
       short = omega arith;
       end = omega arith;
+      ends = end_both old.held.items cs mid.held.items ds new.held.items t.ends u.ends;
     }
 
 pub takes_more : {T : Type 0} → (a : Automaton) (value : ℕ → List ℕ → Option T) (old mid new : Hand) (cs : List ℕ) (i : ℕ) (before between after : List (Placed T)) → i < length cs → Takes a value old (take i cs) before between mid → Takes a value mid (get_or cs i 0 ∷ []) between after new → Takes a value old (take (i + 1) cs) before after new

@@ -1,7 +1,9 @@
 pub mod Hands
+pub mod Ends
 pub mod Feeding
 pub mod Finishing
 pub mod Bytes
 pub mod BytesFeeding
 pub mod Classes
+pub mod Holds
 pub mod Tokens

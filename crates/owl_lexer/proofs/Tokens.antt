@@ -1,24 +1,21 @@
 -- What is told of lexemes and characters, in tokens and bytes.
-use Rattle.std.proofs.Common.{◌≡◌, inl, inr, ℕ, ◌+◌, Option, None, Some, List, [], ◌∷◌, ◌++◌, length, refl, sym, ap, ◌∙◌, subst, arith}
-use Rattle.std.specs.Char.{encode_utf8}
+use Rattle.std.proofs.Common.{◌≡◌, ℕ, ◌+◌, Option, None, Some, List, [], ◌∷◌, ◌++◌, length, sym, ap, ◌∙◌, subst, arith}
 use Rattle.std.specs.Str.{encode_utf8_all}
-use Rattle.std.proofs.lemmas.List.{append_assoc, length-append}
-use Rattle.std.proofs.lemmas.Str.{encode_same, len_utf8_bounds, length-encode}
+use Rattle.std.proofs.lemmas.List.{length-append}
 use Rattle.owl_characters.specs.Utf8.{size}
 use Rattle.owl_characters.specs.Utf8Laws.{size_is}
 use Rattle.owl_lexer.specs.Adding.{tokens_of}
 use Rattle.owl_lexer.specs.AddingLaws.{tokens-append}
-use Rattle.owl_lexer.specs.Automata.{Automaton, run}
+use Rattle.owl_lexer.specs.Automata.{Automaton}
 use Rattle.owl_lexer.specs.BytesGiving.{AddsBytes, AddsSomeBytes, AddsSomeLastBytes, BegunBytes, end_of_bytes}
-use Rattle.owl_lexer.specs.BytesLaws.{no_whole}
-use Rattle.owl_lexer.specs.HoldingLaws.{run-append, run-none}
 use Rattle.owl_lexer.specs.Languages.{AreSpelled, IsLanguage}
-use Rattle.owl_lexer.specs.Lexing.{Adds, AddsSome, AddsSomeLast, Begun, Continues, HoldsNone, end_of, nothing_begun}
+use Rattle.owl_lexer.specs.Lexing.{Adds, AddsSome, AddsSomeLast, Begun, Continues, end_of, nothing_begun}
 use Rattle.owl_lexer.specs.LexingLaws.{IsSound, always_split, bytes_of, lexemes_continue, split_spelled, tokens_continue}
-use Rattle.owl_lexer.specs.Sources.{EndsBytes, EndsBytesBadly, EndsPieces, EndsPiecesBadly, IsOpen, IsPart, RefusesBytes, RefusesPiece, TakesBytes, TakesPiece, begun_in, bytes_in}
+use Rattle.owl_lexer.specs.Sources.{EndsBytes, EndsBytesBadly, EndsPieces, EndsPiecesBadly, IsOpen, RefusesBytes, RefusesPiece, TakesBytes, TakesPiece, begun_in, bytes_in}
 use Rattle.owl_lexer.specs.declared.fault.LexFault.{LexFault}
 use Rattle.owl_lexer.specs.declared.placed.Placed.{Placed}
 use Rattle.owl_lexer.specs.declared.source.Source.{Source}
+use Rattle.owl_lexer.proofs.Holds.{holds_no_end, holds_none}
 
 sound_of : (a : Automaton) (source : Source) → IsOpen a source → IsSound (begun_in source)
 sound_of a source r = record { scalars = r.ready.scalars; first = r.start }
@@ -88,39 +85,6 @@ some_last_spelled a value spells l old before after g =
     spelled_both spells before g.given after g.added
     (spelled_front spells g.given rest.0 (subst (AreSpelled spells) rest.1 (split_spelled spells old.fresh old.at (old.held ++ []) o.tokens o.ending o.splits)))
 
--- what is held
-
-part_begins_none : (bytes : List ℕ) → IsPart bytes → (c : ℕ) (rest : List ℕ) → bytes ≡ encode_utf8 c ++ rest → ⊥
-part_begins_none bytes (inr u) c rest e = no_whole bytes u c rest e
-part_begins_none bytes (inl none) c rest e =
-    let sizes : 0 ≡ length (encode_utf8 c) + length rest = sym (ap (λ (l : List ℕ). length l) none) ∙ ap (λ (l : List ℕ). length l) e ∙ length-append (encode_utf8 c) rest in
-    let is = length-encode c in
-    let bounds = len_utf8_bounds c in
-    let low = bounds.0 in
-    omega arith
-
--- characters whose bytes stand in front of what is held are in hand
-held_front : (held cs bytes rest : List ℕ) → IsPart bytes → encode_utf8_all held ++ bytes ≡ encode_utf8_all cs ++ rest → (more : List ℕ) × (held ≡ cs ++ more)
-held_front held [] bytes rest p e = (held, refl)
-held_front [] (c ∷ cs) bytes rest p e = absurd (part_begins_none bytes p c (encode_utf8_all cs ++ rest) (e ∙ append_assoc (encode_utf8 c) (encode_utf8_all cs) rest))
-held_front (h ∷ held) (c ∷ cs) bytes rest p e =
-    let same = encode_same h c (encode_utf8_all held ++ bytes) (encode_utf8_all cs ++ rest) (sym (append_assoc (encode_utf8 h) (encode_utf8_all held) bytes) ∙ e ∙ append_assoc (encode_utf8 c) (encode_utf8_all cs) rest) in
-    let o = held_front held cs bytes rest p same.1 in
-    let first : h ≡ c = same.0 in
-    let others : held ≡ cs ++ o.0 = o.1 in
-    (o.0, cc)
-
-holds_none : {T : Type 0} → (a : Automaton) (value : ℕ → List ℕ → Option T) (spells : T → List ℕ → Type 0) → IsLanguage a value spells → (source : Source) → IsOpen a source → HoldsNone spells (bytes_in source)
-holds_none a value spells l source r t spelling rest c s space e =
-    let front = held_front source.hand.held.items (spelling ++ c ∷ []) source.feed.held rest r.part e in
-    let runs : Some source.hand.state ≡ None =
-    sym r.ready.leads
-    ∙ ap (run a (Some a.start)) front.1
-    ∙ run-append a (Some a.start) (spelling ++ c ∷ []) front.0
-    ∙ ap (λ (o : Option ℕ). run a o front.0) (l.ends t spelling c s space)
-    ∙ run-none a front.0 in
-    cc
-
 -- the places
 
 held_is : (begun : BegunBytes) → length (encode_utf8_all begun.held ++ begun.bytes) ≡ size begun.held + length begun.bytes
@@ -145,7 +109,9 @@ takes_piece a value spells l old new bytes before after r t =
       spelled = some_spelled a value spells l (bytes_in old) bytes before after some;
       few = omega arith;
       early = holds_none a value spells l new t.ready;
+      prompt = holds_no_end a value spells l new t.ready;
       end = omega arith;
+      ends = t.ends;
     }
 
 pub refuses_piece : {T : Type 0} → (a : Automaton) (value : ℕ → List ℕ → Option T) (spells : T → List ℕ → Type 0) → IsLanguage a value spells → (old : Source) (bytes : List ℕ) (before after : List (Placed T)) (fault : LexFault) → IsOpen a old → RefusesBytes a value (begun_in old) bytes before after fault → RefusesPiece spells (bytes_in old) bytes before after fault

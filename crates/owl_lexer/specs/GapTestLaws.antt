@@ -1,14 +1,14 @@
 -- A table that passes the test of gaps is that of a language, where its lexemes say what those of the language do.
-use Rattle.std.proofs.Common.{◌≡◌, ◌↔◌, inl, inr, ℕ, zero, suc, ◌<◌, Bool, true, false, not, ◌&&◌, ◌||◌, Option, None, Some, List, [], ◌∷◌, length, get_or, refl, sym, ap, ◌∙◌, subst, arith}
+use Rattle.std.proofs.Common.{◌≡◌, ◌↔◌, ◌⊎◌, inl, inr, ℕ, ◌+◌, add-zero, zero, suc, ◌<◌, Bool, true, false, not, ◌&&◌, ◌||◌, Option, None, Some, List, [], ◌∷◌, ◌++◌, length, get_or, refl, sym, ap, ◌∙◌, subst, arith}
 use Rattle.std.specs.Prelude.{◌==◌}
 use Rattle.std.specs.List.{list_all}
-use Rattle.std.proofs.lemmas.Bool.{and_parts, both_ways, eqb-true, false_from_ne_true, not_from_false, or_cases, or_left, or_right}
+use Rattle.std.proofs.lemmas.Bool.{and_parts, both_ways, eqb-true, false_from_ne_true, not-true, not_from_false, or_cases, or_left, or_right}
 use Rattle.owl_characters.specs.Iri.{is_among}
 use Rattle.owl_characters.specs.Names.{IsRunOf}
 use Rattle.owl_lexer.specs.Automata.{Knows, Spells, kind_at, run, step_from}
-use Rattle.owl_lexer.specs.GapTests.{check_gaps, class_of, gap_starts, gaps_stay, is_gap_kind, is_in_gap, is_none, is_token_kind, row_stays, spaces, tokens_end}
-use Rattle.owl_lexer.specs.HoldingLaws.{run-append}
-use Rattle.owl_lexer.specs.Languages.{BeginsNoGap, IsCommentText, IsLanguage, Says}
+use Rattle.owl_lexer.specs.GapTests.{check_gaps, check_quiet, class_of, gap_starts, gaps_stay, is_gap_kind, is_in_gap, is_none, is_quiet, is_token_kind, row_is_quiet, row_stays, rows_are_quiet, space_classes, spaces, tokens_are_quiet, tokens_end}
+use Rattle.owl_lexer.specs.HoldingLaws.{run-append, run-none}
+use Rattle.owl_lexer.specs.Languages.{BeginsNoGap, IsCommentText, IsLanguage, IsPrompt, Says}
 use Rattle.owl_lexer.specs.Languages.Says.{token, space, comment}
 use Rattle.owl_lexer.specs.Splitting.{is_comment_start, is_space}
 use Rattle.owl_lexer.specs.Tables.{Table, automaton_of, kind_in, kind_number, state_of, step_in}
@@ -158,3 +158,92 @@ table_is_language {T} gap table grammar value spells knows h s =
       ends = λ t cs c x w.
           run-append a (Some a.start) cs (c ∷ []) ∙ token_ends gap table p (run a (Some a.start) cs) (lexeme t cs x).0 c (spelled t cs x) (gapless t cs x) w;
     }
+
+-- a table that is quiet
+
+row_there : (loud classes : List ℕ) (first : ℕ) (rows : List (List ℕ)) (place : ℕ) → rows_are_quiet loud classes first rows ≡ true → is_among loud (first + place) ≡ false → row_is_quiet loud classes (get_or rows place []) ≡ true
+row_there loud classes first [] place h q = no_row classes
+  where
+    no_row : (classes : List ℕ) → row_is_quiet loud classes [] ≡ true
+    no_row [] = refl
+    no_row (class ∷ classes) = no_row classes
+row_there loud classes first (row ∷ rows) zero h q =
+    let here = and_parts (is_among loud first || row_is_quiet loud classes row) (rows_are_quiet loud classes (first + 1) rows) h in
+    elim (or_cases (is_among loud first) (row_is_quiet loud classes row) here.0) [
+      | inl is ↦ absurd (both_ways (is_among loud first) (ap (is_among loud) (sym (add-zero first)) ∙ q) is)
+      | inr is ↦ is
+    ]
+row_there loud classes first (row ∷ rows) (suc place) h q =
+    let here = and_parts (is_among loud first || row_is_quiet loud classes row) (rows_are_quiet loud classes (first + 1) rows) h in
+    row_there loud classes (first + 1) rows place here.1 (ap (is_among loud) (omega arith) ∙ q)
+
+token_there : (gap : ℕ → Bool) (loud : List ℕ) (first : ℕ) (kinds : List ℕ) (place : ℕ) → tokens_are_quiet gap loud first kinds ≡ true → is_token_kind gap (kind_in kinds place) ≡ true → is_among loud (first + place) ≡ false
+token_there gap loud first [] place h t = absurd (cc)
+token_there gap loud first (kind ∷ kinds) zero h t =
+    let here = and_parts (not (is_token_kind gap (kind_number kind)) || not (is_among loud first)) (tokens_are_quiet gap loud (first + 1) kinds) h in
+    ap (is_among loud) (add-zero first) ∙ not-true (is_among loud first) (implied (is_token_kind gap (kind_number kind)) (not (is_among loud first)) here.0 t)
+token_there gap loud first (kind ∷ kinds) (suc place) h t =
+    let here = and_parts (not (is_token_kind gap (kind_number kind)) || not (is_among loud first)) (tokens_are_quiet gap loud (first + 1) kinds) h in
+    ap (is_among loud) (omega arith) ∙ token_there gap loud (first + 1) kinds place here.1 t
+
+cell_is_quiet : (loud row : List ℕ) (class : ℕ) → list_all (λ next. is_quiet loud (state_of next)) row ≡ true → is_quiet loud (state_of (get_or row class 255)) ≡ true
+cell_is_quiet loud [] class h = refl
+cell_is_quiet loud (next ∷ row) zero h = (and_parts (is_quiet loud (state_of next)) (list_all (λ next. is_quiet loud (state_of next)) row) h).0
+cell_is_quiet loud (next ∷ row) (suc class) h = cell_is_quiet loud row class (and_parts (is_quiet loud (state_of next)) (list_all (λ next. is_quiet loud (state_of next)) row) h).1
+
+-- what the test of all rows says of a state
+record IsQuietRow (loud : List ℕ) (table : Table) (state : ℕ) : Type 0 where
+  on : (c : ℕ) → is_quiet loud (step_in table.rows state (class_of table c)) ≡ true
+  space : (c : ℕ) → is_space c ≡ true → step_in table.rows state (class_of table c) ≡ None
+
+quiet_row : (loud : List ℕ) (table : Table) → rows_are_quiet loud (space_classes table) 0 table.rows ≡ true → (state : ℕ) → is_among loud state ≡ false → IsQuietRow loud table state
+quiet_row loud table h state q =
+    let row = get_or table.rows state [] in
+    let next = list_all (λ next. is_quiet loud (state_of next)) row in
+    let none = list_all (λ class. is_none (state_of (get_or row class 255))) (space_classes table) in
+    let there = and_parts next none (row_there loud (space_classes table) 0 table.rows state h (ap (is_among loud) (omega arith) ∙ q)) in
+    record {
+      on = λ c. cell_is_quiet loud row (class_of table c) there.0;
+      space = λ c s. nothing (state_of (get_or row (class_of table c) 255)) (passes_among (λ d. is_none (state_of (get_or row (class_of table d) 255))) spaces c there.1 s);
+    }
+
+quiet_run : (loud : List ℕ) (table : Table) → rows_are_quiet loud (space_classes table) 0 table.rows ≡ true → (o : Option ℕ) (cs : List ℕ) (c : ℕ) → is_quiet loud o ≡ true → is_space c ≡ true → run (automaton_of table) o (cs ++ c ∷ []) ≡ None
+quiet_run loud table h None cs c q s = run-none (automaton_of table) (cs ++ c ∷ [])
+quiet_run loud table h (Some state) [] c q s = (quiet_row loud table h state (not-true (is_among loud state) q)).space c s
+quiet_run loud table h (Some state) (d ∷ cs) c q s =
+    quiet_run loud table h (step_in table.rows state (class_of table d)) cs c ((quiet_row loud table h state (not-true (is_among loud state) q)).on d) s
+
+quiet_token : (gap : ℕ → Bool) (loud : List ℕ) (table : Table) (o : Option ℕ) (kind : ℕ) → tokens_are_quiet gap loud 0 table.kinds ≡ true → kind_at (automaton_of table) o ≡ Some kind → gap kind ≡ false → is_quiet loud o ≡ true
+quiet_token gap loud table None kind h e g = refl
+quiet_token gap loud table (Some state) kind h e g =
+    not_from_false (is_among loud state)
+    (ap (is_among loud) (omega arith) ∙ token_there gap loud 0 table.kinds state h (ap (is_token_kind gap) e ∙ not_from_false (gap kind) g))
+
+gap_kind_of : (gap : ℕ → Bool) (o : Option ℕ) → is_gap_kind gap o ≡ true → (kind : ℕ) × (o ≡ Some kind)
+gap_kind_of gap None h = absurd (cc)
+gap_kind_of gap (Some kind) h = (kind, refl)
+
+gap_spells : (gap : ℕ → Bool) (table : Table) (o : Option ℕ) (state : ℕ) → o ≡ Some state → is_in_gap gap table.kinds o ≡ true → (kind : ℕ) × (kind_at (automaton_of table) o ≡ Some kind)
+gap_spells gap table None state e h = absurd (cc)
+gap_spells gap table (Some other) state e h = gap_kind_of gap (kind_in table.kinds other) h
+
+pub table_is_prompt : {T : Type 0} → (gap : ℕ → Bool) (loud : List ℕ) (table : Table) (grammar : ℕ → List ℕ → Type 0) (value : ℕ → List ℕ → Option T) (spells : T → List ℕ → Type 0) → Knows (automaton_of table) grammar → check_gaps gap table ≡ true → check_quiet gap loud table ≡ true → Stand grammar gap value spells → IsPrompt (automaton_of table) spells
+table_is_prompt gap loud table grammar value spells knows h q s =
+    let a = automaton_of table in
+    let p = passes gap table h in
+    let quiet = and_parts (rows_are_quiet loud (space_classes table) 0 table.rows) (tokens_are_quiet gap loud 0 table.kinds) q in
+    record {
+      token = λ t cs more c x w.
+          let lexeme = s.token t cs x in
+          let gapless = no_gap_kind gap (value lexeme.0 cs) t lexeme.0 (s.none lexeme.0 cs) lexeme.2 in
+          run-append a (Some a.start) cs (more ++ c ∷ [])
+          ∙ quiet_run loud table quiet.0 (run a (Some a.start) cs) more c (quiet_token gap loud table (run a (Some a.start) cs) lexeme.0 quiet.1 ((knows lexeme.0 cs).1 lexeme.1) gapless) w;
+      gap = λ c cs state begins e.
+          let first = step_in table.rows 0 (class_of table c) in
+          gap_spells gap table (run a first cs) state e
+          (run_stays gap table p.stays first cs (passes_among (λ d. is_in_gap gap table.kinds (step_in table.rows 0 (class_of table d))) gap_starts c p.begins (starts c begins)));
+    }
+  where
+    starts : (c : ℕ) → (is_space c ≡ true) ⊎ (is_comment_start c ≡ true) → is_among gap_starts c ≡ true
+    starts c (inl h) = or_right (35 == c) (is_space c) h
+    starts c (inr h) = elim (or_cases (35 == c) false h) [ inl same ↦ or_left (35 == c) (is_space c) same | inr none ↦ absurd (cc) ]

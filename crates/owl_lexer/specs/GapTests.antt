@@ -1,7 +1,8 @@
 -- A test that gaps and tokens part in a table: what begins with white space or a comment is a gap alone, and white space
 -- ends each token. It computes. The kinds of gaps are those that pass a test.
-use Rattle.std.specs.Prelude.{ℕ, Bool, true, false, ◌&&◌, ◌||◌, not, List, [], ◌∷◌, Option, None, Some, slice_index_or}
+use Rattle.std.specs.Prelude.{ℕ, ◌+◌, Bool, true, false, ◌&&◌, ◌||◌, not, List, [], ◌∷◌, Option, None, Some, slice_index_or}
 use Rattle.std.specs.List.{list_all}
+use Rattle.owl_characters.specs.Iri.{is_among}
 use Rattle.owl_lexer.specs.Tables.{Table, class_in, kind_in, kind_number, state_of, step_in}
 
 abbrev pub is_none : Option ℕ → Bool
@@ -55,3 +56,31 @@ check_gaps gap table =
     && list_all (λ c. is_in_gap gap table.kinds (step_in table.rows 0 (class_of table c))) gap_starts
     && gaps_stay gap table.kinds table.rows table.kinds
     && list_all (λ c. tokens_end gap (class_of table c) table.rows table.kinds) spaces
+
+-- A test that nothing behind a token leads to white space. The states that are loud are those from which white space may
+-- come: from each other state no class of white space leads on, and others lead to states that are not loud. No token is
+-- whole at a loud state.
+
+abbrev pub is_quiet : List ℕ → Option ℕ → Bool
+is_quiet loud None = true
+is_quiet loud (Some state) = not (is_among loud state)
+
+abbrev pub row_is_quiet : List ℕ → List ℕ → List ℕ → Bool
+row_is_quiet loud classes row =
+    list_all (λ next. is_quiet loud (state_of next)) row && list_all (λ class. is_none (state_of (slice_index_or row class 255))) classes
+
+abbrev pub rows_are_quiet : List ℕ → List ℕ → ℕ → List (List ℕ) → Bool
+rows_are_quiet loud classes first [] = true
+rows_are_quiet loud classes first (row ∷ rows) =
+    (is_among loud first || row_is_quiet loud classes row) && rows_are_quiet loud classes (first + 1) rows
+
+abbrev pub tokens_are_quiet : (ℕ → Bool) → List ℕ → ℕ → List ℕ → Bool
+tokens_are_quiet gap loud first [] = true
+tokens_are_quiet gap loud first (kind ∷ kinds) =
+    (not (is_token_kind gap (kind_number kind)) || not (is_among loud first)) && tokens_are_quiet gap loud (first + 1) kinds
+
+abbrev pub space_classes : Table → List ℕ
+space_classes table = class_of table 32 ∷ class_of table 9 ∷ class_of table 10 ∷ class_of table 13 ∷ []
+
+abbrev pub check_quiet : (ℕ → Bool) → List ℕ → Table → Bool
+check_quiet gap loud table = rows_are_quiet loud (space_classes table) 0 table.rows && tokens_are_quiet gap loud 0 table.kinds

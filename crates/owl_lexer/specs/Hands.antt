@@ -1,5 +1,5 @@
 -- What the machine has in hand, and what it makes of characters.
-use Rattle.std.specs.Prelude.{◌≡◌, ◌≢◌, ℕ, ◌+◌, ◌≤◌, List, length, take, true, Option, None, Some}
+use Rattle.std.specs.Prelude.{◌≡◌, ◌≢◌, ℕ, ◌+◌, ◌≤◌, List, ◌++◌, length, take, true, Option, None, Some}
 use Rattle.std.specs.Str.{all_scalars}
 use Rattle.owl_characters.specs.Utf8.{size}
 use Rattle.owl_lexer.specs.declared.fault.LexFault.{LexFault}
@@ -26,6 +26,11 @@ pub record IsReady (a : Automaton) (hand : Hand) : Type 0 where
 abbrev pub begun_of : Hand → Begun
 begun_of hand = record { at = hand.at; held = hand.held.items }
 
+-- the characters end with these
+pub record EndsIn (cs held : List ℕ) : Type 0 where
+  pub front : List ℕ
+  pub parts : cs ≡ front ++ held
+
 -- the characters were taken
 pub record Takes {T : Type 0} (a : Automaton) (value : ℕ → List ℕ → Option T) (old : Hand) (cs : List ℕ) (before after : List (Placed T)) (new : Hand) : Type 0 where
   pub ready : IsReady a new
@@ -33,6 +38,7 @@ pub record Takes {T : Type 0} (a : Automaton) (value : ℕ → List ℕ → Opti
   pub few : length after + old.at ≤ length before + new.at
   pub short : length new.held.items ≤ length old.held.items + length cs
   pub end : new.end ≡ old.end + size cs
+  pub ends : EndsIn (old.held.items ++ cs) new.held.items
 
 -- the characters were refused, or memory ran out
 pub record Refuses {T : Type 0} (a : Automaton) (value : ℕ → List ℕ → Option T) (old : Begun) (cs : List ℕ) (before after : List (Placed T)) (fault : LexFault) : Type 0 where

@@ -33,7 +33,7 @@ no_overhang a held state (m ∷ more) kind next others rest h g e s =
     cc
 
 -- a front of a list that ends in another front of it is one of that
-front_of_front : (xs ys a b : List ℕ) → length ys ≤ length xs → xs ++ a ≡ ys ++ b → ys ≡ take (length ys) xs
+pub front_of_front : (xs ys a b : List ℕ) → length ys ≤ length xs → xs ++ a ≡ ys ++ b → ys ≡ take (length ys) xs
 front_of_front xs ys a b h e =
     sym (take-append_seam ys b) ∙ ap (λ (l : List ℕ). take (length ys) l) (sym e) ∙ take-append-le (length ys) xs a h
 

@@ -1,5 +1,5 @@
 -- Languages of tokens: an automaton whose lexemes are what is written for the tokens, white space, and comments.
-use Rattle.std.specs.Prelude.{◌≡◌, ℕ, ◌<◌, false, not, true, List, [], ◌∷◌, ◌++◌, length, Option, None, Some}
+use Rattle.std.specs.Prelude.{◌≡◌, ◌⊎◌, ℕ, ◌<◌, false, not, true, List, [], ◌∷◌, ◌++◌, length, Option, None, Some}
 use Rattle.std.specs.List.{AllByRecursion}
 use Rattle.owl_characters.specs.Iri.{AllAre}
 use Rattle.owl_characters.specs.Names.{IsRunOf}
@@ -34,6 +34,13 @@ pub record IsLanguage {T : Type 0} (a : Automaton) (value : ℕ → List ℕ →
   pub some : (t : T) (cs : List ℕ) → spells t cs → 0 < length cs
   pub no_gap : (t : T) (cs : List ℕ) → spells t cs → BeginsNoGap cs
   pub ends : (t : T) (cs : List ℕ) (c : ℕ) → spells t cs → is_space c ≡ true → run a (Some a.start) (cs ++ c ∷ []) ≡ None
+
+-- Behind a token no characters lead on to white space, and what begins as white space or a comment is one, as far as the
+-- automaton goes on. So a token can be told as soon as white space follows it. The quotes of a long string of Turtle, which
+-- begin with an empty string, break the first.
+pub record IsPrompt {T : Type 0} (a : Automaton) (spells : T → List ℕ → Type 0) : Type 0 where
+  pub token : (t : T) (cs more : List ℕ) (c : ℕ) → spells t cs → is_space c ≡ true → run a (Some a.start) (cs ++ (more ++ c ∷ [])) ≡ None
+  pub gap : (c : ℕ) (cs : List ℕ) (state : ℕ) → (is_space c ≡ true) ⊎ (is_comment_start c ≡ true) → run a (Some a.start) (c ∷ cs) ≡ Some state → (kind : ℕ) × Spells a kind (c ∷ cs)
 
 -- each token is written somehow
 abbrev pub AreSpelled : {T : Type 0} → (T → List ℕ → Type 0) → List (Placed T) → Type 0

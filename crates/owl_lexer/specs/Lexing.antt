@@ -1,7 +1,8 @@
 -- What a lexer has in hand, and what can still come of it.
 use Rattle.std.specs.Prelude.{◌≡◌, ℕ, ◌+◌, Bool, true, false, List, [], ◌∷◌, ◌++◌, length, Option, Some}
 use Rattle.std.specs.Str.{encode_utf8_all}
-use Rattle.owl_lexer.specs.Splitting.{Splits, SplitsAt, is_space}
+use Rattle.owl_characters.specs.Utf8.{behind_mark, mark_size, size}
+use Rattle.owl_lexer.specs.Splitting.{OneEndsFrom, Splits, SplitsAt, is_space}
 use Rattle.owl_lexer.specs.declared.fault.LexFault.{LexFault}
 use Rattle.owl_lexer.specs.declared.placed.Placed.{Placed}
 
@@ -72,6 +73,29 @@ pub record AddsSomeLast {T : Type 0} (spells : T → List ℕ → Type 0) (old :
 abbrev pub HoldsNone : {T : Type 0} → (T → List ℕ → Type 0) → Begun → Type 0
 HoldsNone {T} spells begun =
     (token : T) (spelling rest : List ℕ) (c : ℕ) → spells token spelling → is_space c ≡ true → begun.held ≡ encode_utf8_all (spelling ++ c ∷ []) ++ rest → ⊥
+
+-- one of the tokens that come of these bytes ends at this byte
+abbrev pub OneEnds : {T : Type 0} (spells : T → List ℕ → Type 0) (fresh : Bool) (place : ℕ) (bytes : List ℕ) (tokens : List (Placed T)) (ending : Option LexFault) → SplitsBehind spells fresh place bytes tokens ending → ℕ → Type 0
+OneEnds spells true place bytes tokens ending s end =
+    OneEndsFrom spells (mark_size s.characters) (behind_mark s.characters) s.tail tokens ending s.splits end
+OneEnds spells false place bytes tokens ending s end = OneEndsFrom spells place s.characters s.tail tokens ending s.splits end
+
+-- Whatever follows, none of the tokens that come of what is begun ends in front of white space that is held.
+abbrev pub HoldsNoEnd : {T : Type 0} → (T → List ℕ → Type 0) → Begun → Type 0
+HoldsNoEnd {T} spells begun =
+    (more : List ℕ) (tokens : List (Placed T)) (ending : Option LexFault) (continues : Continues spells begun more tokens ending) (front rest : List ℕ) (c : ℕ) →
+    begun.held ≡ encode_utf8_all (front ++ c ∷ []) ++ rest → is_space c ≡ true →
+    OneEnds spells begun.fresh begun.at (begun.held ++ more) tokens ending continues (begun.at + size front) → ⊥
+
+-- The bytes end with what is begun; where nothing but it was fed, they are it.
+pub record EndWith (bytes : List ℕ) (begun : Begun) : Type 0 where
+  pub front : List ℕ
+  pub parts : bytes ≡ front ++ begun.held
+  pub fresh : begun.fresh ≡ true → front ≡ []
+
+-- where what was fed ends with old, it ends with new when these bytes follow
+abbrev pub KeepsEnd : Begun → List ℕ → Begun → Type 0
+KeepsEnd old piece new = (fed : List ℕ) → EndWith fed old → EndWith (fed ++ piece) new
 
 -- What a lexer is: what is begun, and the refusal that it keeps.
 pub record Lexing : Type 0 where

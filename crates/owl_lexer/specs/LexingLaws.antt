@@ -74,12 +74,12 @@ decodes_all (c ∷ held) more cs tail s d =
     (decodes_first c (encode_utf8_all held ++ more) (held ++ cs) tail parts.0 (decodes_all held more cs tail parts.1 d))
 
 -- the characters that are held begin the bytes
-record DecodesBehind (held more cs tail : List ℕ) : Type 0 where
-  others : List ℕ
-  is : cs ≡ held ++ others
-  decodes : Decodes more others tail
+pub record DecodesBehind (held more cs tail : List ℕ) : Type 0 where
+  pub others : List ℕ
+  pub is : cs ≡ held ++ others
+  pub decodes : Decodes more others tail
 
-all_decoded : (held more cs tail : List ℕ) → all_scalars held ≡ true → Decodes (encode_utf8_all held ++ more) cs tail → DecodesBehind held more cs tail
+pub all_decoded : (held more cs tail : List ℕ) → all_scalars held ≡ true → Decodes (encode_utf8_all held ++ more) cs tail → DecodesBehind held more cs tail
 all_decoded [] more cs tail s d = record { others = cs; is = refl; decodes = d }
 all_decoded (c ∷ held) more cs tail s d =
     let parts = and_parts _ _ s in

@@ -7,8 +7,8 @@ use Rattle.owl_lexer.specs.declared.fault.LexFault.TheVariants.{Memory}
 use Rattle.owl_lexer.specs.Automata.{Automaton}
 use Rattle.owl_lexer.specs.BytesGiving.{AddsBytes, AddsBytesUpTo, AddsLastBytes, AddsSomeBytes, AddsSomeLastBytes, BegunBytes, end_of_bytes, nothing_begun}
 use Rattle.owl_lexer.specs.Hands.{IsReady}
-use Rattle.owl_lexer.specs.Languages.{AreSpelled}
-use Rattle.owl_lexer.specs.Lexing.{Adds, AddsLast, AddsSome, AddsSomeLast, Begun, EndsAt, HoldsNone, end_of, nothing_begun as nothing_left}
+use Rattle.owl_lexer.specs.Languages.{AreSpelled, IsPrompt}
+use Rattle.owl_lexer.specs.Lexing.{Adds, AddsLast, AddsSome, AddsSomeLast, Begun, EndsAt, HoldsNoEnd, HoldsNone, KeepsEnd, end_of, nothing_begun as nothing_left}
 use Rattle.owl_lexer.specs.LexingLaws.{bytes_of}
 use Rattle.owl_lexer.specs.declared.placed.Placed.{Placed}
 use Rattle.owl_lexer.specs.declared.source.Source.{Source}
@@ -38,6 +38,7 @@ pub record TakesBytes {T : Type 0} (a : Automaton) (value : ℕ → List ℕ →
   pub adds : AddsBytes a value (begun_in old) bytes before after (begun_in new)
   pub few : length after + old.hand.at ≤ length before + new.hand.at
   pub end : end_of_bytes (begun_in new) ≡ end_of_bytes (begun_in old) + length bytes
+  pub ends : KeepsEnd (bytes_in old) bytes (bytes_in new)
 
 -- the bytes were refused, or memory ran out
 pub record RefusesBytes {T : Type 0} (a : Automaton) (value : ℕ → List ℕ → Option T) (old : BegunBytes) (bytes : List ℕ) (before after : List (Placed T)) (fault : LexFault) : Type 0 where
@@ -62,7 +63,9 @@ pub record TakesPiece {T : Type 0} (a : Automaton) (spells : T → List ℕ → 
   pub spelled : AreSpelled spells before → AreSpelled spells after
   pub few : length after + length (bytes_in new).held ≤ length before + length (bytes_in old).held + length bytes
   pub early : HoldsNone spells (bytes_in new)
+  pub prompt : IsPrompt a spells → HoldsNoEnd spells (bytes_in new)
   pub end : end_of (bytes_in new) ≡ end_of (bytes_in old) + length bytes
+  pub ends : KeepsEnd (bytes_in old) bytes (bytes_in new)
 
 -- a piece was refused, or memory ran out
 pub record RefusesPiece {T : Type 0} (spells : T → List ℕ → Type 0) (old : Begun) (bytes : List ℕ) (before after : List (Placed T)) (fault : LexFault) : Type 0 where

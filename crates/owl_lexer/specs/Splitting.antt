@@ -84,3 +84,9 @@ pub record Splits {T : Type 0} (spells : T → List ℕ → Type 0) (bytes : Lis
   pub tail : List ℕ
   pub decodes : Decodes bytes characters tail
   pub splits : SplitsFrom spells (mark_size characters) (behind_mark characters) tail tokens ending
+
+-- one of the tokens ends at this byte
+
+abbrev pub OneEndsFrom : {T : Type 0} (spells : T → List ℕ → Type 0) (place : ℕ) (cs tail : List ℕ) (tokens : List (Placed T)) (ending : Option LexFault) → SplitsFrom spells place cs tail tokens ending → ℕ → Type 0
+OneEndsFrom spells place cs tail [] ending s end = ⊥
+OneEndsFrom spells place cs tail (first ∷ others) ending s end = (s.0 ≡ end) ⊎ OneEndsFrom spells s.0 s.1 tail others ending s.3 end

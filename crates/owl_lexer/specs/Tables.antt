@@ -1,5 +1,5 @@
 -- Automata as tables.
-use Rattle.std.specs.Prelude.{ℕ, ◌==◌, nat_le, Bool, true, ◌&&◌, List, [], ◌∷◌, Option, None, Some, if◌then◌else◌, slice_index_or}
+use Rattle.std.specs.Prelude.{ℕ, ◌+◌, ◌==◌, nat_le, Bool, true, ◌&&◌, List, [], ◌∷◌, Option, None, Some, if◌then◌else◌, slice_index_or}
 use Rattle.owl_lexer.specs.Automata.{Automaton}
 
 -- The last character of each interval and the class of its characters, in order; the class of those behind the last; for
@@ -24,6 +24,16 @@ ascend_from first (interval ∷ intervals) = nat_le first interval.0 && ascend_f
 
 abbrev pub are_ascending : List (ℕ × ℕ) → Bool
 are_ascending intervals = ascend_from 0 intervals
+
+-- these are the classes of the characters from the first one on
+
+abbrev pub are_classes_from : ℕ → List (ℕ × ℕ) → ℕ → List ℕ → Bool
+are_classes_from first intervals others [] = true
+are_classes_from first intervals others (class ∷ classes) =
+    (class == class_in intervals others first) && are_classes_from (first + 1) intervals others classes
+
+abbrev pub are_classes : List (ℕ × ℕ) → ℕ → List ℕ → Bool
+are_classes intervals others classes = are_classes_from 0 intervals others classes
 
 abbrev pub state_of : ℕ → Option ℕ
 state_of n = if n == 255 then None else Some n

@@ -63,6 +63,22 @@ fn add<T: Drop>(items: &mut Vec<T>, item: T) -> Result<(), NoMemory>
     }
 }
 
+/// How many bytes a character has.
+#[inline(always)]
+fn width(c: char) -> u64
+    ensures { result ≡ len_utf8 c }
+{
+    if c < '\u{80}' { 1 } else { wide(c) }
+}
+
+/// The same, apart, since most characters are ASCII.
+#[inline(never)]
+fn wide(c: char) -> u64
+    ensures { result ≡ len_utf8 c }
+{
+    c.len_utf8() as u64
+}
+
 /// Holds a character that leads to this state.
 fn hold<L: TokenLanguage>(hand: &mut Hand, state: u8, c: char) -> Result<(), NoMemory>
     requires ready { IsReady L.automaton hand.old }
@@ -74,7 +90,7 @@ fn hold<L: TokenLanguage>(hand: &mut Hand, state: u8, c: char) -> Result<(), NoM
     ensures end { OnOk result (hand.new.end ≡ hand.old.end + len_utf8 c) }
 {
     add(&mut hand.held, c)?;
-    hand.end += c.len_utf8() as u64;
+    hand.end += width(c);
     hand.state = state;
     if let Some(kind) = L::kind(state) {
         hand.front = Some(Front {
@@ -88,6 +104,7 @@ fn hold<L: TokenLanguage>(hand: &mut Hand, state: u8, c: char) -> Result<(), NoM
 
 /// Adds the token of the longest lexeme in front, if it stands for one, and
 /// answers the characters behind it. Nothing is in hand then.
+#[inline(always)]
 fn give<L: TokenLanguage>(
     hand: &mut Hand,
     front: Front,
@@ -103,7 +120,11 @@ fn give<L: TokenLanguage>(
         ++ placed_at hand.old.at (L.value_of front.kind (take front.length hand.old.held.items))) }
     ensures err { OnErr result (into.new.items ≡ into.old.items) }
 {
-    let behind = hand.held.split_off(front.length)?;
+    let behind = if front.length < hand.held.len() {
+        hand.held.split_off(front.length)?
+    } else {
+        Vec::new(hand.alloc)
+    };
     if let Some(token) = L::value(hand.alloc, front.kind, &hand.held)? {
         add(into, Placed { token, at: hand.at })?;
     }
@@ -116,8 +137,8 @@ fn give<L: TokenLanguage>(
 }
 
 /// Takes a character, and adds the tokens that are whole now to the end of
-/// `into`. Where the longest lexeme in front is given, what stands behind it
-/// is taken again.
+/// `into`.
+#[inline(always)]
 #[cycle(feeding)]
 pub fn push<L: TokenLanguage>(
     hand: &mut Hand,
@@ -132,10 +153,30 @@ pub fn push<L: TokenLanguage>(
         Refuses L.automaton L.value_of (begun_of hand.old) (c ∷ [])
         into.old.items into.new.items fault) }
 {
-    if let Some(state) = L::step(hand.state, c) {
-        hold::<L>(hand, state, c)?;
-        return Ok(());
+    match L::step(hand.state, c) {
+        Some(state) => Ok(hold::<L>(hand, state, c)?),
+        None => turn::<L>(hand, c, into),
     }
+}
+
+/// Takes a character that leads nowhere: the longest lexeme in front is given,
+/// and what stands behind it is taken again.
+#[inline(never)]
+#[cycle(feeding)]
+fn turn<L: TokenLanguage>(
+    hand: &mut Hand,
+    c: char,
+    into: &mut Vec<Placed<L::Token>>,
+) -> Result<(), LexFault>
+    requires ready { IsReady L.automaton hand.old }
+    requires step { L.automaton.step hand.old.state c ≡ None }
+    requires room { hand.old.end + len_utf8 c < 2 ^ 63 }
+    ensures ok { OnOk result
+        (Takes L.automaton L.value_of hand.old (c ∷ []) into.old.items into.new.items hand.new) }
+    ensures err { IfErr result (λ fault.
+        Refuses L.automaton L.value_of (begun_of hand.old) (c ∷ [])
+        into.old.items into.new.items fault) }
+{
     let Some(front) = hand.front else {
         return Err(LexFault::BadToken { at: hand.at });
     };

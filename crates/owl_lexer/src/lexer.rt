@@ -2,8 +2,8 @@
 
 ghost use Rattle.std.specs.Prelude.{◌≡◌, ◌≢◌, ℕ, ◌+◌, ◌^◌, ◌<◌, ◌≤◌, List, [], ◌∷◌, ◌++◌, length, true, false, None, Some, Err, OnOk, OnErr, IfErr};
 ghost use Rattle.owl_lexer.specs.declared.fault.LexFault.{LexFault};
-ghost use Rattle.owl_lexer.specs.Languages.{AreSpelled};
-ghost use Rattle.owl_lexer.specs.Lexing.{Adds, AddsLast, AddsSome, AddsSomeLast, EndsAt, HoldsNone, end_of, nothing_begun, nothing_fed};
+ghost use Rattle.owl_lexer.specs.Languages.{AreSpelled, IsPrompt};
+ghost use Rattle.owl_lexer.specs.Lexing.{Adds, AddsLast, AddsSome, AddsSomeLast, EndsAt, HoldsNoEnd, HoldsNone, KeepsEnd, end_of, nothing_begun, nothing_fed};
 
 use crate::fault::LexFault;
 use crate::language::TokenLanguage;
@@ -56,8 +56,12 @@ impl<L: TokenLanguage> Lexer<L> {
     /// follow; the tokens before that place were given. `Memory` comes where
     /// memory runs out; `into` then has what it had and perhaps some of the
     /// next tokens. A lexer that has refused answers the same refusal from then
-    /// on, and takes nothing. Each token that white space follows is given at
-    /// once.
+    /// on, and takes nothing.
+    ///
+    /// What is kept is the end of what was fed. No token with white space behind
+    /// it stands at the very front of that. Where the language is prompt, each
+    /// token that white space follows is given at once: whatever comes next, no
+    /// token ends in front of white space that is kept.
     pub fn feed(&mut self, piece: &[u8], into: &mut Vec<Placed<L::Token>>) -> Result<(), LexFault>
         requires { end_of self.old.begun + length piece.now ≤ 2 ^ 62 }
         ensures ok { OnOk result
@@ -71,8 +75,11 @@ impl<L: TokenLanguage> Lexer<L> {
             (length into.new.items + length self.new.begun.held
             ≤ length into.old.items + length self.old.begun.held + length piece.now) }
         ensures early { OnOk result (HoldsNone L.spells self.new.begun) }
+        ensures prompt { IsPrompt L.automaton L.spells → OnOk result
+            (HoldsNoEnd L.spells self.new.begun) }
         ensures end { OnOk result
             (end_of self.new.begun ≡ end_of self.old.begun + length piece.now) }
+        ensures ends { OnOk result (KeepsEnd self.old.begun piece.now self.new.begun) }
         ensures open_yet { OnOk result ((self.old.refused ≡ None) × (self.new.refused ≡ None)) }
         ensures keeps { IfErr result (λ fault. self.new.refused ≡ Some fault) }
         ensures same { (fault : LexFault) → self.old.refused ≡ Some fault →

@@ -15,4 +15,4 @@ pub use language::TokenLanguage;
 pub use laws::{tokens_come_always, tokens_come_one_way};
 pub use lexer::Lexer;
 pub use placed::Placed;
-pub use tables::{NO_KIND, NO_STATE, class_of, kind_in, step_in};
+pub use tables::{NO_KIND, NO_STATE, class_by_ascii, class_of, kind_in, step_in};

@@ -2,7 +2,7 @@
 
 ghost use Rattle.std.specs.Prelude.{◌≡◌, ◌≢◌, ℕ, ◌+◌, ◌^◌, ◌<◌, ◌≤◌, List, [], ◌∷◌, ◌++◌, length, true, false, None, Some, Err, OnOk, OnErr, IfErr};
 ghost use Rattle.owl_lexer.specs.Languages.{AreSpelled};
-ghost use Rattle.owl_lexer.specs.Lexing.{Adds, AddsLast, AddsSome, AddsSomeLast, EndsAt, HoldsNone, end_of, nothing_begun, nothing_fed};
+ghost use Rattle.owl_lexer.specs.Lexing.{Adds, AddsLast, AddsSome, AddsSomeLast, EndsAt, HoldsNoEnd, HoldsNone, end_of, nothing_begun, nothing_fed};
 ghost use Rattle.owl_lexer.specs.declared.fault.LexFault.{LexFault};
 ghost use Rattle.owl_text.specs.Dialects.{SpellsIn};
 
@@ -58,7 +58,10 @@ impl Lexer {
     /// follow; the tokens before that place were given. `Memory` comes where
     /// memory runs out; `into` then has what it had and perhaps some of the next
     /// tokens. A lexer that has refused answers the same refusal from then on,
-    /// and takes nothing. Each token that white space follows is given at once.
+    /// and takes nothing.
+    ///
+    /// Each token that white space follows is given at once: whatever comes
+    /// next, no token ends in front of white space that is kept.
     pub fn feed(&mut self, piece: &[u8], into: &mut Vec<Placed>) -> Result<(), LexFault>
         requires { end_of self.old.begun + length piece.now ≤ 2 ^ 62 }
         ensures ok { OnOk result (Adds (SpellsIn self.old.dialect) self.old.begun piece.now
@@ -74,6 +77,7 @@ impl Lexer {
             (length into.new.items + length self.new.begun.held
             ≤ length into.old.items + length self.old.begun.held + length piece.now) }
         ensures early { OnOk result (HoldsNone (SpellsIn self.old.dialect) self.new.begun) }
+        ensures prompt { OnOk result (HoldsNoEnd (SpellsIn self.old.dialect) self.new.begun) }
         ensures end { OnOk result
             (end_of self.new.begun ≡ end_of self.old.begun + length piece.now) }
         ensures dialect { self.new.dialect ≡ self.old.dialect }

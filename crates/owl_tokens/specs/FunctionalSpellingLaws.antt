@@ -2,10 +2,10 @@
 use Rattle.std.proofs.Common.{◌≡◌, ◌↔◌, ◌⊎◌, inl, inr, ℕ, Bool, true, false, ◌||◌, Some, List, [], ◌∷◌, refl, sym, ap, subst}
 use Rattle.std.specs.Prelude.{◌==◌, codes}
 use Rattle.std.specs.Char.{is_ascii_digit}
-use Rattle.owl_lexer.specs.GapTestLaws.{Stand, spelled_exactly, table_is_language}
-use Rattle.owl_lexer.specs.GapTests.{check_gaps}
+use Rattle.owl_lexer.specs.GapTestLaws.{Stand, spelled_exactly, table_is_language, table_is_prompt}
+use Rattle.owl_lexer.specs.GapTests.{check_gaps, check_quiet}
 use Rattle.owl_lexer.specs.Grammars.{IsLexeme, IsLexemeOf, Terminal, test_of}
-use Rattle.owl_lexer.specs.Languages.{IsLanguage, Says}
+use Rattle.owl_lexer.specs.Languages.{IsLanguage, IsPrompt, Says}
 use Rattle.owl_lexer.specs.Languages.Says.{token}
 use Rattle.owl_lexer.specs.PatternLaws.{IsOne, each_is, mark_passes, matches_mark, matches_run, one_is, run_matches}
 use Rattle.owl_lexer.specs.Patterns.{Matches}
@@ -85,3 +85,16 @@ gaps_pass = refl
 -- The lexemes of the automaton are the tokens of Functional-Style Syntax, white space and comments.
 pub functional_is_language : IsLanguage functional_automaton value_of Spells
 functional_is_language = table_is_language is_gap functional_table (IsLexeme functional_grammar) value_of Spells functional_knows gaps_pass stand
+
+-- white space may come at the first state, in white space, comments and strings, and in these behind a backslash
+
+loud : List ℕ
+loud = 0 ∷ 1 ∷ 2 ∷ 3 ∷ 15 ∷ []
+
+quiet : check_quiet is_gap loud functional_table ≡ true
+unfolding functional_table loud
+quiet = refl
+
+-- Each token of Functional-Style Syntax can be told as soon as white space follows it.
+pub functional_is_prompt : IsPrompt functional_automaton Spells
+functional_is_prompt = table_is_prompt is_gap loud functional_table (IsLexeme functional_grammar) value_of Spells functional_knows gaps_pass quiet stand

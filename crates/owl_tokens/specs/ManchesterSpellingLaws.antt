@@ -13,9 +13,9 @@ use Rattle.owl_tokens.specs.ManchesterGrammar.{close_brace, close_bracket, comma
 use Rattle.owl_tokens.specs.ManchesterSpellings.{IsDecimal, IsInteger, SpellsManchester}
 use Rattle.owl_lexer.specs.PatternLaws.{IsOne, behind_mark, each_is, mark_before, mark_passes, matches_mark, matches_run, one_as, one_is, or_is, run_matches}
 use Rattle.owl_tokens.specs.SharedPatterns.{digit, dot, greater, hyphen, less}
-use Rattle.owl_lexer.specs.GapTestLaws.{Stand, spelled_exactly, table_is_language}
-use Rattle.owl_lexer.specs.GapTests.{check_gaps}
-use Rattle.owl_lexer.specs.Languages.{IsLanguage, Says}
+use Rattle.owl_lexer.specs.GapTestLaws.{Stand, spelled_exactly, table_is_language, table_is_prompt}
+use Rattle.owl_lexer.specs.GapTests.{check_gaps, check_quiet}
+use Rattle.owl_lexer.specs.Languages.{IsLanguage, IsPrompt, Says}
 use Rattle.owl_lexer.specs.Languages.Says.{token}
 use Rattle.owl_tokens.specs.ManchesterLaws.{manchester_knows}
 use Rattle.owl_tokens.specs.ManchesterTable.{manchester_automaton, manchester_table}
@@ -217,3 +217,16 @@ gaps_pass = refl
 -- The lexemes of the automaton are the tokens of Manchester Syntax, white space and comments.
 pub manchester_is_language : IsLanguage manchester_automaton value_of SpellsManchester
 manchester_is_language = table_is_language is_gap manchester_table (IsLexeme manchester_grammar) value_of SpellsManchester manchester_knows gaps_pass stand
+
+-- white space may come at the first state, in white space, comments and strings, and in these behind a backslash
+
+loud : List ℕ
+loud = 0 ∷ 1 ∷ 2 ∷ 3 ∷ 21 ∷ []
+
+quiet : check_quiet is_gap loud manchester_table ≡ true
+unfolding manchester_table loud
+quiet = refl
+
+-- Each token of Manchester Syntax can be told as soon as white space follows it.
+pub manchester_is_prompt : IsPrompt manchester_automaton SpellsManchester
+manchester_is_prompt = table_is_prompt is_gap loud manchester_table (IsLexeme manchester_grammar) value_of SpellsManchester manchester_knows gaps_pass quiet stand

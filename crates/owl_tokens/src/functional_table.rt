@@ -1,5 +1,15 @@
 //! The table of the automaton of Functional-Style Syntax, made by `tools/make_table.py`.
 
+/// The class of each ASCII character.
+#[rattlefmt::skip]
+pub const ASCII: [u8; 128] = [
+    0, 0, 0, 0, 0, 0, 0, 0, 0, 1, 2, 0, 0, 2, 0, 0, 0, 0, 0, 0, 0, 0, 0, 0, 0, 0, 0, 0, 0, 0, 0,
+    0, 1, 3, 4, 5, 3, 6, 3, 3, 7, 8, 3, 9, 3, 10, 11, 3, 12, 12, 12, 12, 12, 12, 12, 12, 12, 12,
+    13, 3, 14, 15, 16, 3, 17, 18, 18, 18, 18, 18, 18, 19, 19, 19, 19, 19, 19, 19, 19, 19, 19,
+    19, 19, 19, 19, 19, 19, 19, 19, 19, 19, 20, 21, 20, 22, 23, 0, 18, 18, 18, 18, 18, 18, 19,
+    19, 19, 19, 19, 19, 19, 19, 19, 19, 19, 19, 19, 19, 19, 19, 19, 19, 19, 19, 0, 0, 0, 3, 20,
+];
+
 /// The last character of each interval, and the class of its characters.
 #[rattlefmt::skip]
 pub const INTERVALS: [(u32, u8); 72] = [

@@ -4,7 +4,7 @@ use crate::token::Token;
 use crate::values::value;
 use crate::{functional_table, manchester_table};
 use owl_characters::NoMemory;
-use owl_lexer::{TokenLanguage, class_of, kind_in, step_in};
+use owl_lexer::{TokenLanguage, class_by_ascii, kind_in, step_in};
 use std::alloc::Global;
 
 /// The state of a table where a lexeme begins.
@@ -37,7 +37,8 @@ impl TokenLanguage for Functional {
 
     #[tactic(auto, unfolding(crate::specs::FunctionalTable::functional_table))]
     fn step(state: u8, c: char) -> Option<u8> {
-        let class = class_of(&functional_table::INTERVALS, functional_table::OTHERS, c);
+        let (ascii, intervals) = (&functional_table::ASCII, &functional_table::INTERVALS);
+        let class = class_by_ascii(ascii, intervals, functional_table::OTHERS, c);
         step_in(&functional_table::ROWS, state, class)
     }
 
@@ -73,7 +74,8 @@ impl TokenLanguage for Manchester {
 
     #[tactic(auto, unfolding(crate::specs::ManchesterTable::manchester_table))]
     fn step(state: u8, c: char) -> Option<u8> {
-        let class = class_of(&manchester_table::INTERVALS, manchester_table::OTHERS, c);
+        let (ascii, intervals) = (&manchester_table::ASCII, &manchester_table::INTERVALS);
+        let class = class_by_ascii(ascii, intervals, manchester_table::OTHERS, c);
         step_in(&manchester_table::ROWS, state, class)
     }
 

@@ -3,6 +3,7 @@
 ghost use Rattle.std.specs.Prelude.{◌≡◌, ◌↔◌, ℕ, List, Some};
 ghost use Rattle.owl_lexer.specs.Automata.{Knows};
 ghost use Rattle.owl_lexer.specs.Grammars.{IsLexeme};
+ghost use Rattle.owl_lexer.specs.Languages.{IsPrompt};
 ghost use Rattle.owl_tokens.specs.FunctionalGrammar.{functional_grammar};
 ghost use Rattle.owl_tokens.specs.FunctionalTable.{functional_automaton};
 ghost use Rattle.owl_tokens.specs.ManchesterGrammar.{manchester_grammar};
@@ -16,6 +17,13 @@ ghost use Rattle.owl_tokens.specs.declared.token.Token.{Token};
 pub fn lexemes_are_known()
     ensures functional { Knows functional_automaton (IsLexeme functional_grammar) }
     ensures manchester { Knows manchester_automaton (IsLexeme manchester_grammar) }
+{}
+
+/// A law: behind a token no characters lead on to white space, so that each
+/// token can be told as soon as white space follows it.
+pub fn languages_are_prompt()
+    ensures functional { IsPrompt functional_automaton Spells }
+    ensures manchester { IsPrompt manchester_automaton SpellsManchester }
 {}
 
 /// A law: characters are written for a token of Functional-Style Syntax exactly

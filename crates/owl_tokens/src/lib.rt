@@ -10,5 +10,8 @@ mod token;
 mod values;
 
 pub use languages::{Functional, Manchester};
-pub use laws::{functional_lexemes_are_spelled, lexemes_are_known, manchester_lexemes_are_spelled};
+pub use laws::{
+    functional_lexemes_are_spelled, languages_are_prompt, lexemes_are_known,
+    manchester_lexemes_are_spelled,
+};
 pub use token::{Sign, Token};

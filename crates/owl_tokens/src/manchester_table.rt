@@ -1,5 +1,16 @@
 //! The table of the automaton of Manchester Syntax, made by `tools/make_table.py`.
 
+/// The class of each ASCII character.
+#[rattlefmt::skip]
+pub const ASCII: [u8; 128] = [
+    0, 0, 0, 0, 0, 0, 0, 0, 0, 1, 2, 0, 0, 2, 0, 0, 0, 0, 0, 0, 0, 0, 0, 0, 0, 0, 0, 0, 0, 0, 0,
+    0, 1, 3, 4, 5, 3, 6, 3, 3, 7, 8, 3, 9, 10, 11, 12, 3, 13, 13, 13, 13, 13, 13, 13, 13, 13,
+    13, 14, 3, 15, 16, 17, 3, 18, 19, 19, 19, 19, 19, 19, 20, 20, 20, 20, 20, 20, 20, 20, 20,
+    20, 20, 20, 20, 20, 20, 20, 20, 20, 20, 20, 21, 22, 23, 24, 25, 0, 19, 19, 19, 19, 19, 19,
+    20, 20, 20, 20, 20, 20, 20, 20, 20, 20, 20, 20, 20, 20, 20, 20, 20, 20, 20, 20, 26, 0, 27,
+    3, 28,
+];
+
 /// The last character of each interval, and the class of its characters.
 #[rattlefmt::skip]
 pub const INTERVALS: [(u32, u8); 72] = [

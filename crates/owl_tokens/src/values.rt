@@ -1,6 +1,6 @@
 //! The tokens that lexemes stand for.
 
-ghost use Rattle.std.specs.Prelude.{◌≡◌, ◌==◌, length, take, drop, unwrap_or, IfOk};
+ghost use Rattle.std.specs.Prelude.{◌≡◌, ◌≤◌, ◌==◌, length, take, drop, unwrap_or, Some, IfOk};
 ghost use Rattle.std.specs.List.{position};
 ghost use Rattle.owl_tokens.specs.declared.token.Token.TheVariants.{Name};
 ghost use Rattle.owl_tokens.specs.Values.{between_ends, local_in, prefix_in, prefix_length, sign_of, unescaped, value_of};
@@ -53,23 +53,12 @@ fn prefix_length(chars: &[char]) -> usize
     colon_in(chars).unwrap_or(chars.len())
 }
 
-/// The text of these characters.
-fn text_of(alloc: Global, chars: &[char]) -> Result<Text, NoMemory>
-    ensures { IfOk result (λ text. text ≡ chars.now) }
-{
-    let mut text = Text::new(alloc);
-    for c in chars {
-        text.push(*c)?;
-    }
-    Ok(text)
-}
-
 /// The text of these characters, without the backslashes in front of others.
 #[tactic(auto, unfolding(crate::specs::Values::unescaped))]
 fn unescaped(alloc: Global, chars: &[char]) -> Result<Text, NoMemory>
     ensures { IfOk result (λ text. text ≡ unescaped chars.now) }
 {
-    let mut text = Text::new(alloc);
+    let mut text = Text::with_capacity(alloc, chars.len())?;
     let mut escaped = false;
     for c in chars {
         if *c == '\\' && !escaped {
@@ -110,7 +99,7 @@ fn name(alloc: Global, spelling: &[char]) -> Result<Token, NoMemory>
     ensures { IfOk result (λ token. token ≡ Name (prefix_in spelling.now) (unescaped (local_in spelling.now))) }
 {
     let count = prefix_length(spelling);
-    let prefix = text_of(alloc, front(spelling, count))?;
+    let prefix = Text::of_chars(alloc, front(spelling, count))?;
     let local = unescaped(alloc, behind(behind(spelling, count), 1))?;
     Ok(Token::Name(prefix, local))
 }
@@ -121,16 +110,28 @@ fn name(alloc: Global, spelling: &[char]) -> Result<Token, NoMemory>
 pub fn value(alloc: Global, kind: u8, spelling: &[char]) -> Result<Option<Token>, NoMemory>
     ensures { IfOk result (λ token. token ≡ value_of kind spelling.now) }
 {
-    let token = match kind {
-        kinds::IRI => Token::Iri(text_of(alloc, between_ends(spelling))?),
-        kinds::NAME => name(alloc, spelling)?,
-        kinds::BLANK => Token::Blank(text_of(alloc, behind(spelling, 2))?),
-        kinds::STR => Token::Str(unescaped(alloc, between_ends(spelling))?),
-        kinds::AT => Token::At(text_of(alloc, behind(spelling, 1))?),
-        kinds::WORD => Token::Word(text_of(alloc, spelling)?),
-        kinds::INT => Token::Int(text_of(alloc, spelling)?),
-        kinds::DEC => Token::Dec(text_of(alloc, spelling)?),
-        _ => return Ok(sign_of(kind).map(Token::Sign)),
-    };
-    Ok(Some(token))
+    if kind < kinds::IRI || kinds::DEC < kind {
+        Ok(sign_of(kind).map(Token::Sign))
+    } else {
+        Ok(Some(text_token(alloc, kind, spelling)?))
+    }
+}
+
+/// The token that a lexeme of this kind stands for, if it has a text.
+#[inline(never)]
+#[tactic(auto, unfolding(crate::specs::Values::value_of))]
+fn text_token(alloc: Global, kind: u8, spelling: &[char]) -> Result<Token, NoMemory>
+    requires { (3 ≤ kind) × (kind ≤ 10) }
+    ensures { IfOk result (λ token. Some token ≡ value_of kind spelling.now) }
+{
+    match kind {
+        kinds::IRI => Ok(Token::Iri(Text::of_chars(alloc, between_ends(spelling))?)),
+        kinds::NAME => name(alloc, spelling),
+        kinds::BLANK => Ok(Token::Blank(Text::of_chars(alloc, behind(spelling, 2))?)),
+        kinds::STR => Ok(Token::Str(unescaped(alloc, between_ends(spelling))?)),
+        kinds::AT => Ok(Token::At(Text::of_chars(alloc, behind(spelling, 1))?)),
+        kinds::WORD => Ok(Token::Word(Text::of_chars(alloc, spelling)?)),
+        kinds::INT => Ok(Token::Int(Text::of_chars(alloc, spelling)?)),
+        _ => Ok(Token::Dec(Text::of_chars(alloc, spelling)?)),
+    }
 }

@@ -1,10 +1,10 @@
 //! Turtle as a language of tokens.
 
-use crate::table::{INTERVALS, KINDS, OTHERS, ROWS};
+use crate::table::{ASCII, INTERVALS, KINDS, OTHERS, ROWS};
 use crate::token::Token;
 use crate::values::token_of;
 use owl_characters::NoMemory;
-use owl_lexer::{TokenLanguage, class_of, kind_in, step_in};
+use owl_lexer::{TokenLanguage, class_by_ascii, kind_in, step_in};
 use std::alloc::Global;
 
 /// The tokens of Turtle (RDF 1.1 Turtle, section 6.5).
@@ -31,7 +31,7 @@ impl TokenLanguage for Turtle {
     }
 
     fn step(state: u8, c: char) -> Option<u8> {
-        step_in(&ROWS, state, class_of(&INTERVALS, OTHERS, c))
+        step_in(&ROWS, state, class_by_ascii(&ASCII, &INTERVALS, OTHERS, c))
     }
 
     fn kind(state: u8) -> Option<u8> {

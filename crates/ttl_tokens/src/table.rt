@@ -1,5 +1,16 @@
 //! The table of the automaton of Turtle, made by `tools/make_table.py`.
 
+/// The class of each ASCII character.
+#[rattlefmt::skip]
+pub const ASCII: [u8; 128] = [
+    0, 0, 0, 0, 0, 0, 0, 0, 0, 1, 2, 0, 0, 2, 0, 0, 0, 0, 0, 0, 0, 0, 0, 0, 0, 0, 0, 0, 0, 0, 0,
+    0, 1, 3, 4, 5, 3, 6, 3, 7, 8, 9, 3, 10, 11, 12, 13, 3, 14, 15, 16, 16, 16, 16, 16, 16, 17,
+    17, 18, 19, 20, 3, 21, 3, 22, 23, 24, 25, 26, 27, 28, 29, 29, 30, 29, 29, 29, 29, 29, 29,
+    31, 29, 32, 33, 29, 34, 29, 29, 35, 29, 29, 36, 37, 38, 39, 40, 0, 41, 42, 25, 26, 43, 44,
+    29, 29, 30, 29, 29, 45, 29, 46, 29, 31, 29, 47, 48, 49, 50, 29, 29, 35, 29, 29, 0, 0, 0, 3,
+    51,
+];
+
 /// The last character of each interval, and the class of its characters.
 #[rattlefmt::skip]
 pub const INTERVALS: [(u32, u8); 111] = [

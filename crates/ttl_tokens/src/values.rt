@@ -11,22 +11,11 @@ use crate::token::{Symbol, Token};
 use owl_characters::{NoMemory, Text};
 use std::alloc::Global;
 
-/// The characters as a text.
-fn text_of(alloc: Global, chars: &[char]) -> Result<Text, NoMemory>
-    ensures { IfOk result (λ text. text ≡ chars.now) }
-{
-    let mut text = Text::new(alloc);
-    for c in chars {
-        text.push(*c)?;
-    }
-    Ok(text)
-}
-
 /// The characters but backslashes.
 fn without_backslashes(alloc: Global, chars: &[char]) -> Result<Text, NoMemory>
     ensures { IfOk result (λ text. text ≡ filter (λ c. not (is_backslash c)) chars.now) }
 {
-    let mut text = Text::new(alloc);
+    let mut text = Text::with_capacity(alloc, chars.len())?;
     for c in chars {
         if *c != '\\' {
             text.push(*c)?;
@@ -54,7 +43,7 @@ fn colon_of(chars: &[char]) -> usize
 fn prefix_text(alloc: Global, spelling: &[char]) -> Result<Text, NoMemory>
     ensures { IfOk result (λ text. text ≡ prefix_text spelling.now) }
 {
-    text_of(alloc, front(spelling, colon_of(spelling)))
+    Text::of_chars(alloc, front(spelling, colon_of(spelling)))
 }
 
 /// A local part without backslashes.
@@ -106,11 +95,11 @@ pub fn token_of(alloc: Global, kind: u8, spelling: &[char]) -> Result<Option<Tok
             prefix_text(alloc, spelling)?,
             local_text(alloc, spelling)?,
         ))),
-        BLANK_NODE_LABEL => Ok(Some(Token::Label(text_of(alloc, past(spelling, 2))?))),
-        LANGTAG => Ok(Some(Token::At(text_of(alloc, past(spelling, 1))?))),
-        INTEGER => Ok(Some(Token::Integer(text_of(alloc, spelling)?))),
-        DECIMAL => Ok(Some(Token::Decimal(text_of(alloc, spelling)?))),
-        DOUBLE => Ok(Some(Token::Double(text_of(alloc, spelling)?))),
+        BLANK_NODE_LABEL => Ok(Some(Token::Label(Text::of_chars(alloc, past(spelling, 2))?))),
+        LANGTAG => Ok(Some(Token::At(Text::of_chars(alloc, past(spelling, 1))?))),
+        INTEGER => Ok(Some(Token::Integer(Text::of_chars(alloc, spelling)?))),
+        DECIMAL => Ok(Some(Token::Decimal(Text::of_chars(alloc, spelling)?))),
+        DOUBLE => Ok(Some(Token::Double(Text::of_chars(alloc, spelling)?))),
         STRING_LITERAL_QUOTE | STRING_LITERAL_SINGLE_QUOTE => {
             Ok(Some(Token::Str(string_text(alloc, inside(spelling, 1))?)))
         }

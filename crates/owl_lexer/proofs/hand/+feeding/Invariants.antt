@@ -1,13 +1,16 @@
--- What is held, and how many characters are to come, twice; several characters weigh more than one.
+-- What is held, and how many characters are to come, thrice; several characters weigh more than one.
 use Rattle.std.proofs.Common.{◌+◌, ◌*◌, length, take}
 use Rattle.owl_lexer.specs.Hands.{Takes}
 use Rattle.owl_lexer.proofs.hand.+feeding.Given as goal
 
 abbrev pub decreases-push : goal.decreases-push
-decreases-push g l = 2 * (length l.hand.now.held.items + 1)
+decreases-push g l = 3 * (length l.hand.now.held.items + 1) + 1
+
+abbrev pub decreases-turn : goal.decreases-turn
+decreases-turn g l = 3 * (length l.hand.now.held.items + 1)
 
 abbrev pub decreases-push_all : goal.decreases-push_all
-decreases-push_all g l = 2 * (length l.hand.now.held.items + length l.chars.now) + 1
+decreases-push_all g l = 3 * (length l.hand.now.held.items + length l.chars.now) + 2
 
 abbrev pub invariant-push_all-loop-c : goal.invariant-push_all-loop-c
 invariant-push_all-loop-c g l =
