@@ -61,6 +61,9 @@ nothing_yet prefixes arena = record { arena = arena; prefixes = prefixes; head =
 abbrev pub with_arena : Held → Document → Document
 with_arena arena d = record { arena = arena; prefixes = d.prefixes; head = d.head; notes = d.notes; axioms = d.axioms }
 
+abbrev pub with_prefixes : List Prefix → Document → Document
+with_prefixes prefixes d = record { arena = d.arena; prefixes = prefixes; head = d.head; notes = d.notes; axioms = d.axioms }
+
 abbrev pub with_head : Head → Document → Document
 with_head head d = record { arena = d.arena; prefixes = d.prefixes; head = head; notes = d.notes; axioms = d.axioms }
 

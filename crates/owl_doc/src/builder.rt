@@ -5,7 +5,7 @@ ghost use Rattle.owl_arena.specs.declared.grow.Grow.{Grow};
 ghost use Rattle.owl_arena.specs.Growth.{Adds, IsOneTooMany, IsTooDeep, IsTooHeavy, IsWithin, Lacks};
 ghost use Rattle.owl_arena.specs.Held.{AreHeld, node_over, tree_at, trees_at};
 ghost use Rattle.owl_doc.specs.declared.fault.AddFault.{AddFault};
-ghost use Rattle.owl_doc.specs.Documents.{IsAnnotationAt, IsAxiomAt, IsBegun, PassesWeight, nothing_yet, ontology_of, weight_at, with_arena, with_axiom, with_import, with_name, with_note};
+ghost use Rattle.owl_doc.specs.Documents.{IsAnnotationAt, IsAxiomAt, IsBegun, PassesWeight, nothing_yet, ontology_of, weight_at, with_arena, with_axiom, with_import, with_name, with_note, with_prefixes};
 ghost use Rattle.owl_doc.specs.Heads.{StandsBeside, name_of};
 ghost use Rattle.owl_doc.specs.Adding.{Collects};
 ghost use Rattle.owl_arena.specs.Shared.{heaviest};
@@ -130,6 +130,14 @@ impl Builder {
         ensures err { OnErr result (self.new ≡ self.old) }
     {
         self.arena.node(tag, kids)
+    }
+
+    /// Gives the document these prefixes, in place of those that it had. Takes no
+    /// memory.
+    pub fn set_prefixes(&mut self, prefixes: Prefixes)
+        ensures { self.new ≡ with_prefixes prefixes self.old }
+    {
+        self.prefixes = prefixes;
     }
 
     /// Calls the ontology so, in place of an earlier name (Structural

@@ -13,7 +13,8 @@ use Rattle.owl_tree.specs.Shape.{IsShaped}
 use Rattle.owl_tree.specs.Trees.{Tree, leaf}
 use Rattle.owl_maker.specs.declared.fault.MakeFault.{MakeFault}
 use Rattle.owl_maker.specs.declared.parts.Open as parts
-use Rattle.owl_maker.specs.Constructs.{Constructs, Frame, is_key_group, with_kid}
+use Rattle.owl_maker.specs.Constructs.{Constructs, is_key_group}
+use Rattle.owl_tree.specs.Frames.{Frame, with_kid}
 use Rattle.owl_maker.specs.Kept.{AreAllHeld, IsHeldIn, outlines_in}
 use Rattle.owl_maker.specs.Makings.{Follows, Making, outline_of}
 use Rattle.owl_maker.specs.Steps.{forms_with, kids_with, outlines_with}

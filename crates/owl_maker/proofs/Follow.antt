@@ -14,7 +14,8 @@ use Rattle.owl_tree.specs.Shape.{AreShaped, FitsRow, HasKeyProperty, IsShaped}
 use Rattle.owl_tree.specs.TreeLaws.{list_of_kids_of}
 use Rattle.owl_tree.specs.Trees.{Tree, depth, kids_of, most_depth, sum_weight, weight}
 use Rattle.owl_maker.specs.declared.parts.Outline.{Outline}
-use Rattle.owl_maker.specs.Constructs.{AreSound, Constructs, FitsButKeys, Frame, Item, Work, has_any, is_key_group, shut_in, tree_of, with_kid}
+use Rattle.owl_maker.specs.Constructs.{AreSound, Constructs, Item, Work, has_any, is_key_group, shut_in}
+use Rattle.owl_tree.specs.Frames.{FitsButKeys, Frame, tree_of, with_kid}
 use Rattle.owl_maker.specs.Makings.{Follows, HasHeavy, HaveHeavy, HoldsForms, IsHeavy, Making, forms, outline_of}
 use Rattle.owl_maker.specs.Steps.{forms_with, item_made, outlines_shut, outlines_with, rest_of}
 use Rattle.owl_maker.specs.Kept.{IsShutLight, Seen}

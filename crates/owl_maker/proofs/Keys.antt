@@ -11,7 +11,8 @@ use Rattle.owl_tree.specs.Shape.{HasKeyProperty}
 use Rattle.owl_tree.specs.ShapeTests.{IsKeyGroup}
 use Rattle.owl_tree.specs.Tags.{number_of}
 use Rattle.owl_tree.specs.Trees.{Tree, kids_in, tag_of}
-use Rattle.owl_maker.specs.Constructs.{Frame, has_any, has_key, is_key_group, with_kid}
+use Rattle.owl_maker.specs.Constructs.{has_any, has_key, is_key_group}
+use Rattle.owl_tree.specs.Frames.{Frame, with_kid}
 use Rattle.owl_maker.specs.Makings.{outline_of}
 use Rattle.owl_maker.specs.Steps.{outline_with}
 

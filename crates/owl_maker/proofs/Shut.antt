@@ -8,7 +8,8 @@ use Rattle.owl_tree.specs.Trees.{depth}
 use Rattle.owl_maker.specs.declared.fault.MakeFault.{MakeFault}
 use Rattle.owl_maker.specs.declared.fault.MakeFault.TheVariants.{EmptyKey, Memory}
 use Rattle.owl_maker.specs.declared.maker.Maker.TheInside as maker
-use Rattle.owl_maker.specs.Constructs.{Constructs, FitsButKeys, Frame, IsKeyless, shut_in, tree_of}
+use Rattle.owl_maker.specs.Constructs.{Constructs, shut_in}
+use Rattle.owl_tree.specs.Frames.{FitsButKeys, Frame, IsKeyless, tree_of}
 use Rattle.owl_maker.specs.Kept.{IsShutLight, making_of, outlines_in, top_at}
 use Rattle.owl_maker.specs.Makings.{Follows, IsHeavy, Making}
 use Rattle.owl_maker.specs.Steps.{is_keyless_in, outlines_shut}

@@ -15,7 +15,8 @@ use Rattle.owl_tree.specs.Tags.{number_of}
 use Rattle.owl_tree.specs.Trees.{Tree, depth, kids_of, node}
 use Rattle.owl_maker.specs.declared.parts.Open as parts
 use Rattle.owl_maker.specs.declared.parts.Outline.{Outline}
-use Rattle.owl_maker.specs.Constructs.{Frame, IsKeyless, has_key, tree_of}
+use Rattle.owl_maker.specs.Constructs.{has_key}
+use Rattle.owl_tree.specs.Frames.{Frame, IsKeyless, tree_of}
 use Rattle.owl_maker.specs.Kept.{top_of}
 use Rattle.owl_maker.specs.Makings.{forms, outline_of}
 use Rattle.owl_maker.specs.Steps.{is_keyless_in}

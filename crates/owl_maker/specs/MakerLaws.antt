@@ -4,7 +4,8 @@ use Rattle.std.proofs.lemmas.List.{append-nil, length-map}
 use Rattle.owl_arena.specs.Held.{AreHeld, trees_at}
 use Rattle.owl_arena.specs.HeldLaws.{kids_stay}
 use Rattle.owl_doc.specs.Documents.{Document, IsBegun, ontology_of}
-use Rattle.owl_maker.specs.Constructs.{Constructs, Frame, Work}
+use Rattle.owl_maker.specs.Constructs.{Constructs, Work}
+use Rattle.owl_tree.specs.Frames.{Frame}
 use Rattle.owl_maker.specs.Makings.{Follows, Grows, Making, nothing_open, outline_of, with_document}
 use Rattle.owl_tree.specs.Trees.{Tree}
 

@@ -4,7 +4,8 @@ use Rattle.owl_arena.specs.Growth.{Adds, Lacks}
 use Rattle.owl_arena.specs.Shared.{heaviest}
 use Rattle.owl_doc.specs.Documents.{Document, ontology_of, total_weight, with_arena}
 use Rattle.owl_maker.specs.declared.parts.Outline.{Outline}
-use Rattle.owl_maker.specs.Constructs.{Constructs, FitsButKeys, Frame, IsSound, Item, Work, has_any, has_key}
+use Rattle.owl_maker.specs.Constructs.{Constructs, IsSound, Item, Work, has_any, has_key}
+use Rattle.owl_tree.specs.Frames.{FitsButKeys, Frame}
 use Rattle.owl_tree.specs.declared.tag.Tag.TheVariants as tag
 use Rattle.owl_tree.specs.Canonical.{canonical}
 use Rattle.owl_tree.specs.Tags.{is_axiom}

@@ -1,10 +1,11 @@
 //! Makers of trees.
 
-ghost use Rattle.std.specs.Prelude.{◌≡◌, ◌↔◌, ◌≤◌, ◌⊎◌, List, [], ◌∷◌, IfErr, IsErrOf, OnErr, OnOk, length};
-ghost use Rattle.owl_arena.specs.Shared.{deepest};
-ghost use Rattle.owl_doc.specs.Documents.{ontology_of, with_import, with_name};
+ghost use Rattle.std.specs.Prelude.{◌≡◌, ◌↔◌, ◌≤◌, ◌⊎◌, IsTrue, List, [], ◌∷◌, IfErr, IsErrOf, OnErr, OnOk, length};
+ghost use Rattle.owl_arena.specs.Shared.{AreShared, deepest};
+ghost use Rattle.owl_doc.specs.Documents.{IsBegun, ontology_of, with_import, with_name, with_prefixes};
 ghost use Rattle.owl_doc.specs.Heads.{StandsBeside, name_of};
-ghost use Rattle.owl_maker.specs.Constructs.{Constructs, FitsButKeys, Frame, IsKeyless, Item, opened, shut_in, with_kid};
+ghost use Rattle.owl_maker.specs.Constructs.{Constructs, Item, shut_in};
+ghost use Rattle.owl_tree.specs.Frames.{FitsButKeys, Frame, IsKeyless, opened, with_kid};
 ghost use Rattle.owl_maker.specs.Makings.{AddsAnnotation, AddsAxiom, Follows, Grows, HasAnnotation, HasAxiom, IsInside, MayShut, PassesLimit, annotations_of, axioms_of, nothing_open, with_document};
 ghost use Rattle.owl_maker.specs.declared.fault.MakeFault.{MakeFault};
 ghost use Rattle.owl_tree.specs.Ontologies.{canonical_ontology};
@@ -15,7 +16,7 @@ use crate::build::{is_keyless, outcome_of, push_open, put_leaf, shut_top};
 use crate::fault::MakeFault;
 use crate::parts::Open;
 use owl_arena::ExprId;
-use owl_atom::Iri;
+use owl_atom::{Iri, Prefixes};
 use owl_characters::NoMemory;
 use owl_doc::{Builder, Doc};
 use owl_tree::{Atom, Tag};
@@ -67,6 +68,22 @@ impl Maker {
             item: None,
             is_heavy: false,
         }
+    }
+
+    /// A law: of what every document and every arena is. It does nothing.
+    pub fn made(&self)
+        ensures begun { IsBegun self.now.document }
+        ensures shared { AreShared self.now.document.arena.trees }
+    {
+        self.builder.arena().distinct();
+    }
+
+    /// Whether 128 constructs are open.
+    pub fn is_full(&self) -> bool
+        ensures { (fs : List Frame) → Follows self.now (Constructs fs)
+            → IsTrue result ↔ (deepest ≤ length fs) }
+    {
+        LEVELS <= self.stack.len()
     }
 
     /// Opens a construct with this tag inside the others, or an item.
@@ -187,6 +204,15 @@ impl Maker {
         let id = self.item.take().unwrap();
         let added = self.builder.add(id);
         outcome_of(added)
+    }
+
+    /// Gives the document these prefixes, in place of those that it had. Takes no
+    /// memory.
+    pub fn set_prefixes(&mut self, prefixes: Prefixes)
+        ensures { self.new
+            ≡ with_document (with_prefixes prefixes self.old.document) self.old }
+    {
+        self.builder.set_prefixes(prefixes);
     }
 
     /// Calls the ontology so, in place of an earlier name (Structural
