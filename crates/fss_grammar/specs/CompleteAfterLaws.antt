@@ -27,7 +27,8 @@ use Rattle.fss_terms.specs.declared.term.Term.TheVariants.{Keyword, Opening, Clo
 use Rattle.fss_grammar.specs.CompleteLaws.{KidGoes, Leads}
 use Rattle.fss_grammar.specs.Going.{Goes, goes_act, goes_rule, goes_then}
 use Rattle.fss_grammar.specs.GoingLaws.{goes_name}
-use Rattle.fss_grammar.specs.Making.{Document, Frame, with_kid}
+use Rattle.fss_grammar.specs.Making.{Document}
+use Rattle.owl_tree.specs.Frames.{Frame, with_kid}
 use Rattle.fss_grammar.specs.Making.Kept.{iri}
 use Rattle.fss_grammar.specs.Meaning.{Suits, within, within_keeping, with_kids}
 use Rattle.fss_grammar.specs.Page.{Names, is_leaf, is_range_construct, tree_symbols}

@@ -21,7 +21,8 @@ use Rattle.fss_terms.specs.declared.term.Term.TheVariants.{Keyword, Opening, Clo
 use Rattle.fss_grammar.specs.Classes.Class.{closing, opening}
 use Rattle.fss_grammar.specs.Going.{Goes, goes_nowhere, goes_rule, goes_then}
 use Rattle.fss_grammar.specs.GoingLaws.{atom_goes, goes_close, goes_keyword, goes_open}
-use Rattle.fss_grammar.specs.Making.{Document, Frame, with_kid}
+use Rattle.fss_grammar.specs.Making.{Document}
+use Rattle.owl_tree.specs.Frames.{Frame, with_kid}
 use Rattle.fss_grammar.specs.Meaning.{Suits, within, with_kids}
 use Rattle.fss_grammar.specs.Page.{Names, Rule, alternatives, atom_symbols, is_entity, tree_symbols}
 use Rattle.fss_grammar.specs.Page.Rule.{one}

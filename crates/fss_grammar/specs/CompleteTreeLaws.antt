@@ -23,7 +23,8 @@ use Rattle.fss_grammar.specs.CompleteKidsLaws.{kids_lead}
 use Rattle.fss_grammar.specs.CompleteLaws.{KidGoes, TreeLeads, leaf_goes}
 use Rattle.fss_grammar.specs.Going.{Goes, goes_act, goes_then}
 use Rattle.fss_grammar.specs.GoingLaws.{closed_passes, opened_passes}
-use Rattle.fss_grammar.specs.Making.{Document, Frame, Maker, put}
+use Rattle.fss_grammar.specs.Making.{Document, Maker, put}
+use Rattle.owl_tree.specs.Frames.{Frame}
 use Rattle.fss_grammar.specs.Making.Kept.{nothing}
 use Rattle.fss_grammar.specs.Meaning.{within, with_kids}
 use Rattle.fss_grammar.specs.Page.{Names, closing_symbols, front_symbols, is_entity, node_symbols, opening_symbols}

@@ -32,7 +32,8 @@ use Rattle.fss_grammar.specs.CompleteLaws.{one_leads}
 use Rattle.fss_grammar.specs.CompleteTreeLaws.{tree_goes}
 use Rattle.fss_grammar.specs.Going.{Goes, goes_act, goes_rule, goes_then, goes_token}
 use Rattle.fss_grammar.specs.GoingLaws.{goes_close, goes_open}
-use Rattle.fss_grammar.specs.Making.{Document, Frame, Maker, Makes, Runs, beginning, with_kid}
+use Rattle.fss_grammar.specs.Making.{Document, Maker, Makes, Runs, beginning}
+use Rattle.owl_tree.specs.Frames.{Frame, with_kid}
 use Rattle.fss_grammar.specs.Meaning.{Events, FitsOne, MeansAt, NamesMean, Parses, RuleMeans, Suits, all_added, annotating, asserting, between, declaring, importing, naming_if, within}
 use Rattle.fss_grammar.specs.Page.{Names, Rule, alternatives, rule_number}
 use Rattle.fss_grammar.specs.Page.Rule.{after, annotations, axiom_item, axioms, behind, document, header, imports, iri_part, many, maybe, one, prefixes, suffix, version}

@@ -29,7 +29,8 @@ use Rattle.fss_grammar.specs.Classes.{Class, class_number, class_of}
 use Rattle.fss_grammar.specs.Classes.Class.{carets, closing, digits, keyword, label, language, opening, text}
 use Rattle.fss_grammar.specs.ClassLaws.{class_is, keyword_class}
 use Rattle.fss_grammar.specs.Going.{Goes, goes_act, goes_before, goes_nowhere, goes_rule, goes_then, goes_token}
-use Rattle.fss_grammar.specs.Making.{Document, Frame, Maker, Performs, with_kid}
+use Rattle.fss_grammar.specs.Making.{Document, Maker, Performs}
+use Rattle.owl_tree.specs.Frames.{Frame, with_kid}
 use Rattle.fss_grammar.specs.Making.Kept.{string}
 use Rattle.fss_grammar.specs.Meaning.{within, within_keeping}
 use Rattle.fss_grammar.specs.Page.{Names, alternatives, atom_symbols, closing_symbols, opening_symbols}

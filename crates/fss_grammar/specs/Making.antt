@@ -14,6 +14,7 @@ use Rattle.owl_tree.specs.declared.row.AtomSort.TheVariants as atom
 use Rattle.owl_tree.specs.declared.tag.Tag.{Tag}
 use Rattle.owl_tree.specs.declared.tag.Tag.TheVariants as tag
 use Rattle.owl_tree.specs.Atoms.{IsAtom}
+use Rattle.owl_tree.specs.Frames.{Frame, opened, tree_of, with_kid}
 use Rattle.owl_tree.specs.Ontologies.{Head, Ontology, OntologyName}
 use Rattle.owl_tree.specs.Rows.{Row, Leaf, Node, is_of_sort, row_of}
 use Rattle.owl_tree.specs.Shape.{HasKeyProperty}
@@ -23,11 +24,6 @@ use Rattle.fss_terms.specs.Terms.{BeginsAtom, iri_of_token}
 use Rattle.fss_grammar.specs.Acts.{act_number}
 use Rattle.fss_grammar.specs.declared.acts.Act.{Act}
 use Rattle.fss_grammar.specs.declared.acts.Act.TheVariants.{AddAnnotation, AddAxiom, Begin, DeclareIri, DeclareName, EndItem, HeldDatatype, HeldProperty, Hold, ImportIri, OntologyIri, Plain, Shut, Tagged, Typed, VersionIri}
-
--- an open construct: its tag, and its kids so far
-pub record Frame : Type 0 where
-  pub tag : Tag
-  pub kids : List Tree
 
 -- What is kept until more comes: a string for a leaf with this tag, an IRI, the name of a prefix, or a tree that stands in no
 -- construct.
@@ -54,9 +50,6 @@ no_ontology = record { head = record { name = None; imports = [] }; annotations 
 
 abbrev pub beginning : Maker
 beginning = record { kept = nothing; frames = []; document = record { declarations = []; ontology = no_ontology } }
-
-abbrev pub with_kid : Tree → Frame → Frame
-with_kid t f = record f { kids = f.kids ++ t ∷ [] }
 
 -- a tree is the next kid of the innermost construct, or else it is kept
 abbrev pub put_in : List Frame → Tree → Maker → Maker
@@ -112,13 +105,13 @@ BeginsLeaf prefixes t sort next m n = (a : Atom) × ComesAtom prefixes next sort
 
 abbrev pub Begins : List Prefix → Tag → Row → Option Token → Maker → Maker → Type 0
 Begins prefixes t (Leaf sort) next m n = BeginsLeaf prefixes t sort next m n
-Begins prefixes t (Node front rest) next m n = n ≡ record m { frames = record { tag = t; kids = [] } ∷ m.frames }
+Begins prefixes t (Node front rest) next m n = n ≡ record m { frames = opened t m.frames }
 
 -- the innermost construct ends; a HasKey has a property (section 9.5)
 abbrev pub Shuts : List Frame → Maker → Maker → Type 0
 Shuts [] m n = ⊥
 Shuts (f ∷ frames) m n =
-    (f.tag ≡ tag.HasKey → HasKeyProperty f.kids) × (n ≡ put (node f.tag (kids_of f.kids)) (record m { frames = frames }))
+    (f.tag ≡ tag.HasKey → HasKeyProperty f.kids) × (n ≡ put (tree_of f) (record m { frames = frames }))
 
 -- the string that was kept is a literal with this datatype or this language tag
 abbrev pub MakesLiteral : Kept → Option (List ℕ) → Option (List ℕ) → Maker → Maker → Type 0

@@ -25,7 +25,8 @@ use Rattle.fss_terms.specs.Spelling.{HaveMembers, spellings}
 use Rattle.fss_terms.specs.Terms.{AreTerms, BeginsLiteral, iri_of_token}
 use Rattle.fss_terms.specs.declared.term.Term.{Term}
 use Rattle.fss_grammar.specs.Classes.{class_of}
-use Rattle.fss_grammar.specs.Making.{Document, Frame, Kept, Maker, Runs, add_annotation, add_axiom, beginning, declare, import_iri, name_ontology}
+use Rattle.fss_grammar.specs.Making.{Document, Kept, Maker, Runs, add_annotation, add_axiom, beginning, declare, import_iri, name_ontology}
+use Rattle.owl_tree.specs.Frames.{Frame}
 use Rattle.fss_grammar.specs.Making.Kept.{iri, nothing, string}
 use Rattle.fss_grammar.specs.Page.{Names, Rule, is_entity, page, rules}
 use Rattle.fss_grammar.specs.Page.Rule.{after, annotations, axiom_item, axioms, behind, document, header, imports, iri_part, many, maybe, one, prefixes, suffix, version}

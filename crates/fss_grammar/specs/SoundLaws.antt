@@ -16,7 +16,8 @@ use Rattle.fss_terms.specs.declared.term.Term.{Term}
 use Rattle.fss_terms.specs.declared.term.Term.TheVariants.{Keyword, Opening, Closing}
 use Rattle.fss_grammar.specs.Classes.Class.{closing, keyword, opening}
 use Rattle.fss_grammar.specs.ClassLaws.{is_of}
-use Rattle.fss_grammar.specs.Making.{Document, Frame, Maker, Runs}
+use Rattle.fss_grammar.specs.Making.{Document, Maker, Runs}
+use Rattle.owl_tree.specs.Frames.{Frame}
 use Rattle.fss_grammar.specs.Meaning.{Events, NamesMean, Parses, within, with_kids}
 use Rattle.fss_grammar.specs.Page.{Names, closing_symbols, opening_symbols}
 

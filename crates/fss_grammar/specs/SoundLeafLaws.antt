@@ -25,7 +25,8 @@ use Rattle.fss_terms.specs.declared.term.Term.{Term}
 use Rattle.fss_terms.specs.declared.term.Term.TheVariants.{Keyword, Opening, Closing, Atom as held}
 use Rattle.fss_grammar.specs.ActLaws.{begun, done}
 use Rattle.fss_grammar.specs.Classes.Class.{closing, opening}
-use Rattle.fss_grammar.specs.Making.{BeginsLeaf, ComesAtom, Document, Frame, Maker, Runs, put}
+use Rattle.fss_grammar.specs.Making.{BeginsLeaf, ComesAtom, Document, Maker, Runs, put}
+use Rattle.owl_tree.specs.Frames.{Frame}
 use Rattle.fss_grammar.specs.Meaning.{Events, FitsOne, NamesMean, Parsed, Parses, ParsesLiteral, Suits, agree, within, with_kids}
 use Rattle.fss_grammar.specs.Page.{Names, atom_symbols, is_entity, is_leaf, leaf_symbols}
 use Rattle.fss_grammar.specs.Page.Rule.{iri_part, suffix}

@@ -181,7 +181,7 @@ minimum_more s front (AtLeast q least) n h = tt
 minimum_more s front (SomeThen q last) n h = tt
 minimum_more s front (Set q least) n h = omega arith
 
-exact_more : (s : Sort) (front : List Sort) (rest : Rest) (n : ℕ) → IsExact (Node front rest) n → IsExact (Node (s ∷ front) rest) (suc n)
+pub exact_more : (s : Sort) (front : List Sort) (rest : Rest) (n : ℕ) → IsExact (Node front rest) n → IsExact (Node (s ∷ front) rest) (suc n)
 exact_more s front Nothing n h = tt
 exact_more s front (Optional q) n h = tt
 exact_more s front (AtLeast q least) n h = tt

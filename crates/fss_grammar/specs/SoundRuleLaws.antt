@@ -196,7 +196,7 @@ held_takes : ((i : List ℕ) → takes (row_of tag.Datatype) (Iri i) ≡ true) �
 unfolding row_of
 held_takes = (λ i. refl, λ i. refl)
 
-held_admitted : (admits sort.DataRange tag.Datatype ≡ true) × (admits sort.DataPropertyExpression tag.DataProperty ≡ true)
+pub held_admitted : (admits sort.DataRange tag.Datatype ≡ true) × (admits sort.DataPropertyExpression tag.DataProperty ≡ true)
 unfolding admits number_of
 held_admitted = (refl, refl)
 
@@ -260,7 +260,7 @@ held_means p xs es it =
     moved (RuleMeans p after) (one_first name.tokens_are x.tokens_are) (cons_then it.events_are (one_first name.events_are x.events_are))
     (held_read p x.name name.back_tokens name.back_events (last_moved (ParsesBehind p) rest.tokens_are rest.events_are rest.back (rest.front behind refl)))
 
-construct_admitted : (b a : Bool) → (if b then false else a) ≡ true → a ≡ true
+pub construct_admitted : (b a : Bool) → (if b then false else a) ≡ true → a ≡ true
 construct_admitted true a e = absurd (true≢false (sym e))
 construct_admitted false a e = e
 

@@ -18,7 +18,8 @@ use Rattle.fss_terms.specs.Spelling.{HasMembers, MeetsMinimum, closed, opened, s
 use Rattle.fss_terms.specs.Terms.{AreTerms}
 use Rattle.fss_terms.specs.declared.term.Term.{Term}
 use Rattle.fss_grammar.specs.ActLaws.{begun, done}
-use Rattle.fss_grammar.specs.Making.{Document, Frame, Maker, Runs, put}
+use Rattle.fss_grammar.specs.Making.{Document, Maker, Runs, put}
+use Rattle.owl_tree.specs.Frames.{Frame}
 use Rattle.fss_grammar.specs.Making.Kept.{nothing}
 use Rattle.fss_grammar.specs.Meaning.{Events, FitsOne, NamesMean, Parses, Suits, within, with_kids}
 use Rattle.fss_grammar.specs.Page.{Names, closing_symbols, front_symbols, is_entity, node_symbols, tree_symbols}
@@ -39,11 +40,14 @@ is_own : is_tag tag.InverseObjectProperties tag.InverseObjectProperties ≡ true
 unfolding number_of
 is_own = refl
 
-three : (t : Tag) (ts : List Tree) → FitsKids t (row_of t) ts → t ≡ tag.InverseObjectProperties → length ts ≡ 3
-three t ts f e =
-    exact_three (length ts) (subst (λ u. IsExact (row_of u) (length ts)) e (f.exact (subst (λ u. is_tag tag.InverseObjectProperties u ≡ true) (sym e) is_own)))
+pub exact_count : (t : Tag) (n : ℕ) → (is_tag tag.InverseObjectProperties t ≡ true → IsExact (row_of t) n) → t ≡ tag.InverseObjectProperties → n ≡ 3
+exact_count t n exact e =
+    exact_three n (subst (λ u. IsExact (row_of u) n) e (exact (subst (λ u. is_tag tag.InverseObjectProperties u ≡ true) (sym e) is_own)))
 
-two_of_three : (ts : List Tree) → length ts ≡ 3 → AreAtMostTwo (drop 1 ts)
+three : (t : Tag) (ts : List Tree) → FitsKids t (row_of t) ts → t ≡ tag.InverseObjectProperties → length ts ≡ 3
+three t ts f e = exact_count t (length ts) f.exact e
+
+pub two_of_three : (ts : List Tree) → length ts ≡ 3 → AreAtMostTwo (drop 1 ts)
 two_of_three (a ∷ b ∷ c ∷ []) e = record { one = b; other = c; each = (inl (equivalent_refl b), (inr (equivalent_refl c), tt)) }
 two_of_three [] e = absurd (let no : 0 ≡ 3 = e in omega arith)
 two_of_three (a ∷ []) e = absurd (let no : 1 ≡ 3 = e in omega arith)

@@ -1,5 +1,8 @@
 //! What is done on the way along a derivation.
 
+ghost use Rattle.std.specs.Prelude.{◌≡◌, IfSome, IsNone};
+ghost use Rattle.fss_grammar.specs.Acts.{act_number};
+
 use owl_tree::Tag;
 
 /// What the maker of an ontology does in front of a token.
@@ -38,4 +41,31 @@ pub enum Act {
     AddAxiom,
     /// The token that comes is the last one of an item of the document.
     EndItem,
+}
+
+impl Act {
+    /// The act with this number: of a tag that begins the number of the tag.
+    pub fn numbered(number: u8) -> Option<Act>
+        ensures some { IfSome result (λ act. act_number act ≡ number) }
+        ensures none { IsNone result → (act : Act) → act_number act ≡ number → ⊥ }
+    {
+        match number {
+            78 => Some(Act::Shut),
+            79 => Some(Act::Plain),
+            80 => Some(Act::Tagged),
+            81 => Some(Act::Typed),
+            82 => Some(Act::Hold),
+            83 => Some(Act::HeldProperty),
+            84 => Some(Act::HeldDatatype),
+            85 => Some(Act::DeclareName),
+            86 => Some(Act::DeclareIri),
+            87 => Some(Act::OntologyIri),
+            88 => Some(Act::VersionIri),
+            89 => Some(Act::ImportIri),
+            90 => Some(Act::AddAnnotation),
+            91 => Some(Act::AddAxiom),
+            92 => Some(Act::EndItem),
+            _ => Some(Act::Begin(Tag::numbered(number)?)),
+        }
+    }
 }

@@ -1,0 +1,6 @@
+use Rattle.fss_grammar.specs.ReadyFeedingLaws.{fed_acts_are_ready, last_acts_are_ready}
+use Rattle.fss_grammar.specs.ReadyLaws.{acts_are_ready}
+use Rattle.fss_grammar.proofs.laws.acts_are_ready.Goals as goal
+
+pub returns : goal.returns
+returns c = record { along = acts_are_ready; before = fed_acts_are_ready; last = last_acts_are_ready }

@@ -1,0 +1,5 @@
+use Rattle.fss_grammar.specs.ActLaws.{same_act}
+use Rattle.fss_grammar.proofs.laws.acts_are_told_apart.Goals as goal
+
+pub returns : goal.returns
+returns c = same_act

@@ -1,0 +1,5 @@
+use Rattle.fss_grammar.specs.WritingLaws.{documents_do_as_written}
+use Rattle.fss_grammar.proofs.laws.documents_do_as_written.Goals as goal
+
+pub returns : goal.returns
+returns c = documents_do_as_written
