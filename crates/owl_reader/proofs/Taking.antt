@@ -1,0 +1,186 @@
+-- What comes of one token more.
+use Rattle.std.proofs.Common.{◌≡◌, ◌≢◌, ℕ, Bool, Option, None, Some, List, [], ◌∷◌, ◌++◌, map, refl, sym, ap, ◌∙◌, subst}
+use Rattle.std.proofs.lemmas.List.{append_assoc, append-nil, map-append}
+use Rattle.grammar.specs.Derivations.{Derives, DerivesOf, Event}
+use Rattle.grammar.specs.Derivations.Event.{Do, Take}
+use Rattle.grammar.specs.FeedingLaws.{fed_ends, fed_more, fed_needs, fed_refuses}
+use Rattle.grammar.specs.Grammars.{Entry}
+use Rattle.grammar.specs.Lowering.{lower}
+use Rattle.grammar.specs.Parsing as parsing
+use Rattle.grammar.specs.Parsing.{Feeds, NeedsMore, Parsing, Refuses}
+use Rattle.grammar.specs.TokenFeeding.{FedTokens}
+use Rattle.grammar.specs.TokenFeedingLaws.{fed_token, tokens_derive}
+use Rattle.grammar.specs.declared.fault.ParseFault.{ParseFault}
+use Rattle.grammar.specs.declared.fault.ParseFault.TheVariants as parse
+use Rattle.grammar.specs.declared.symbol.Symbol.TheVariants.{Rule}
+use Rattle.owl_lexer.specs.declared.placed.Placed.{Placed}
+use Rattle.owl_reader.specs.Defects.{Begin, IsRefused, NoneBarred}
+use Rattle.owl_reader.specs.Defects.IsRefused.{barred, wrong_end, wrong_token}
+use Rattle.owl_reader.specs.Faults.{fault_at, parse_refusal}
+use Rattle.owl_reader.specs.Items.{ends_item, item_start, item_with, last_item_from, resumes_item}
+use Rattle.owl_reader.specs.Standing.{CanStand, Ends, Stands, StandsWith}
+use Rattle.owl_reader.specs.Steps.{MayFollow, MayTake, Step, events_of, plain}
+use Rattle.owl_reader.specs.Syntaxes.{Rules}
+use Rattle.owl_reader.specs.declared.fault.ReadFault.{ReadFault}
+use Rattle.owl_reader.specs.declared.fault.ReadFault.TheVariants as read
+use Rattle.owl_reader.specs.declared.fault.TokenFault.{TokenFault}
+use Rattle.owl_reader.specs.declared.fault.TokenFault.TheVariants as token
+use Rattle.owl_reader.specs.declared.item.Item.{Item}
+use Rattle.owl_reader.specs.declared.item.Mark.{Mark}
+use Rattle.owl_reader.proofs.Lists.{last_parts}
+use Rattle.owl_reader.proofs.Lists.LastParts.{last, sooner}
+
+pub begun : {T S : Type 0} {g : List Entry} {rules : Rules T} {Made : List (Event T) → S → Type 0} {parsing : Parsing} {made : S} {item : Option Item} {steps : List (Step T)} → Stands g rules Made parsing made item steps → Begin g rules steps
+begun s = record {
+  more = s.fed.fed.lives.tokens;
+  rest = s.fed.fed.lives.events;
+  derives = s.fed.fed.leads.all s.fed.fed.lives.tokens s.fed.fed.lives.events s.fed.fed.lives.derives;
+  none_barred = s.none_barred;
+}
+
+pub refused : {T S : Type 0} {g : List Entry} {rules : Rules T} {Made : List (Event T) → S → Type 0} {parsing : Parsing} {made : S} {item : Option Item} {steps : List (Step T)} → Stands g rules Made parsing made item steps → (at : ℕ) (x : T) (class : ℕ) → class ≡ rules.class x → (f : ParseFault) (r : ReadFault) → (f ≡ parse.Unexpected → Refuses g parsing.expected class) → r ≡ parse_refusal f item at → r ≢ read.Memory → IsRefused g rules steps at (Some x) r
+refused {g = g} {parsing = parsing} s at x class k parse.Unexpected r never e other =
+    wrong_token x refl (fed_refuses s.fed.fed _ (subst (Refuses g parsing.expected) k (never refl))) (e ∙ ap (λ (i : Option Item). parse_refusal parse.Unexpected i at) s.last_is)
+refused s at x class k parse.Memory r never e other = absurd (other e)
+
+pub refused_end : {T S : Type 0} {g : List Entry} {rules : Rules T} {Made : List (Event T) → S → Type 0} {parsing : Parsing} {made : S} {item : Option Item} {steps : List (Step T)} → Stands g rules Made parsing made item steps → (at : ℕ) (f : ParseFault) (r : ReadFault) → (f ≡ parse.Unexpected → NeedsMore g parsing.expected) → r ≡ parse_refusal f item at → r ≢ read.Memory → IsRefused g rules steps at None r
+refused_end s at parse.Unexpected r never e other =
+    wrong_end refl (fed_needs s.fed.fed (never refl)) (e ∙ ap (λ (i : Option Item). parse_refusal parse.Unexpected i at) s.last_is)
+refused_end s at parse.Memory r never e other = absurd (other e)
+
+same_refusal : {T : Type 0} (rules : Rules T) (at : ℕ) (acts : List ℕ) (item : Option Item) (f : TokenFault) (r : ReadFault) → r ≡ fault_at f (item_start (resumes_item rules.mark acts) item at) at → r ≢ read.Memory → f ≢ token.Memory
+same_refusal rules at acts item f r e other m = other (e ∙ ap (λ (g : TokenFault). fault_at g (item_start (resumes_item rules.mark acts) item at) at) m)
+
+-- acts are barred in front of what comes
+pub stopped : {T S : Type 0} {g : List Entry} {rules : Rules T} {Made : List (Event T) → S → Type 0} {parsing : Parsing} {made : S} {item : Option Item} {steps : List (Step T)} → Stands g rules Made parsing made item steps → (at : ℕ) (next : Option T) (acts : List ℕ) (f : TokenFault) (r : ReadFault) → MayFollow g rules (events_of steps) acts next → (f ≢ token.Memory → rules.Bars (events_of steps) acts next f) → r ≡ fault_at f (item_start (resumes_item rules.mark acts) item at) at → r ≢ read.Memory → IsRefused g rules steps at next r
+stopped {rules = rules} {item = item} s at next acts f r follow bars e other =
+    let real = same_refusal rules at acts item f r e other in
+    barred acts f real follow (bars real) (e ∙ ap (λ (i : Option Item). fault_at f (item_start (resumes_item rules.mark acts) i at) at) s.last_is)
+
+-- the acts that were added to none
+pub acts_are : {g : List Entry} {old new : Parsing} {class : ℕ} {before after : List ℕ} → (f : Feeds g old class before new after) → before ≡ [] → (acts : List ℕ) → acts ≡ after → f.given ≡ acts
+acts_are f none acts e = sym (e ∙ f.added ∙ ap (λ (l : List ℕ). l ++ f.given) none)
+
+-- the byte at which the item begins, by what was computed
+pub same_start : {T : Type 0} (rules : Rules T) (item : Option Item) (at start : ℕ) (acts others : List ℕ) (resumes : Bool) → start ≡ item_start resumes item at → resumes ≡ resumes_item rules.mark others → others ≡ acts → start ≡ item_start (resumes_item rules.mark acts) item at
+same_start rules item at start acts others resumes s r o =
+    s ∙ ap (λ (b : Bool). item_start b item at) (r ∙ ap (λ (l : List ℕ). resumes_item rules.mark l) o)
+
+pub same_item : {T : Type 0} (rules : Rules T) (item : Option Item) (p : Placed T) (start : ℕ) (acts others : List ℕ) (whole : Bool) → start ≡ item_start (resumes_item rules.mark acts) item p.at → whole ≡ ends_item rules.mark others → others ≡ acts → Some (record { at = start; is_whole = whole }) ≡ Some (item_with rules.mark item (record { acts = acts; token = p }))
+same_item rules item p start acts others whole s w o =
+    let ends : whole ≡ ends_item rules.mark acts = w ∙ ap (λ (l : List ℕ). ends_item rules.mark l) o in
+    λ i. Some (record { at = s i; is_whole = ends i })
+
+-- what was fed may follow what was fed before
+pub follows : {T S : Type 0} {g : List Entry} {rules : Rules T} {Made : List (Event T) → S → Type 0} {old new : Parsing} {made : S} {item : Option Item} {steps : List (Step T)} {before after : List ℕ} → Stands g rules Made old made item steps → (x : T) → (f : Feeds g old (rules.class x) before new after) → MayFollow g rules (events_of steps) f.given (Some x)
+follows {g = g} {rules = rules} {steps = steps} s x f =
+    let fed = fed_more s.fed.fed f in
+    let es = map (lower rules.class) (events_of steps) in
+    let last : List (Event ℕ) = Take (rules.class x) ∷ [] in
+    record {
+      classes = (map rules.class (plain steps) ++ rules.class x ∷ []) ++ fed.lives.tokens;
+      rest = Take (rules.class x) ∷ fed.lives.events;
+      derives =
+          subst (Derives g (Rule rules.document ∷ []) ((map rules.class (plain steps) ++ rules.class x ∷ []) ++ fed.lives.tokens))
+          (append_assoc es (map Do f.given ++ last) fed.lives.events ∙ ap (λ (l : List (Event ℕ)). es ++ l) (append_assoc (map Do f.given) last fed.lives.events))
+          (fed.leads.all fed.lives.tokens fed.lives.events fed.lives.derives);
+      comes = refl;
+    }
+
+-- a token was fed, with these acts in front of it
+pub record Fed {T : Type 0} (g : List Entry) (rules : Rules T) (old new : Parsing) (x : T) (acts : List ℕ) : Type 0 where
+  pub before : List ℕ
+  pub after : List ℕ
+  pub feeds : Feeds g old (rules.class x) before new after
+  pub are : feeds.given ≡ acts
+
+pub was_fed : {T : Type 0} {g : List Entry} {rules : Rules T} {old new : Parsing} {class : ℕ} {before after : List ℕ} → Feeds g old class before new after → (x : T) → class ≡ rules.class x → before ≡ [] → (acts : List ℕ) → acts ≡ after → Fed g rules old new x acts
+was_fed {g = g} {old = old} {new = new} {before = before} {after = after} f x k none acts e =
+    let same = subst (λ (c : ℕ). Feeds g old c before new after) k f in
+    record { before = before; after = after; feeds = same; are = acts_are same none acts e }
+
+pub fed_follows : {T S : Type 0} {g : List Entry} {rules : Rules T} {Made : List (Event T) → S → Type 0} {old new : Parsing} {made : S} {item : Option Item} {steps : List (Step T)} {x : T} {acts : List ℕ} → Stands g rules Made old made item steps → Fed g rules old new x acts → MayFollow g rules (events_of steps) acts (Some x)
+fed_follows {g = g} {rules = rules} {steps = steps} {x = x} s f = subst (λ (now : List ℕ). MayFollow g rules (events_of steps) now (Some x)) f.are (follows s x f.feeds)
+
+pub may_take : {T S : Type 0} {spells : T → List ℕ → Type 0} {g : List Entry} {rules : Rules T} {Made : List (Event T) → S → Type 0} {old new : Parsing} {made : S} {item : Option Item} {x : T} {acts : List ℕ} → CanStand g rules Made old made item → (spelling : List ℕ) × spells x spelling → Fed g rules old new x acts → MayTake spells g rules Made made acts (Some x)
+may_take can spelled f = record {
+  events = events_of can.steps;
+  made_by = can.stands.made_by;
+  follow = fed_follows can.stands f;
+  spelled = spelled;
+}
+
+-- ---- the end
+
+-- the end was fed, with these last acts
+pub record FedEnd (g : List Entry) (old new : Parsing) (acts : List ℕ) : Type 0 where
+  pub before : List ℕ
+  pub after : List ℕ
+  pub ends : parsing.Ends g old before new after
+  pub are : ends.given ≡ acts
+
+pub was_ended : {g : List Entry} {old new : Parsing} {before after : List ℕ} → parsing.Ends g old before new after → before ≡ [] → (acts : List ℕ) → acts ≡ after → FedEnd g old new acts
+was_ended {before = before} {after = after} f none acts e = record { before = before; after = after; ends = f; are = sym (e ∙ f.added ∙ ap (λ (l : List ℕ). l ++ f.given) none) }
+
+pub end_follows : {T S : Type 0} {g : List Entry} {rules : Rules T} {Made : List (Event T) → S → Type 0} {old new : Parsing} {made : S} {item : Option Item} {steps : List (Step T)} {acts : List ℕ} → Stands g rules Made old made item steps → FedEnd g old new acts → MayFollow g rules (events_of steps) acts None
+end_follows {g = g} {rules = rules} {steps = steps} {acts = acts} s f = record {
+  classes = map rules.class (plain steps);
+  rest = [];
+  derives =
+      subst (λ (es : List (Event ℕ)). Derives g (Rule rules.document ∷ []) (map rules.class (plain steps)) (map (lower rules.class) (events_of steps) ++ es)) (ap (λ (l : List ℕ). map Do l) f.are ∙ sym (append-nil (map Do acts)))
+      (fed_ends s.fed.fed f.ends);
+  comes = refl;
+}
+
+pub may_end : {T S : Type 0} {spells : T → List ℕ → Type 0} {g : List Entry} {rules : Rules T} {Made : List (Event T) → S → Type 0} {old new : Parsing} {made : S} {item : Option Item} {acts : List ℕ} → CanStand g rules Made old made item → FedEnd g old new acts → MayTake spells g rules Made made acts None
+may_end can f = record {
+  events = events_of can.steps;
+  made_by = can.stands.made_by;
+  follow = end_follows can.stands f;
+  spelled = tt;
+}
+
+pub ends_so : {T S : Type 0} {g : List Entry} {rules : Rules T} {Made Whole : List (Event T) → S → Type 0} {old new : Parsing} {made other : S} {item : Option Item} {steps : List (Step T)} (acts : List ℕ) → Stands g rules Made old made item steps → FedEnd g old new acts → Whole (events_of steps ++ map Do acts) other → ((fault : TokenFault) → rules.Bars (events_of steps) acts None fault → ⊥) → Ends g rules Whole other steps
+ends_so {g = g} {rules = rules} {steps = steps} acts s f by free = record {
+  acts = acts;
+  derives = subst (λ (l : List ℕ). DerivesOf rules.class g (Rule rules.document ∷ []) (plain steps) (events_of steps ++ map Do l)) f.are (tokens_derive s.fed f.ends);
+  made_by = by;
+  free = free;
+}
+
+-- ---- one step more
+
+pub events-append : {T : Type 0} (xs ys : List (Step T)) → events_of (xs ++ ys) ≡ events_of xs ++ events_of ys
+events-append [] ys = refl
+events-append {T} (s ∷ xs) ys =
+    ap (λ (l : List (Event T)). map Do s.acts ++ (Take s.token.token ∷ l)) (events-append xs ys)
+    ∙ sym (append_assoc (map Do s.acts) (Take s.token.token ∷ events_of xs) (events_of ys))
+
+item_last : {T : Type 0} (mark : ℕ → Mark) (before : Option Item) (steps : List (Step T)) (s : Step T) → last_item_from mark before (steps ++ s ∷ []) ≡ Some (item_with mark (last_item_from mark before steps) s)
+item_last mark before [] s = refl
+item_last mark before (r ∷ steps) s = item_last mark (Some (item_with mark before r)) steps s
+
+none_more : {T : Type 0} (rules : Rules T) (steps : List (Step T)) (s : Step T) → NoneBarred rules steps → ((f : TokenFault) → rules.Bars (events_of steps) s.acts (Some s.token.token) f → ⊥) → NoneBarred rules (steps ++ s ∷ [])
+none_more rules steps s none free before after t f e bars = elim (last_parts steps s before t after e) [
+  | last front middle ↦ free f (subst (λ (l : List (Step _)). rules.Bars (events_of l) s.acts (Some s.token.token) f) front (subst (λ (u : Step _). rules.Bars (events_of before) u.acts (Some u.token.token) f) middle bars))
+  | sooner back parts ↦ none before back t f parts bars
+]
+
+pub stands_more : {T S : Type 0} {g : List Entry} {rules : Rules T} {Made : List (Event T) → S → Type 0} {old new : Parsing} {made other : S} {item : Option Item} {steps : List (Step T)} → Stands g rules Made old made item steps → (p : Placed T) (acts : List ℕ) → Fed g rules old new p.token acts → Made (events_of steps ++ (map Do acts ++ Take p.token ∷ [])) other → ((fault : TokenFault) → rules.Bars (events_of steps) acts (Some p.token) fault → ⊥) → (last_now : Option Item) → last_now ≡ Some (item_with rules.mark item (record { acts = acts; token = p })) → StandsWith g rules Made new other last_now steps (p ∷ [])
+stands_more {T} {g = g} {rules = rules} {Made = Made} {new = new} {other = other} {steps = steps} s p acts f by free last_now e =
+    let step : Step T = record { acts = acts; token = p } in
+    record {
+      more = step ∷ [];
+      are = refl;
+      stands = record {
+        open_yet = f.feeds.is_open;
+        fed =
+            subst (λ (l : List T). FedTokens rules.class g (Rule rules.document ∷ []) l (events_of (steps ++ step ∷ [])) new.expected) (sym (map-append (λ (t : Step T). t.token.token) steps (step ∷ [])))
+            (subst (λ (es : List (Event T)). FedTokens rules.class g (Rule rules.document ∷ []) (plain steps ++ p.token ∷ []) es new.expected) (sym (events-append steps (step ∷ [])))
+            (subst (λ (now : List ℕ). FedTokens rules.class g (Rule rules.document ∷ []) (plain steps ++ p.token ∷ []) (events_of steps ++ (map Do now ++ Take p.token ∷ [])) new.expected) f.are
+            (fed_token s.fed p.token f.feeds)));
+        none_barred = none_more rules steps step s.none_barred free;
+        made_by = subst (λ (es : List (Event T)). Made es other) (sym (events-append steps (step ∷ []))) by;
+        last_is = e ∙ ap (λ (i : Option Item). Some (item_with rules.mark i step)) s.last_is ∙ sym (item_last rules.mark None steps step);
+      };
+    }

@@ -1,0 +1,22 @@
+use Rattle.std.proofs.Common.{sym, ap, ◌∙◌, ℕ, None}
+use Rattle.owl_reader.specs.Faults.{fault_at}
+use Rattle.owl_reader.proofs.Taking.{end_follows, ends_so, may_end, refused_end, same_start, stopped, was_ended}
+use Rattle.owl_reader.proofs.progress.Progress.end.Goals as goal
+
+pub returns-in-Err-clause-refuses : goal.returns-in-Err-clause-refuses
+returns-in-Err-clause-refuses g c = λ other steps s.
+    refused_end s c.args.at c.in-Err.fault c.refusal_of.result (c.in-Err.ensures.refuses s.open_yet) c.refusal_of.ensures other
+
+pub take-requires : goal.take-requires
+take-requires g c = may_end c.requires.stands (was_ended c.in_default.ensures.ends c.new-acts.ensures.items c.deref-2.result.now c.deref-2.ensures.value)
+
+pub returns-in-Ok-clause-ends : goal.returns-in-Ok-clause-ends
+returns-in-Ok-clause-ends g c = λ steps s.
+    let f = was_ended c.in_default.ensures.ends c.new-acts.ensures.items c.deref-2.result.now c.deref-2.ensures.value in
+    ends_so c.deref-2.result.now s f (c.in-Ok.ensures.takes _ s.made_by (end_follows s f)) (c.in-Ok.ensures.free _ s.made_by (end_follows s f))
+
+pub returns-clause-refuses : goal.returns-clause-refuses
+returns-clause-refuses g c = λ other steps s.
+    let start = same_start g.S.Syntax.rules c.args.self.now.last c.args.at c.item_start-start.result c.deref-2.result.now c.deref.result.now c.resumes_item.result c.item_start-start.ensures c.resumes_item.ensures (c.deref.ensures.value ∙ sym c.deref-2.ensures.value) in
+    let f = was_ended c.in_default.ensures.ends c.new-acts.ensures.items c.deref-2.result.now c.deref-2.ensures.value in
+    stopped s c.args.at None c.deref-2.result.now c.in-Err-take.fault c.at.result (end_follows s f) (λ real. c.in-Err-take.ensures.barred real _ s.made_by (end_follows s f)) (c.at.ensures ∙ ap (λ (n : ℕ). fault_at c.in-Err-take.fault n c.args.at) start) other

@@ -1,0 +1,10 @@
+pub mod Syntaxes
+pub mod Steps
+pub mod Items
+pub mod Faults
+pub mod Defects
+pub mod Standing
+pub mod Readings
+pub mod Early
+pub mod SameStepsLaws
+pub mod OneDefectLaws

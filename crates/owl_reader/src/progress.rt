@@ -1,0 +1,126 @@
+//! What was made of tokens.
+
+ghost use Rattle.std.specs.Prelude.{◌≡◌, ◌≢◌, ◌∷◌, ◌++◌, [], List, IfErr, IfOk, OnOk, None, Some};
+ghost use Rattle.owl_lexer.specs.Languages.{AreSpelled};
+ghost use Rattle.owl_reader.specs.Defects.{IsRefused};
+ghost use Rattle.owl_reader.specs.Faults.{parse_refusal};
+ghost use Rattle.owl_reader.specs.Standing.{CanStand, Ends, IsRefusedAmong, Stands, StandsWith};
+ghost use Rattle.owl_reader.specs.Steps.{Step};
+ghost use Rattle.owl_reader.specs.declared.fault.ReadFault.TheVariants.{Memory};
+
+use crate::fault::{ReadFault, Reason};
+use crate::item::{Item, ends_item, item_start, resumes_item};
+use crate::syntax::Syntax;
+use grammar::{ParseFault, Parser};
+use owl_lexer::{Placed, TokenLanguage};
+use std::alloc::Global;
+
+/// What a parser and a syntax made of the tokens so far, and the last item.
+#[derive(Drop)]
+pub struct Progress<S: Syntax> {
+    pub alloc: Global,
+    pub parser: Parser<S::Grammar>,
+    pub syntax: S,
+    pub last: Option<Item>,
+}
+
+impl<S: Syntax> Progress<S> {
+    /// The refusal of what no document goes on with.
+    fn refusal_of(&self, fault: ParseFault, at: u64) -> ReadFault
+        ensures { result ≡ parse_refusal fault self.now.last at }
+    {
+        match fault {
+            ParseFault::Unexpected => ReadFault::Refused {
+                item_at: item_start(false, self.last, at),
+                at,
+                reason: Reason::NotHere,
+            },
+            ParseFault::Memory => ReadFault::Memory,
+        }
+    }
+
+    /// Takes the next token.
+    fn take(
+        &mut self,
+        placed: Placed<<S::Language as TokenLanguage>::Token>,
+    ) -> Result<(), ReadFault>
+        requires stands { CanStand S.Grammar.grammar S.rules S.Made
+            self.old.parser self.old.syntax self.old.last }
+        requires spelled { AreSpelled S.Language.spells (placed ∷ []) }
+        ensures takes { OnOk result ((steps : List (Step S.Language.Token))
+            → Stands S.Grammar.grammar S.rules S.Made
+            self.old.parser self.old.syntax self.old.last steps
+            → StandsWith S.Grammar.grammar S.rules S.Made
+            self.new.parser self.new.syntax self.new.last steps (placed ∷ [])) }
+        ensures refuses { IfErr result (λ fault. fault ≢ Memory → (steps : List (Step S.Language.Token))
+            → Stands S.Grammar.grammar S.rules S.Made
+            self.old.parser self.old.syntax self.old.last steps
+            → IsRefused S.Grammar.grammar S.rules steps placed.at (Some placed.token) fault) }
+    {
+        let Placed { token, at } = placed;
+        let mut acts = Vec::new(self.alloc);
+        if let Err(fault) = self.parser.feed(S::class_of(&token), &mut acts) {
+            return Err(self.refusal_of(fault, at));
+        }
+        let start = item_start(resumes_item::<S>(&acts), self.last, at);
+        let is_whole = ends_item::<S>(&acts);
+        if let Err(fault) = self.syntax.take(&acts, Some(token)) {
+            return Err(fault.at(start, at));
+        }
+        self.last = Some(Item {
+            at: start,
+            is_whole,
+        });
+        Ok(())
+    }
+
+    /// Takes tokens in turn.
+    pub fn take_all(
+        &mut self,
+        tokens: Vec<Placed<<S::Language as TokenLanguage>::Token>>,
+    ) -> Result<(), ReadFault>
+        requires stands { CanStand S.Grammar.grammar S.rules S.Made
+            self.old.parser self.old.syntax self.old.last }
+        requires spelled { AreSpelled S.Language.spells tokens.items }
+        ensures takes { OnOk result ((steps : List (Step S.Language.Token))
+            → Stands S.Grammar.grammar S.rules S.Made
+            self.old.parser self.old.syntax self.old.last steps
+            → StandsWith S.Grammar.grammar S.rules S.Made
+            self.new.parser self.new.syntax self.new.last steps tokens.items) }
+        ensures refuses { IfErr result (λ fault. fault ≢ Memory → (steps : List (Step S.Language.Token))
+            → Stands S.Grammar.grammar S.rules S.Made
+            self.old.parser self.old.syntax self.old.last steps
+            → IsRefusedAmong S.Grammar.grammar S.rules steps tokens.items fault) }
+    {
+        for placed in tokens {
+            if let Err(fault) = self.take(placed) {
+                return Err(fault);
+            }
+        }
+        Ok(())
+    }
+
+    /// Takes the end, at this byte.
+    pub fn end(&mut self, at: u64) -> Result<(), ReadFault>
+        requires stands { CanStand S.Grammar.grammar S.rules S.Made
+            self.old.parser self.old.syntax self.old.last }
+        ensures ends { OnOk result ((steps : List (Step S.Language.Token))
+            → Stands S.Grammar.grammar S.rules S.Made
+            self.old.parser self.old.syntax self.old.last steps
+            → Ends S.Grammar.grammar S.rules S.Whole self.new.syntax steps) }
+        ensures refuses { IfErr result (λ fault. fault ≢ Memory → (steps : List (Step S.Language.Token))
+            → Stands S.Grammar.grammar S.rules S.Made
+            self.old.parser self.old.syntax self.old.last steps
+            → IsRefused S.Grammar.grammar S.rules steps at None fault) }
+    {
+        let mut acts = Vec::new(self.alloc);
+        if let Err(fault) = self.parser.finish(&mut acts) {
+            return Err(self.refusal_of(fault, at));
+        }
+        let start = item_start(resumes_item::<S>(&acts), self.last, at);
+        match self.syntax.take(&acts, None) {
+            Ok(()) => Ok(()),
+            Err(fault) => Err(fault.at(start, at)),
+        }
+    }
+}
