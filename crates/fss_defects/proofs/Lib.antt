@@ -1,0 +1,11 @@
+pub mod Fronts
+pub mod Courses
+pub mod Growths
+pub mod Needs
+pub mod Depths
+pub mod Weights
+pub mod Declarations
+pub mod Names
+pub mod Failures
+pub mod Unknown
+pub mod Refusals

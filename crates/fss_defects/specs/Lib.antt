@@ -1,0 +1,5 @@
+pub mod Faults
+pub mod Rules
+pub mod FirstDefects
+pub mod DocumentLaws
+pub mod OneFaultLaws
