@@ -1,0 +1,15 @@
+pub mod Documents
+pub mod Numbers
+pub mod Put
+pub mod Begun
+pub mod Keeping
+pub mod Exits
+pub mod Heads
+pub mod Weights
+pub mod Items
+pub mod Declared
+pub mod Tables
+pub mod Turning
+pub mod Telling
+pub mod Nothing
+pub mod Following

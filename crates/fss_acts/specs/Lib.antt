@@ -1,0 +1,4 @@
+pub mod Refusals
+pub mod Holding
+pub mod Assembling
+pub mod Turns

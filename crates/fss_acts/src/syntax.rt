@@ -1,0 +1,71 @@
+//! Functional-Style Syntax as a syntax of readers.
+
+ghost use Rattle.std.specs.Prelude.{◌≡◌, ◌≢◌, List, IfErr, OnOk};
+ghost use Rattle.grammar.specs.Derivations.{Event};
+ghost use Rattle.owl_reader.specs.Steps.{GoesOn, MayFollow, MayTake};
+ghost use Rattle.owl_reader.specs.declared.fault.TokenFault as token;
+ghost use Rattle.owl_tokens.specs.Tokens.{Spells};
+ghost use Rattle.owl_tokens.specs.declared.token.Token as lexeme;
+ghost use Rattle.fss_grammar.specs.Table.{functional};
+ghost use Rattle.fss_defects.specs.Faults.{Bars};
+ghost use Rattle.fss_acts.specs.Assembling.{Did, Made};
+ghost use Rattle.fss_defects.specs.OneFaultLaws.{has_document};
+ghost use Rattle.fss_defects.specs.Rules.{functional_rules};
+
+use crate::assembler::Assembler;
+use owl_reader::{Mark, Syntax, TokenFault};
+use owl_tokens::Token;
+
+/// The number of the act before the IRI of the ontology.
+const ONTOLOGY_IRI: u8 = 87;
+/// The number of the act before its version IRI.
+const VERSION_IRI: u8 = 88;
+/// The number of the act before the last token of an item.
+const END_ITEM: u8 = 92;
+
+impl Syntax for Assembler {
+    type Language = owl_tokens::Functional;
+
+    type Grammar = fss_grammar::Functional;
+
+    ghost rules = { functional_rules };
+
+    ghost Made = { Made };
+
+    ghost Whole = { Did };
+
+    fn document() -> u16 {
+        0
+    }
+
+    fn class_of(token: &Token) -> u8 {
+        fss_grammar::class_of(token)
+    }
+
+    fn mark_of(act: u8) -> Mark {
+        match act {
+            END_ITEM => Mark::Last,
+            ONTOLOGY_IRI => Mark::Again,
+            VERSION_IRI => Mark::Again,
+            _ => Mark::Within,
+        }
+    }
+
+    fn take(&mut self, acts: &[u8], next: Option<Token>) -> Result<(), TokenFault>
+        requires { MayTake Spells functional functional_rules Made self.old acts.now next }
+        ensures takes { OnOk result ((events : List (Event lexeme.Token)) → Made events self.old
+            → MayFollow functional functional_rules events acts.now next
+            → GoesOn Made Did events acts.now next self.new) }
+        ensures free { OnOk result ((events : List (Event lexeme.Token)) → Made events self.old
+            → MayFollow functional functional_rules events acts.now next
+            → (fault : token.TokenFault) → Bars events acts.now next fault → ⊥) }
+        ensures barred { IfErr result (λ fault. fault ≢ token.TokenFault.Memory
+            → (events : List (Event lexeme.Token)) → Made events self.old
+            → MayFollow functional functional_rules events acts.now next
+            → Bars events acts.now next fault) }
+    {
+        self.do_all(acts, next)
+    }
+
+    ghost has_document = { has_document };
+}
