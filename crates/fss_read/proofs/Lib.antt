@@ -1,12 +1,2 @@
-pub mod Shared
-pub mod Declaring
-pub mod Prologues
-pub mod Terms
-pub mod Written
-pub mod Headers
-pub mod Bodies
-pub mod Ends
-pub mod Runs
-pub mod Numbers
-pub mod Few
-pub mod Readings
+mod Finished
+mod Results

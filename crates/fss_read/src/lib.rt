@@ -1,15 +1,7 @@
-//! Reads documents in Functional-Style Syntax, in whatever pieces their bytes come.
+//! Reads documents in Functional-Style Syntax.
 #![tactic(auto)]
 
-mod body;
-mod fault;
-mod header;
-mod names;
-mod parser;
-mod prologue;
 mod reader;
-mod stage;
-mod token_fault;
 
-pub use fault::{ReadFault, Reason};
+pub use owl_reader::{ReadFault, Reason};
 pub use reader::Reader;

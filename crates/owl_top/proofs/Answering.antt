@@ -9,33 +9,23 @@ use Rattle.std.proofs.lemmas.List.{length-append}
 use Rattle.owl_atom.specs.declared.prefixes.Prefix.{Prefix}
 use Rattle.owl_tree.specs.Ontologies.{Ontology}
 use Rattle.fss_terms.specs.Functional.{ReadsFunctional}
-use Rattle.fss_read.specs.declared.fault.ReadFault as read
-use Rattle.fss_read.specs.declared.fault.ReadFault.TheVariants as rf
+use Rattle.owl_reader.specs.declared.fault.ReadFault as read
+use Rattle.owl_reader.specs.declared.fault.ReadFault.TheVariants as rf
 use Rattle.fss_write.specs.Text.{declared_prefixes}
 use Rattle.owl_top.specs.Commands.{IsAmong, Request, translates, shows, compares, names_of}
-use Rattle.owl_top.specs.Outcome.{Becomes, BecomesOf, IsFaulty, IsFirstFaulty, IsFrontTaken, IsNoDocument, IsReached, IsSettled, IsSuccess, IsTheOutcome, IsUnread, LineFor, Outcome, has_defect, of_success, shown, too_deep, too_heavy, too_large, too_long, translation, unreadable}
-use Rattle.owl_top.specs.Answers.{ComparesWith, IsAnswered, IsComparedWith, IsComparison, IsFaultOf, IsOnlyReading, IsProper, IsTaken, IsTroubleOf, Rises, SaysOnly, Shelves, not_read, of_reader, of_shelf, settled, trouble_outcome}
+use Rattle.owl_top.specs.Outcome.{Becomes, BecomesOf, IsFaulty, IsFirstFaulty, IsFrontTaken, IsReached, IsSettled, IsSuccess, IsTheOutcome, LineFor, Outcome, of_success, refusal_outcome, shown, translation}
+use Rattle.owl_top.specs.Answers.{ComparesWith, IsAnswered, IsComparedWith, IsComparison, IsFaultOf, IsOnlyDefect, IsOnlyUnread, IsProper, IsTaken, IsTroubleOf, Rises, SaysOnly, Shelves, not_read, of_reader, of_shelf, settled, trouble_outcome}
 use Rattle.owl_top.specs.Answers as a
 use Rattle.owl_top.specs.declared.trouble.Trouble.{Trouble}
 use Rattle.owl_top.specs.declared.trouble.Trouble.TheVariants as t
 use Rattle.owl_top.specs.declared.command.Target.TheVariants.{Fss}
 use Rattle.owl_top.proofs.Lines.{line_more, settled_line, settled_proper, trouble_line}
-use Rattle.owl_top.proofs.Outcomes.{compared_the, settled_the, shown_of_form, translation_of_form}
+use Rattle.owl_top.proofs.Outcomes.{compared_the, only_too_long, only_unreadable, settled_the, shown_of_form, translation_of_form}
 
 -- two facts of an answer
 pub from_both : {T E : Type 0} (r : Result T E) (P Q R : T → Type 0) → ((x : T) → P x → Q x → R x) → IfOk r P → IfOk r Q → IfOk r R
 from_both (Ok x) P Q R f p q = f x p q
 from_both (Err y) P Q R f p q = tt
-
--- the document of a shelf
-pub says_only : (there : Option (List ℕ)) (bytes : List ℕ) (prefixes : List Prefix) (o : Ontology) → there ≡ Some bytes → IsOnlyReading bytes prefixes o → SaysOnly there prefixes o
-says_only there bytes prefixes o e r = record {
-  says = record { bytes = bytes; are = e; reads = r.reads };
-  only = λ others p s. r.only others p (subst (λ (x : List ℕ). ReadsFunctional x others p) (same s.bytes s.are) s.reads);
-}
-  where
-    same : (others : List ℕ) → there ≡ Some others → others ≡ bytes
-    same others f = cc
 
 -- what a shelf refuses
 pub shelf_trouble : {T : Type 0} (r : Result T Trouble) (fault : port.ReadFault) (name : List ℕ) (there : Option (List ℕ)) → IsErrAnd r (λ y. y ≡ of_shelf fault) → (fault ≡ pf.TooLong → (taken : List ℕ) × (rest : List ℕ) × (there ≡ Some (taken ++ rest)) × (most_bytes < length taken)) → IfErr r (IsTroubleOf name there)
@@ -44,18 +34,24 @@ shelf_trouble (Err y) pf.Failed name there e f = subst (IsTroubleOf name there) 
 shelf_trouble (Err y) pf.TooLong name there e f =
     let h = f refl in
     let long : most_bytes < length (h.0 ++ h.1) = let parts = length-append h.0 h.1 in let front = h.3 in omega arith in
-    subst (IsTroubleOf name there) (sym e) (too_long (h.0 ++ h.1) h.2 long refl)
+    subst (IsTroubleOf name there) (sym e) (only_too_long name there (h.0 ++ h.1) h.2 long)
 shelf_trouble (Err y) pf.Memory name there e f = subst (IsTroubleOf name there) (sym e) tt
 
 -- what a reader refuses
-pub reader_trouble : {T : Type 0} (r : Result T Trouble) (fault : read.ReadFault) (name bytes : List ℕ) (there : Option (List ℕ)) → there ≡ Some bytes → length bytes ≤ most_bytes → IsErrAnd r (λ y. y ≡ of_reader fault) → (fault ≢ rf.Memory → IsNoDocument bytes) → fault ≢ rf.TooLong → IfErr r (IsTroubleOf name there)
-reader_trouble (Ok x) fault name bytes there e w f n s = tt
-reader_trouble (Err y) (rf.Refused item at reason) name bytes there e w f n s = subst (IsTroubleOf name there) (sym f) (unreadable bytes e w (n (λ g. cc)) (has_defect item at reason refl))
-reader_trouble (Err y) rf.TooLong name bytes there e w f n s = absurd (s refl)
-reader_trouble (Err y) rf.TooDeep name bytes there e w f n s = subst (IsTroubleOf name there) (sym f) (unreadable bytes e w (n (λ g. cc)) (too_deep refl))
-reader_trouble (Err y) rf.TooHeavy name bytes there e w f n s = subst (IsTroubleOf name there) (sym f) (unreadable bytes e w (n (λ g. cc)) (too_heavy refl))
-reader_trouble (Err y) rf.NumberTooLarge name bytes there e w f n s = subst (IsTroubleOf name there) (sym f) (unreadable bytes e w (n (λ g. cc)) (too_large refl))
-reader_trouble (Err y) rf.Memory name bytes there e w f n s = subst (IsTroubleOf name there) (sym f) tt
+pub reader_trouble : {T : Type 0} (r : Result T Trouble) (fault : read.ReadFault) (name bytes : List ℕ) (there : Option (List ℕ)) → there ≡ Some bytes → length bytes ≤ most_bytes → IsErrAnd r (λ y. y ≡ of_reader fault) → (fault ≢ rf.Memory → IsOnlyDefect bytes fault) → IfErr r (IsTroubleOf name there)
+reader_trouble (Ok x) fault name bytes there e w f d = tt
+reader_trouble (Err y) fault name bytes there e w f d = subst (IsTroubleOf name there) (sym f) (by_fault fault d)
+  where
+    unread : (other : read.ReadFault) → (other ≢ rf.Memory → IsOnlyDefect bytes other) → other ≢ rf.Memory → IsOnlyUnread name there (refusal_outcome name other)
+    unread other d n = only_unreadable name there bytes other e w (d n)
+
+    by_fault : (other : read.ReadFault) → (other ≢ rf.Memory → IsOnlyDefect bytes other) → IsTroubleOf name there (of_reader other)
+    by_fault (rf.Refused item at reason) d = unread (rf.Refused item at reason) d (λ g. cc)
+    by_fault rf.TooLong d = unread rf.TooLong d (λ g. cc)
+    by_fault rf.TooDeep d = unread rf.TooDeep d (λ g. cc)
+    by_fault rf.TooHeavy d = unread rf.TooHeavy d (λ g. cc)
+    by_fault rf.NumberTooLarge d = unread rf.NumberTooLarge d (λ g. cc)
+    by_fault rf.Memory d = tt
 
 never_succeeds : (name : List ℕ) (trouble : Trouble) → IsSuccess (trouble_outcome name trouble).status → ⊥
 never_succeeds name t.ReadFailed h = h
@@ -67,7 +63,7 @@ never_succeeds name t.NumberTooLarge h = h
 never_succeeds name t.Memory h = h
 
 -- What is answered where a document is not read.
-module _ (request : Request) (name : List ℕ) (s : Shelves) (among : IsAmong (names_of request) name) (reached : IsReached s.old (names_of request) name) (unread : (o : Outcome) → IsUnread name (s.old name) o → IsTheOutcome (Becomes s.old request) o) where
+module _ (request : Request) (name : List ℕ) (s : Shelves) (among : IsAmong (names_of request) name) (reached : IsReached s.old (names_of request) name) (unread : (o : Outcome) → IsOnlyUnread name (s.old name) o → IsTheOutcome (Becomes s.old request) o) where
   judged_trouble : (trouble : Trouble) → IsTroubleOf name (s.old name) trouble → IsSettled (trouble_outcome name trouble).status → IsTheOutcome (Becomes s.old request) (trouble_outcome name trouble)
   judged_trouble t.ReadFailed u h = absurd h
   judged_trouble t.TooLong u h = unread (trouble_outcome name t.TooLong) u

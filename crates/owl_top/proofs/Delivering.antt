@@ -4,7 +4,7 @@ use Rattle.std.specs.List.{AllByRecursion}
 use Rattle.std.proofs.lemmas.List.{append-nil}
 use Rattle.std.proofs.Math.Seq.{take-length}
 use Rattle.owl_top.specs.Commands.{Asks, HasNoCommand, IsAmong, Name, Request, names_of}
-use Rattle.owl_top.specs.Outcome.{AreOneOutcome, Becomes, IsFaulty, IsFirstFaulty, IsFrontNoted, IsFrontOfNote, IsFrontTaken, IsFrontWritten, IsLine, IsNoted, IsNotedAlone, IsOutcome, IsQuiet, IsSettled, IsSuccess, IsTheOutcome, IsWritten, LineFor, Outcome, of_asked, of_memory, of_words, of_write_fault, refused}
+use Rattle.owl_top.specs.Outcome.{Becomes, IsFaulty, IsFirstFaulty, IsFrontNoted, IsFrontOfNote, IsFrontTaken, IsFrontWritten, IsLine, IsNoted, IsNotedAlone, IsOutcome, IsQuiet, IsSettled, IsSuccess, IsTheOutcome, IsWritten, LineFor, Outcome, of_asked, of_memory, of_words, of_write_fault, refused}
 use Rattle.owl_top.specs.Answers.{HasNoText, IsAnswered, IsFound, IsTaken, IsWrittenFor, Rises, Shelves, delivered_line}
 use Rattle.owl_top.specs.declared.status.Status.{Status}
 use Rattle.owl_top.specs.declared.status.Status.TheVariants.{Done, No, Words, Document as NoDocument, Target, Limit, ReadFailed, WriteFailed, Memory}
@@ -227,17 +227,17 @@ module _ (words : List (List ℕ)) (request : Request) (asks : Asks words reques
   pub asked_note_front_alone : (IsCause : Request → List ℕ → Type 0) (result : Status) (before after : List ℕ) → IsFrontNoted (LineFor request (IsCause request) result) before after → IsFrontNoted (IsLine words IsCause result) before after
   asked_note_front_alone IsCause result before after n = record { line = n.line; is = of_asked request asks n.is; count = n.count; noted = n.noted }
 
--- Where no device failed, what is told is the outcome, or memory ran out.
-pub completes_by : (IsOne : Outcome → Type 0) (result : Status) → (IsSettled result → (o : Outcome) × IsTheOutcome IsOne o × (result ≡ o.status)) → (result ≡ ReadFailed → ⊥) → (result ≡ WriteFailed → ⊥) → (outcome : Outcome) → IsOne outcome → ((o : Outcome) × AreOneOutcome o outcome × (result ≡ o.status)) ⊎ (result ≡ Memory)
-completes_by IsOne Done f r w outcome is = let h = f tt in inl (h.0, h.1.only outcome is, h.2)
-completes_by IsOne No f r w outcome is = let h = f tt in inl (h.0, h.1.only outcome is, h.2)
-completes_by IsOne Words f r w outcome is = let h = f tt in inl (h.0, h.1.only outcome is, h.2)
-completes_by IsOne NoDocument f r w outcome is = let h = f tt in inl (h.0, h.1.only outcome is, h.2)
-completes_by IsOne Target f r w outcome is = let h = f tt in inl (h.0, h.1.only outcome is, h.2)
-completes_by IsOne Limit f r w outcome is = let h = f tt in inl (h.0, h.1.only outcome is, h.2)
-completes_by IsOne ReadFailed f r w outcome is = absurd (r refl)
-completes_by IsOne WriteFailed f r w outcome is = absurd (w refl)
-completes_by IsOne Memory f r w outcome is = inr refl
+-- Where no device failed, all is settled, or memory ran out.
+pub completes_by : (P : Type 0) (result : Status) → (IsSettled result → P) → (result ≡ ReadFailed → ⊥) → (result ≡ WriteFailed → ⊥) → P ⊎ (result ≡ Memory)
+completes_by P Done f r w = inl (f tt)
+completes_by P No f r w = inl (f tt)
+completes_by P Words f r w = inl (f tt)
+completes_by P NoDocument f r w = inl (f tt)
+completes_by P Target f r w = inl (f tt)
+completes_by P Limit f r w = inl (f tt)
+completes_by P ReadFailed f r w = absurd (r refl)
+completes_by P WriteFailed f r w = absurd (w refl)
+completes_by P Memory f r w = inr refl
 
 -- Where the words have no command, this is told.
 module _ (words : List (List ℕ)) (contents : List ℕ → Option (List ℕ)) (IsCause : Request → List ℕ → Type 0) where

@@ -1,14 +1,16 @@
 -- The lines of the note.
-use Rattle.std.proofs.Common.{◌≡◌, ℕ, Bool, true, false, List, [], ◌∷◌, length, nat_le, if◌then◌else◌, refl, ap, ◌∙◌}
+use Rattle.std.proofs.Common.{◌≡◌, ◌≢◌, ℕ, Bool, true, false, List, [], ◌∷◌, length, nat_le, if◌then◌else◌, refl}
 use Rattle.owl_characters.specs.Limit.{most_bytes}
+use Rattle.owl_reader.specs.declared.fault.ReadFault.{ReadFault}
+use Rattle.owl_reader.specs.declared.fault.ReadFault.TheVariants as read
 use Rattle.owl_top.specs.Commands.{IsAmong, Request, translates, shows, compares, names_of}
-use Rattle.owl_top.specs.Outcome.{IsRefusal, IsRefusalLine, LineFor, Outcome, SuccessLine, has_defect, of_imports, of_length, of_no_memory, of_output, of_read_fault, of_reader, of_refusal, of_success, of_write_fault, too_deep, too_heavy, too_large, too_long_output}
+use Rattle.owl_top.specs.Outcome.{IsRefusalLine, LineFor, Outcome, SuccessLine, of_defect, of_imports, of_no_memory, of_output, of_read_fault, of_refusal, of_success, of_write_fault, refusal_outcome, too_long_output}
 use Rattle.owl_top.specs.Answers.{IsProper, settled, trouble_outcome}
 use Rattle.owl_top.specs.declared.trouble.Trouble.{Trouble}
 use Rattle.owl_top.specs.declared.trouble.Trouble.TheVariants as t
 use Rattle.owl_top.specs.declared.command.Target.TheVariants.{Fss}
 use Rattle.owl_top.specs.declared.status.Status.{Status}
-use Rattle.owl_top.specs.declared.status.Status.TheVariants.{Document as NoDocument, Limit, ReadFailed}
+use Rattle.owl_top.specs.declared.status.Status.TheVariants.{ReadFailed}
 
 -- a cause that tells more
 pub line_more : (request : Request) (IsCause IsMore : List ℕ → Type 0) (status : Status) (line : List ℕ) → ((name : List ℕ) → IsCause name → IsMore name) → LineFor request IsCause status line → LineFor request IsMore status line
@@ -29,11 +31,11 @@ module _ (request : Request) (IsCause : List ℕ → Type 0) (name : List ℕ) (
 
   pub trouble_line : (trouble : Trouble) → (trouble ≡ t.ReadFailed → IsCause name) → LineFor request IsCause (trouble_outcome name trouble).status (trouble_outcome name trouble).line
   trouble_line t.ReadFailed f = of_read_fault name (f refl) refl refl
-  trouble_line t.TooLong f = of_refusal name among (of_length refl refl)
-  trouble_line (t.Defect item at reason) f = of_refusal name among (of_reader (trouble_outcome name (t.Defect item at reason)) (has_defect item at reason refl) refl refl)
-  trouble_line t.TooDeep f = of_refusal name among (of_reader (trouble_outcome name t.TooDeep) (too_deep refl) refl refl)
-  trouble_line t.TooHeavy f = of_refusal name among (of_reader (trouble_outcome name t.TooHeavy) (too_heavy refl) refl refl)
-  trouble_line t.NumberTooLarge f = of_refusal name among (of_reader (trouble_outcome name t.NumberTooLarge) (too_large refl) refl refl)
+  trouble_line t.TooLong f = of_refusal name among (of_defect read.TooLong (λ e. cc) refl refl)
+  trouble_line (t.Defect item at reason) f = of_refusal name among (of_defect (read.Refused item at reason) (λ e. cc) refl refl)
+  trouble_line t.TooDeep f = of_refusal name among (of_defect read.TooDeep (λ e. cc) refl refl)
+  trouble_line t.TooHeavy f = of_refusal name among (of_defect read.TooHeavy (λ e. cc) refl refl)
+  trouble_line t.NumberTooLarge f = of_refusal name among (of_defect read.NumberTooLarge (λ e. cc) refl refl)
   trouble_line t.Memory f = of_no_memory refl refl
 
 -- the line of a read fault names a document with its cause
@@ -42,15 +44,16 @@ no_success (translates Fss name) line s = s
 no_success (shows name) line s = s
 no_success (compares first second) line s = s
 
-no_refusal : (name : List ℕ) (outcome : Outcome) → IsRefusal name outcome → ReadFailed ≡ outcome.status → ⊥
-no_refusal name outcome (has_defect item at reason e) f = let g : ReadFailed ≡ NoDocument = f ∙ ap (λ (o : Outcome). o.status) e in cc
-no_refusal name outcome (too_deep e) f = let g : ReadFailed ≡ Limit = f ∙ ap (λ (o : Outcome). o.status) e in cc
-no_refusal name outcome (too_heavy e) f = let g : ReadFailed ≡ Limit = f ∙ ap (λ (o : Outcome). o.status) e in cc
-no_refusal name outcome (too_large e) f = let g : ReadFailed ≡ Limit = f ∙ ap (λ (o : Outcome). o.status) e in cc
+no_refusal : (name : List ℕ) (refusal : ReadFault) → refusal ≢ read.Memory → ReadFailed ≡ (refusal_outcome name refusal).status → ⊥
+no_refusal name (read.Refused item at reason) n e = cc
+no_refusal name read.TooLong n e = cc
+no_refusal name read.TooDeep n e = cc
+no_refusal name read.TooHeavy n e = cc
+no_refusal name read.NumberTooLarge n e = cc
+no_refusal name read.Memory n e = n refl
 
 no_refusal_line : (name : List ℕ) (line : List ℕ) → IsRefusalLine name ReadFailed line → ⊥
-no_refusal_line name line (of_reader outcome r e l) = no_refusal name outcome r e
-no_refusal_line name line (of_length e l) = cc
+no_refusal_line name line (of_defect refusal n e l) = no_refusal name refusal n e
 no_refusal_line name line (of_imports e l) = cc
 no_refusal_line name line (of_output e l) = cc
 

@@ -1,5 +1,5 @@
 -- The outcome is one.
-use Rattle.std.proofs.Common.{◌≡◌, ◌≢◌, inl, inr, ◌<◌, ◌≤◌, ℕ, Bool, true, false, Contains, Option, Some, List, [], ◌∷◌, ◌++◌, length, nat_le, if◌then◌else◌, codes, refl, sym, ap, ◌∙◌, subst, arith, ◌+◌}
+use Rattle.std.proofs.Common.{◌≡◌, ◌≢◌, ◌<◌, ◌≤◌, ℕ, Bool, true, false, Contains, Option, Some, List, [], ◌∷◌, ◌++◌, length, nat_le, if◌then◌else◌, codes, refl, sym, ap, ◌∙◌, subst, arith, ◌+◌}
 use Rattle.std.specs.List.{sum_by}
 use Rattle.std.specs.Str.{encode_utf8_all}
 use Rattle.std.proofs.lemmas.Bool.{le-leb, leb-true}
@@ -13,11 +13,13 @@ use Rattle.owl_tree.specs.Order.{tree_cmp}
 use Rattle.owl_tree.specs.Trees.{kids_of, weight}
 use Rattle.owl_doc.specs.Counts.{subtrees_of}
 use Rattle.fss_terms.specs.Functional.{ReadsFunctional}
+use Rattle.fss_defects.specs.FirstDefects.{IsFirstDefect}
+use Rattle.owl_reader.specs.declared.fault.ReadFault.{ReadFault}
 use Rattle.fss_write.specs.Text.{text_of}
 use Rattle.owl_top.specs.Commands.{Asks, HasNoCommand, Request, translates, shows, compares, words_of}
 use Rattle.owl_top.specs.Summary.{count_line, name_lines}
-use Rattle.owl_top.specs.Outcome.{AreOneOutcome, Becomes, BecomesOf, BecomesOfBoth, IsOutcome, IsTheOutcome, IsUnread, Outcome, SaysOntology, agree, agreement, differ, difference, done_line, first_not_read, has_imports, no_command, not_built, not_read, of_request, passes_limit, refused, second_not_read, shown, succeeds, too_long, too_long_output, translation, unreadable}
-use Rattle.owl_top.specs.Answers.{ComparesWith, SaysOnly, limited, settled}
+use Rattle.owl_top.specs.Outcome.{Becomes, BecomesOf, BecomesOfBoth, IsOutcome, IsTheOutcome, IsUnread, Outcome, SaysOntology, agree, agreement, differ, difference, done_line, first_not_read, has_imports, no_command, not_built, not_read, of_request, passes_limit, refusal_outcome, refused, second_not_read, shown, succeeds, too_long, too_long_document, too_long_output, translation, unreadable}
+use Rattle.owl_top.specs.Answers.{ComparesWith, IsOnlyDefect, IsOnlyReading, IsOnlyUnread, SaysOnly, limited, settled}
 use Rattle.owl_top.specs.Answers as a
 use Rattle.owl_top.specs.declared.command.Target.TheVariants.{Fss}
 use Rattle.owl_top.specs.declared.status.Status.TheVariants.{Done, Words}
@@ -28,24 +30,61 @@ same_bytes there bytes others e f = cc
 same_length : (there : Option (List ℕ)) (bytes others : List ℕ) → there ≡ Some bytes → there ≡ Some others → length bytes ≡ length others
 same_length there bytes others e f = ap (λ (x : List ℕ). length x) (same_bytes there bytes others e f)
 
--- what says something is read
-pub is_read : (name : List ℕ) (there : Option (List ℕ)) (outcome : Outcome) (prefixes : List Prefix) (o : Ontology) → IsUnread name there outcome → SaysOntology there prefixes o → ⊥
-is_read name there outcome prefixes o (too_long bytes are long e) s =
+-- what is read is not too long
+few_bytes : (there : Option (List ℕ)) (bytes : List ℕ) (prefixes : List Prefix) (o : Ontology) → there ≡ Some bytes → SaysOntology there prefixes o → length bytes ≤ most_bytes
+few_bytes there bytes prefixes o are s =
     let same = same_length there bytes s.bytes are s.are in
     let few = s.reads.few in
-    absurd (omega arith)
-is_read name there outcome prefixes o (unreadable bytes are short none r) s =
-    none prefixes o (subst (λ (x : List ℕ). ReadsFunctional x prefixes o) (same_bytes there s.bytes bytes s.are are) s.reads)
+    omega arith
 
-unread_alike : (name : List ℕ) (there : Option (List ℕ)) (one other : Outcome) → IsUnread name there one → IsUnread name there other → AreOneOutcome one other
-unread_alike name there one other (too_long bytes are long e) (too_long others be far f) = inl (e ∙ sym f)
-unread_alike name there one other (too_long bytes are long e) (unreadable others be short none r) =
-    let same = same_length there bytes others are be in
-    absurd (omega arith)
-unread_alike name there one other (unreadable bytes are short none r) (too_long others be far f) =
-    let same = same_length there bytes others are be in
-    absurd (omega arith)
-unread_alike name there one other (unreadable bytes are short none r) (unreadable others be few nothing q) = inr (name, r, q)
+reads_these : (there : Option (List ℕ)) (bytes : List ℕ) (prefixes : List Prefix) (o : Ontology) → there ≡ Some bytes → SaysOntology there prefixes o → ReadsFunctional bytes prefixes o
+reads_these there bytes prefixes o are s =
+    subst (λ (x : List ℕ). ReadsFunctional x prefixes o) (same_bytes there s.bytes bytes s.are are) s.reads
+
+-- what is too long is refused by its length alone
+pub only_too_long : (name : List ℕ) (there : Option (List ℕ)) (bytes : List ℕ) → there ≡ Some bytes → most_bytes < length bytes → IsOnlyUnread name there (too_long_document name)
+only_too_long name there bytes are long = record {
+  is = too_long bytes are long refl;
+  only = λ other u. by_bytes other u;
+  says_nothing = λ prefixes o s. let few = few_bytes there bytes prefixes o are s in absurd (omega arith);
+}
+  where
+    by_bytes : (other : Outcome) → IsUnread name there other → too_long_document name ≡ other
+    by_bytes other (too_long others be far e) = sym e
+    by_bytes other (unreadable others refusal be short d e) =
+        let same = same_length there bytes others are be in
+        absurd (omega arith)
+
+-- and what has a defect by this alone
+pub only_unreadable : (name : List ℕ) (there : Option (List ℕ)) (bytes : List ℕ) (refusal : ReadFault) → there ≡ Some bytes → length bytes ≤ most_bytes → IsOnlyDefect bytes refusal → IsOnlyUnread name there (refusal_outcome name refusal)
+only_unreadable name there bytes refusal are short d = record {
+  is = unreadable bytes refusal are short d.is refl;
+  only = λ other u. by_bytes other u;
+  says_nothing = λ prefixes o s. d.no_document prefixes o (reads_these there bytes prefixes o are s);
+}
+  where
+    by_bytes : (other : Outcome) → IsUnread name there other → refusal_outcome name refusal ≡ other
+    by_bytes other (too_long others be far e) =
+        let same = same_length there bytes others are be in
+        absurd (omega arith)
+    by_bytes other (unreadable others found be few h e) =
+        ap (refusal_outcome name) (d.only found (subst (λ (x : List ℕ). IsFirstDefect x found) (same_bytes there others bytes be are) h)) ∙ sym e
+
+-- what says something is read
+pub says_only : (there : Option (List ℕ)) (bytes : List ℕ) (prefixes : List Prefix) (o : Ontology) → there ≡ Some bytes → IsOnlyReading bytes prefixes o → SaysOnly there prefixes o
+says_only there bytes prefixes o are r = record {
+  says = record { bytes = bytes; are = are; reads = r.reads };
+  only = λ others p s. r.only others p (reads_these there bytes others p are s);
+  is_read = λ name outcome u. by_bytes name outcome u;
+}
+  where
+    by_bytes : (name : List ℕ) (outcome : Outcome) → IsUnread name there outcome → ⊥
+    by_bytes name outcome (too_long others be far e) =
+        let same = same_length there bytes others are be in
+        let few = r.reads.few in
+        absurd (omega arith)
+    by_bytes name outcome (unreadable others found be few h e) =
+        r.no_defect found (subst (λ (x : List ℕ). IsFirstDefect x found) (same_bytes there others bytes be are) h)
 
 -- an answer that depends on the prefixes and on the canonical form alone
 abbrev pub IsOfForm : (List Prefix → Ontology → Outcome) → Type 0
@@ -118,15 +157,15 @@ some_are : (iri : List ℕ) (iris : List (List ℕ)) → iri ∷ iris ≡ [] →
 some_are iri iris e = cc
 
 module _ (wanted : List Prefix → Ontology → Outcome) (name : List ℕ) (there : Option (List ℕ)) where
-  unread_only : (own other : Outcome) → IsUnread name there own → BecomesOf wanted name there other → AreOneOutcome own other
-  unread_only own other u (not_read v) = unread_alike name there own other u v
-  unread_only own other u (has_imports prefixes o s n e) = absurd (is_read name there own prefixes o u s)
-  unread_only own other u (passes_limit prefixes o s n l e) = absurd (is_read name there own prefixes o u s)
-  unread_only own other u (succeeds prefixes o s n l e) = absurd (is_read name there own prefixes o u s)
+  unread_only : (own other : Outcome) → IsOnlyUnread name there own → BecomesOf wanted name there other → own ≡ other
+  unread_only own other u (not_read v) = u.only other v
+  unread_only own other u (has_imports prefixes o s n e) = absurd (u.says_nothing prefixes o s)
+  unread_only own other u (passes_limit prefixes o s n l e) = absurd (u.says_nothing prefixes o s)
+  unread_only own other u (succeeds prefixes o s n l e) = absurd (u.says_nothing prefixes o s)
 
   -- a document that is not read
-  pub unread_the : (outcome : Outcome) → IsUnread name there outcome → IsTheOutcome (BecomesOf wanted name there) outcome
-  unread_the outcome u = record { is = not_read u; only = λ other b. unread_only outcome other u b }
+  pub unread_the : (outcome : Outcome) → IsOnlyUnread name there outcome → IsTheOutcome (BecomesOf wanted name there) outcome
+  unread_the outcome u = record { is = not_read u.is; only = λ other b. unread_only outcome other u b }
 
   module _ (prefixes : List Prefix) (o : Ontology) where
     by_limit : (says : SaysOntology there prefixes o) (none : o.head.imports ≡ []) (fits : Bool) → nat_le (length (wanted prefixes o).text) most_bytes ≡ fits → BecomesOf wanted name there (if fits then wanted prefixes o else too_long_output)
@@ -138,7 +177,7 @@ module _ (wanted : List Prefix → Ontology → Outcome) (name : List ℕ) (ther
     by_imports says (iri ∷ iris) e = has_imports prefixes o says (λ f. let g = sym e ∙ f in absurd (some_are iri iris g)) refl
 
     settled_only : IsOfForm wanted → SaysOnly there prefixes o → (other : Outcome) → BecomesOf wanted name there other → settled name o.head.imports (wanted prefixes o) ≡ other
-    settled_only form says other (not_read u) = absurd (is_read name there other prefixes o u says.says)
+    settled_only form says other (not_read u) = absurd (says.is_read name other u)
     settled_only form says other (has_imports others p s n e) =
         let same = (says.only others p s).1 in
         with_some name (wanted prefixes o) o.head.imports (λ f. n (no_imports o p same f)) ∙ sym e
@@ -155,31 +194,31 @@ module _ (wanted : List Prefix → Ontology → Outcome) (name : List ℕ) (ther
     pub settled_the : IsOfForm wanted → SaysOnly there prefixes o → IsTheOutcome (BecomesOf wanted name there) (settled name o.head.imports (wanted prefixes o))
     settled_the form says = record {
       is = by_imports says.says o.head.imports refl;
-      only = λ other b. inl (settled_only form says other b);
+      only = λ other b. settled_only form says other b;
     }
 
 module _ (first second : List ℕ) (there beside : Option (List ℕ)) where
-  first_only : (own other : Outcome) → IsUnread first there own → BecomesOfBoth first second there beside other → AreOneOutcome own other
-  first_only own other u (first_not_read v) = unread_alike first there own other u v
-  first_only own other u (second_not_read prefixes o s v) = absurd (is_read first there own prefixes o u s)
-  first_only own other u (agree prefixes o s others p t k e) = absurd (is_read first there own prefixes o u s)
-  first_only own other u (differ prefixes o s others p t k e) = absurd (is_read first there own prefixes o u s)
+  first_only : (own other : Outcome) → IsOnlyUnread first there own → BecomesOfBoth first second there beside other → own ≡ other
+  first_only own other u (first_not_read v) = u.only other v
+  first_only own other u (second_not_read prefixes o s v) = absurd (u.says_nothing prefixes o s)
+  first_only own other u (agree prefixes o s others p t k e) = absurd (u.says_nothing prefixes o s)
+  first_only own other u (differ prefixes o s others p t k e) = absurd (u.says_nothing prefixes o s)
 
   -- the first of two documents is not read
-  pub first_unread_the : (outcome : Outcome) → IsUnread first there outcome → IsTheOutcome (BecomesOfBoth first second there beside) outcome
-  first_unread_the outcome u = record { is = first_not_read u; only = λ other b. first_only outcome other u b }
+  pub first_unread_the : (outcome : Outcome) → IsOnlyUnread first there outcome → IsTheOutcome (BecomesOfBoth first second there beside) outcome
+  first_unread_the outcome u = record { is = first_not_read u.is; only = λ other b. first_only outcome other u b }
 
   module _ (prefixes : List Prefix) (o : Ontology) (says : SaysOnly there prefixes o) where
     compared : (outcome : Outcome) → ComparesWith o second beside outcome → BecomesOfBoth first second there beside outcome
-    compared outcome (a.not_read u) = second_not_read prefixes o says.says u
+    compared outcome (a.not_read u) = second_not_read prefixes o says.says u.is
     compared outcome (a.agree others p s k e) = agree prefixes o says.says others p s.says k e
     compared outcome (a.differ others p s k e) = differ prefixes o says.says others p s.says k e
 
-    second_only : (own other : Outcome) → IsUnread second beside own → BecomesOfBoth first second there beside other → AreOneOutcome own other
-    second_only own other u (first_not_read v) = absurd (is_read first there other prefixes o v says.says)
-    second_only own other u (second_not_read q r s v) = unread_alike second beside own other u v
-    second_only own other u (agree q r s others p t k e) = absurd (is_read second beside own others p u t)
-    second_only own other u (differ q r s others p t k e) = absurd (is_read second beside own others p u t)
+    second_only : (own other : Outcome) → IsOnlyUnread second beside own → BecomesOfBoth first second there beside other → own ≡ other
+    second_only own other u (first_not_read v) = absurd (says.is_read first other v)
+    second_only own other u (second_not_read q r s v) = u.only other v
+    second_only own other u (agree q r s others p t k e) = absurd (u.says_nothing others p t)
+    second_only own other u (differ q r s others p t k e) = absurd (u.says_nothing others p t)
 
     module _ (others : List Prefix) (p : Ontology) (said : SaysOnly beside others p) where
       same_both : (q : List Prefix) (r : Ontology) (t : List Prefix) (v : Ontology) → SaysOntology there q r → SaysOntology beside t v → IsSameOntology o p → IsSameOntology r v
@@ -190,19 +229,19 @@ module _ (first second : List ℕ) (there beside : Option (List ℕ)) where
       same_back q r t v s w k =
           same_ontology_trans o r p (same_ontology_sym r o (says.only q r s).1) (same_ontology_trans r v p k (said.only t v w).1)
 
-      agree_only : (own other : Outcome) → IsSameOntology o p → own ≡ agreement → BecomesOfBoth first second there beside other → AreOneOutcome own other
-      agree_only own other k e (first_not_read v) = absurd (is_read first there other prefixes o v says.says)
-      agree_only own other k e (second_not_read q r s v) = absurd (is_read second beside other others p v said.says)
-      agree_only own other k e (agree q r s t v w l f) = inl (e ∙ sym f)
+      agree_only : (own other : Outcome) → IsSameOntology o p → own ≡ agreement → BecomesOfBoth first second there beside other → own ≡ other
+      agree_only own other k e (first_not_read v) = absurd (says.is_read first other v)
+      agree_only own other k e (second_not_read q r s v) = absurd (said.is_read second other v)
+      agree_only own other k e (agree q r s t v w l f) = e ∙ sym f
       agree_only own other k e (differ q r s t v w l f) = absurd (l (same_both q r t v s w k))
 
-      differ_only : (own other : Outcome) → (IsSameOntology o p → ⊥) → own ≡ difference → BecomesOfBoth first second there beside other → AreOneOutcome own other
-      differ_only own other k e (first_not_read v) = absurd (is_read first there other prefixes o v says.says)
-      differ_only own other k e (second_not_read q r s v) = absurd (is_read second beside other others p v said.says)
+      differ_only : (own other : Outcome) → (IsSameOntology o p → ⊥) → own ≡ difference → BecomesOfBoth first second there beside other → own ≡ other
+      differ_only own other k e (first_not_read v) = absurd (says.is_read first other v)
+      differ_only own other k e (second_not_read q r s v) = absurd (said.is_read second other v)
       differ_only own other k e (agree q r s t v w l f) = absurd (k (same_back q r t v s w l))
-      differ_only own other k e (differ q r s t v w l f) = inl (e ∙ sym f)
+      differ_only own other k e (differ q r s t v w l f) = e ∙ sym f
 
-    compared_only : (own other : Outcome) → ComparesWith o second beside own → BecomesOfBoth first second there beside other → AreOneOutcome own other
+    compared_only : (own other : Outcome) → ComparesWith o second beside own → BecomesOfBoth first second there beside other → own ≡ other
     compared_only own other (a.not_read u) b = second_only own other u b
     compared_only own other (a.agree others p s k e) b = agree_only others p s own other k e b
     compared_only own other (a.differ others p s k e) b = differ_only others p s own other k e b
@@ -227,7 +266,7 @@ same_request words one other h k = by_words one other (sym h.are ∙ k.are)
     by_words (compares first second) (compares third fourth) e = cc
 
 module _ (words : List (List ℕ)) (contents : List ℕ → Option (List ℕ)) where
-  asked_only : (request : Request) → Asks words request → (own other : Outcome) → ((o : Outcome) → Becomes contents request o → AreOneOutcome own o) → IsOutcome words contents other → AreOneOutcome own other
+  asked_only : (request : Request) → Asks words request → (own other : Outcome) → ((o : Outcome) → Becomes contents request o → own ≡ o) → IsOutcome words contents other → own ≡ other
   asked_only request asks own other f (no_command n e) = absurd (n request asks)
   asked_only request asks own other f (of_request found k b) =
       f other (subst (λ (r : Request). Becomes contents r other) (same_request words found request k asks) b)
@@ -239,8 +278,8 @@ module _ (words : List (List ℕ)) (contents : List ℕ → Option (List ℕ)) w
     only = λ other b. asked_only request asks outcome other t.only b;
   }
 
-  no_command_only : HasNoCommand words → (other : Outcome) → IsOutcome words contents other → AreOneOutcome (refused Words (codes "words\n")) other
-  no_command_only none other (no_command n e) = inl (sym e)
+  no_command_only : HasNoCommand words → (other : Outcome) → IsOutcome words contents other → refused Words (codes "words\n") ≡ other
+  no_command_only none other (no_command n e) = sym e
   no_command_only none other (of_request found k b) = absurd (none found k)
 
   pub no_command_the : HasNoCommand words → IsTheOutcome (IsOutcome words contents) (refused Words (codes "words\n"))

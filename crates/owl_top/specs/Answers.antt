@@ -9,11 +9,11 @@ use Rattle.owl_port.specs.declared.whole.ReadFault.TheVariants as pf
 use Rattle.owl_atom.specs.declared.prefixes.Prefix.{Prefix}
 use Rattle.owl_tree.specs.Ontologies.{IsSameOntology, Ontology}
 use Rattle.fss_terms.specs.Functional.{ReadsFunctional}
-use Rattle.fss_read.specs.Reading.{Awaits, Reading}
-use Rattle.fss_read.specs.declared.fault.ReadFault as read
-use Rattle.fss_read.specs.declared.fault.ReadFault.TheVariants as rf
+use Rattle.fss_defects.specs.FirstDefects.{IsFirstDefect}
+use Rattle.owl_reader.specs.declared.fault.ReadFault as read
+use Rattle.owl_reader.specs.declared.fault.ReadFault.TheVariants as rf
 use Rattle.owl_top.specs.Commands.{IsAmong, Request, compares, names_of}
-use Rattle.owl_top.specs.Outcome.{Becomes, IsFaulty, IsFirstFaulty, IsFrontTaken, IsReadBack, IsSettled, IsSuccess, IsTheOutcome, IsUnread, LineFor, Outcome, SaysOntology, agreement, defect, difference, not_built, refused, too_long_document, too_long_output}
+use Rattle.owl_top.specs.Outcome.{Becomes, IsFaulty, IsFirstFaulty, IsFrontTaken, IsReadBack, IsSettled, IsSuccess, IsTheOutcome, IsUnread, LineFor, Outcome, SaysOntology, agreement, difference, not_built, refused, refusal_outcome, too_long_document, too_long_output}
 use Rattle.owl_top.specs.declared.trouble.Trouble.{Trouble}
 use Rattle.owl_top.specs.declared.trouble.Trouble.TheVariants as t
 use Rattle.owl_top.specs.declared.answer.Answer.{Answer}
@@ -27,10 +27,10 @@ outcome_of answer = record { status = answer.status; text = encode_utf8_all answ
 abbrev pub trouble_outcome : List ℕ → Trouble → Outcome
 trouble_outcome name t.ReadFailed = refused ReadFailed (codes "read: " ++ (name ++ codes "\n"))
 trouble_outcome name t.TooLong = too_long_document name
-trouble_outcome name (t.Defect item at reason) = defect name item at reason
-trouble_outcome name t.TooDeep = refused Limit (codes "limit: Depth: " ++ (name ++ codes "\n"))
-trouble_outcome name t.TooHeavy = refused Limit (codes "limit: Weight: " ++ (name ++ codes "\n"))
-trouble_outcome name t.NumberTooLarge = refused Limit (codes "limit: Cardinality: " ++ (name ++ codes "\n"))
+trouble_outcome name (t.Defect item at reason) = refusal_outcome name (rf.Refused item at reason)
+trouble_outcome name t.TooDeep = refusal_outcome name rf.TooDeep
+trouble_outcome name t.TooHeavy = refusal_outcome name rf.TooHeavy
+trouble_outcome name t.NumberTooLarge = refusal_outcome name rf.NumberTooLarge
 trouble_outcome name t.Memory = refused Memory (codes "memory\n")
 
 abbrev pub of_shelf : port.ReadFault → Trouble
@@ -46,30 +46,38 @@ of_reader rf.TooHeavy = t.TooHeavy
 of_reader rf.NumberTooLarge = t.NumberTooLarge
 of_reader rf.Memory = t.Memory
 
--- Some bytes were fed, and the rest was not: what comes of the old reading and all the bytes comes of the new one and the
--- rest.
-pub record IsLed (old new : Reading) (bytes rest : List ℕ) : Type 0 where
-  pub all : (more : List ℕ) (prefixes : List Prefix) (o : Ontology) → Awaits old (bytes ++ more) prefixes o → Awaits new (rest ++ more) prefixes o
-  pub only : (more : List ℕ) (prefixes : List Prefix) (o : Ontology) → Awaits new (rest ++ more) prefixes o → Awaits old (bytes ++ more) prefixes o
-
--- The bytes are this document, and no other.
+-- The bytes are this document, and no other, and have no defect.
 pub record IsOnlyReading (bytes : List ℕ) (prefixes : List Prefix) (o : Ontology) : Type 0 where
   pub reads : ReadsFunctional bytes prefixes o
   pub only : (others : List Prefix) (p : Ontology) → ReadsFunctional bytes others p → (others ≡ prefixes) × IsSameOntology p o
+  pub no_defect : (fault : read.ReadFault) → IsFirstDefect bytes fault → ⊥
+
+-- The bytes have this first defect, and no other, and are no document.
+pub record IsOnlyDefect (bytes : List ℕ) (fault : read.ReadFault) : Type 0 where
+  pub is : IsFirstDefect bytes fault
+  pub only : (other : read.ReadFault) → IsFirstDefect bytes other → fault ≡ other
+  pub no_document : (prefixes : List Prefix) (o : Ontology) → ReadsFunctional bytes prefixes o → ⊥
 
 -- What is there says this, and nothing else.
 pub record SaysOnly (there : Option (List ℕ)) (prefixes : List Prefix) (o : Ontology) : Type 0 where
   pub says : SaysOntology there prefixes o
   pub only : (others : List Prefix) (p : Ontology) → SaysOntology there others p → (others ≡ prefixes) × IsSameOntology p o
+  pub is_read : (name : List ℕ) (outcome : Outcome) → IsUnread name there outcome → ⊥
+
+-- What is there is not read, with this outcome and no other, and says nothing.
+pub record IsOnlyUnread (name : List ℕ) (there : Option (List ℕ)) (outcome : Outcome) : Type 0 where
+  pub is : IsUnread name there outcome
+  pub only : (other : Outcome) → IsUnread name there other → outcome ≡ other
+  pub says_nothing : (prefixes : List Prefix) (o : Ontology) → SaysOntology there prefixes o → ⊥
 
 -- a trouble that is neither a device's nor want of memory is the document's
 abbrev pub IsTroubleOf : List ℕ → Option (List ℕ) → Trouble → Type 0
 IsTroubleOf name there t.ReadFailed = Unit {0}
-IsTroubleOf name there t.TooLong = IsUnread name there (trouble_outcome name t.TooLong)
-IsTroubleOf name there (t.Defect item at reason) = IsUnread name there (trouble_outcome name (t.Defect item at reason))
-IsTroubleOf name there t.TooDeep = IsUnread name there (trouble_outcome name t.TooDeep)
-IsTroubleOf name there t.TooHeavy = IsUnread name there (trouble_outcome name t.TooHeavy)
-IsTroubleOf name there t.NumberTooLarge = IsUnread name there (trouble_outcome name t.NumberTooLarge)
+IsTroubleOf name there t.TooLong = IsOnlyUnread name there (trouble_outcome name t.TooLong)
+IsTroubleOf name there (t.Defect item at reason) = IsOnlyUnread name there (trouble_outcome name (t.Defect item at reason))
+IsTroubleOf name there t.TooDeep = IsOnlyUnread name there (trouble_outcome name t.TooDeep)
+IsTroubleOf name there t.TooHeavy = IsOnlyUnread name there (trouble_outcome name t.TooHeavy)
+IsTroubleOf name there t.NumberTooLarge = IsOnlyUnread name there (trouble_outcome name t.NumberTooLarge)
 IsTroubleOf name there t.Memory = Unit {0}
 
 -- a text that is too long is not written
@@ -154,7 +162,7 @@ IsComparison o p outcome = (IsSameOntology o p × (outcome ≡ agreement)) ⊎ (
 
 -- What is answered for a second document, where the first one says this.
 pub data ComparesWith (o : Ontology) (second : List ℕ) (there : Option (List ℕ)) (outcome : Outcome) : Type 0 where
-  not_read : IsUnread second there outcome → ComparesWith o second there outcome
+  not_read : IsOnlyUnread second there outcome → ComparesWith o second there outcome
   agree : (others : List Prefix) (p : Ontology) → SaysOnly there others p → IsSameOntology o p → outcome ≡ agreement → ComparesWith o second there outcome
   differ : (others : List Prefix) (p : Ontology) → SaysOnly there others p → (IsSameOntology o p → ⊥) → outcome ≡ difference → ComparesWith o second there outcome
 

@@ -8,8 +8,11 @@ use Rattle.owl_atom.specs.declared.prefixes.Prefix.{Prefix}
 use Rattle.owl_tree.specs.Ontologies.{IsSameOntology, Ontology, canonical_ontology}
 use Rattle.owl_doc.specs.Counts.{axiom_count}
 use Rattle.fss_terms.specs.Functional.{ReadsFunctional}
-use Rattle.fss_read.specs.declared.fault.Reason.{Reason}
-use Rattle.fss_read.specs.declared.fault.Reason.TheVariants.{BadUtf8, BadToken, NotHere, UnknownPrefix, PrefixTwice, PrefixFixed, BadLiteral, EmptyKey}
+use Rattle.fss_defects.specs.FirstDefects.{IsFirstDefect}
+use Rattle.owl_reader.specs.declared.fault.ReadFault.{ReadFault}
+use Rattle.owl_reader.specs.declared.fault.ReadFault.TheVariants as read
+use Rattle.owl_reader.specs.declared.fault.Reason.{Reason}
+use Rattle.owl_reader.specs.declared.fault.Reason.TheVariants.{BadUtf8, BadToken, NotHere, UnknownPrefix, PrefixTwice, PrefixFixed, BadLiteral, EmptyKey}
 use Rattle.fss_write.specs.Text.{declared_prefixes, text_of}
 use Rattle.owl_top.specs.Commands.{Asks, HasNoCommand, IsAmong, Request, translates, shows, compares, names_of}
 use Rattle.owl_top.specs.Summary.{summary_text}
@@ -46,8 +49,12 @@ agreement = record { status = Done; text = codes "same\n"; line = codes "same\n"
 abbrev pub difference : Outcome
 difference = record { status = No; text = codes "different\n"; line = codes "different\n" }
 
+-- the limit that a document passes, by its word
+abbrev pub passed_limit : List ℕ → List ℕ → Outcome
+passed_limit word name = refused Limit (codes "limit: " ++ (word ++ (codes ": " ++ (name ++ codes "\n"))))
+
 abbrev pub too_long_document : List ℕ → Outcome
-too_long_document name = refused Limit (codes "limit: DocumentBytes: " ++ (name ++ codes "\n"))
+too_long_document name = passed_limit (codes "DocumentBytes") name
 
 abbrev pub too_long_output : Outcome
 too_long_output = refused Limit (codes "limit: OutputBytes: output\n")
@@ -71,12 +78,14 @@ abbrev pub defect : List ℕ → ℕ → ℕ → Reason → Outcome
 defect name item at reason =
     refused NoDocument (name ++ (codes ": item at " ++ (decimal item ++ (codes ": " ++ (reason_word reason ++ (codes " at " ++ (decimal at ++ codes "\n")))))))
 
--- How a document is refused that can't be read: by a defect at a place, or by one of three limits.
-pub data IsRefusal (name : List ℕ) (outcome : Outcome) : Type 0 where
-  has_defect : (item at : ℕ) (reason : Reason) → outcome ≡ defect name item at reason → IsRefusal name outcome
-  too_deep : outcome ≡ refused Limit (codes "limit: Depth: " ++ (name ++ codes "\n")) → IsRefusal name outcome
-  too_heavy : outcome ≡ refused Limit (codes "limit: Weight: " ++ (name ++ codes "\n")) → IsRefusal name outcome
-  too_large : outcome ≡ refused Limit (codes "limit: Cardinality: " ++ (name ++ codes "\n")) → IsRefusal name outcome
+-- How a document is refused that has this defect. Want of memory is no defect of a document.
+abbrev pub refusal_outcome : List ℕ → ReadFault → Outcome
+refusal_outcome name (read.Refused item at reason) = defect name item at reason
+refusal_outcome name read.TooLong = too_long_document name
+refusal_outcome name read.TooDeep = passed_limit (codes "Depth") name
+refusal_outcome name read.TooHeavy = passed_limit (codes "Weight") name
+refusal_outcome name read.NumberTooLarge = passed_limit (codes "Cardinality") name
+refusal_outcome name read.Memory = refused Memory (codes "memory\n")
 
 -- The document that is there says this ontology, and has these prefixes.
 pub record SaysOntology (there : Option (List ℕ)) (prefixes : List Prefix) (o : Ontology) : Type 0 where
@@ -84,14 +93,10 @@ pub record SaysOntology (there : Option (List ℕ)) (prefixes : List Prefix) (o 
   pub are : there ≡ Some bytes
   pub reads : ReadsFunctional bytes prefixes o
 
--- The bytes are no document within the limits.
-abbrev pub IsNoDocument : List ℕ → Type 0
-IsNoDocument bytes = (prefixes : List Prefix) (o : Ontology) → ReadsFunctional bytes prefixes o → ⊥
-
--- What is there is not read: it has too many bytes, or is no document.
+-- What is there is not read: it has too many bytes, or it has a first defect, and is refused by it.
 pub data IsUnread (name : List ℕ) (there : Option (List ℕ)) (outcome : Outcome) : Type 0 where
   too_long : (bytes : List ℕ) → there ≡ Some bytes → most_bytes < length bytes → outcome ≡ too_long_document name → IsUnread name there outcome
-  unreadable : (bytes : List ℕ) → there ≡ Some bytes → length bytes ≤ most_bytes → IsNoDocument bytes → IsRefusal name outcome → IsUnread name there outcome
+  unreadable : (bytes : List ℕ) (refusal : ReadFault) → there ≡ Some bytes → length bytes ≤ most_bytes → IsFirstDefect bytes refusal → outcome ≡ refusal_outcome name refusal → IsUnread name there outcome
 
 -- What becomes of one document, where this is wanted of what it says: the first of its conditions that fails, or success.
 pub data BecomesOf (wanted : List Prefix → Ontology → Outcome) (name : List ℕ) (there : Option (List ℕ)) (outcome : Outcome) : Type 0 where
@@ -119,14 +124,10 @@ pub data IsOutcome (words : List (List ℕ)) (contents : List ℕ → Option (Li
   no_command : HasNoCommand words → outcome ≡ refused Words (codes "words\n") → IsOutcome words contents outcome
   of_request : (request : Request) → Asks words request → Becomes contents request outcome → IsOutcome words contents outcome
 
--- Two answers are the same, but for how the same document is refused that can't be read.
-abbrev pub AreOneOutcome : Outcome → Outcome → Type 0
-AreOneOutcome one other = (one ≡ other) ⊎ ((name : List ℕ) × IsRefusal name one × IsRefusal name other)
-
 -- It is an answer, and there is no other one.
 pub record IsTheOutcome (IsOne : Outcome → Type 0) (outcome : Outcome) : Type 0 where
   pub is : IsOne outcome
-  pub only : (other : Outcome) → IsOne other → AreOneOutcome outcome other
+  pub only : (other : Outcome) → IsOne other → outcome ≡ other
 
 -- at most so many bytes of a document are taken, from its front
 abbrev pub IsFrontTaken : Option (List ℕ) → Option (List ℕ) → Type 0
@@ -178,8 +179,7 @@ SuccessLine request status line = ⊥
 
 -- The lines that one of the documents is refused with.
 pub data IsRefusalLine (name : List ℕ) (status : Status) (line : List ℕ) : Type 0 where
-  of_reader : (outcome : Outcome) → IsRefusal name outcome → status ≡ outcome.status → line ≡ outcome.line → IsRefusalLine name status line
-  of_length : status ≡ Limit → line ≡ (too_long_document name).line → IsRefusalLine name status line
+  of_defect : (refusal : ReadFault) → refusal ≢ read.Memory → status ≡ (refusal_outcome name refusal).status → line ≡ (refusal_outcome name refusal).line → IsRefusalLine name status line
   of_imports : status ≡ NoDocument → line ≡ (not_built name).line → IsRefusalLine name status line
   of_output : status ≡ Limit → line ≡ too_long_output.line → IsRefusalLine name status line
 

@@ -4,7 +4,7 @@ ghost use Rattle.std.specs.Prelude.{◌≡◌, ◌≢◌, ◌++◌, ◌↔◌, �
 ghost use Rattle.std.specs.List.{AllByRecursion};
 ghost use Rattle.owl_port.specs.Outside.{Rose};
 ghost use Rattle.owl_top.specs.Commands.{AreDistinct, Asks, HasItsNames, HasNoCommand, Name, Request, names_of, request_of};
-ghost use Rattle.owl_top.specs.Outcome.{AreOneOutcome, Becomes, IsFaulty, IsFirstFaulty, IsFrontNoted, IsFrontOfNote, IsFrontTaken, IsFrontWritten, IsLine, IsNoted, IsNotedAlone, IsOutcome, IsQuiet, IsReadBack, IsSettled, IsSuccess, IsTheOutcome, IsWritten, LineFor, Outcome};
+ghost use Rattle.owl_top.specs.Outcome.{Becomes, IsFaulty, IsFirstFaulty, IsFrontNoted, IsFrontOfNote, IsFrontTaken, IsFrontWritten, IsLine, IsNoted, IsNotedAlone, IsOutcome, IsQuiet, IsReadBack, IsSettled, IsSuccess, IsTheOutcome, IsWritten, LineFor, Outcome};
 ghost use Rattle.owl_top.specs.Answers.{IsProper, IsTaken, IsWrittenFor, delivered_line, outcome_of};
 
 use crate::answer::Answer;
@@ -105,7 +105,7 @@ fn obey<S: Shelf, O: Sink, N: Sink>(
 /// The line of a status is `translated; axioms A; absorbed 0`, `shown` or `same` for `Done`, `different` for `No`, `words`
 /// for `Words`, `NAME: item at ITEM: REASON at AT` or `NAME: NotBuilt` for `Document`, `limit: COUNT: NAME` or
 /// `limit: OutputBytes: output` for `Limit`, `read: NAME` for `ReadFailed`, `write` for `WriteFailed` and `memory` for
-/// `Memory`. A fault of `note` changes no status.
+/// `Memory`. A document that can't be read is refused by its first defect. A fault of `note` changes no status.
 pub fn run<S: Shelf, O: Sink, N: Sink>(
     alloc: Global,
     words: &[String],
@@ -155,12 +155,12 @@ pub fn run<S: Shelf, O: Sink, N: Sink>(
         IsFrontNoted (IsLine (map string_bytes words.now) (IsFaulty (λ other. Rose (S.faults shelf.old other) (S.faults shelf.new other))) result)
         (N.written note.old) (N.written note.new) }
 
-    // Where no device fails, all that is left beside the outcome is want of memory.
+    // Where no device fails, the status is that of the one outcome, or memory ran out.
     ensures completes { IsTrue (S.tells shelf.old) →
         ((name : List ℕ) → Name (map string_bytes words.now) name → Rose (S.faults shelf.old name) (S.faults shelf.new name) → ⊥) →
         (Rose (O.faults out.old) (O.faults out.new) → ⊥) →
-        (outcome : Outcome) → IsOutcome (map string_bytes words.now) (S.left shelf.old) outcome →
-        ((told : Outcome) × AreOneOutcome told outcome × (result ≡ told.status)) ⊎ (result ≡ Status.Memory) }
+        ((outcome : Outcome) × IsTheOutcome (IsOutcome (map string_bytes words.now) (S.left shelf.old)) outcome × (result ≡ outcome.status))
+        ⊎ (result ≡ Status.Memory) }
 {
     match crate::command::words(alloc, words) {
         Ok(command) => obey(alloc, &command, shelf, out, note),

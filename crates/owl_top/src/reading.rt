@@ -1,13 +1,15 @@
 //! Reads the bytes of one document.
 
-ghost use Rattle.std.specs.Prelude.{◌≡◌, ◌≢◌, ◌+◌, ◌++◌, ◌<◌, ◌≤◌, length, None, IfOk, IfErr, OnOk};
+ghost use Rattle.std.specs.Prelude.{◌≡◌, ◌≢◌, ◌≤◌, [], length, IfOk, IfErr, OnOk};
 ghost use Rattle.owl_characters.specs.Limit.{most_bytes};
 ghost use Rattle.owl_doc.specs.Documents.{ontology_of};
-ghost use Rattle.fss_read.specs.Reading.{Leads, Refuses, Starts};
-ghost use Rattle.fss_read.specs.declared.fault.ReadFault.TheVariants.{Memory};
-ghost use Rattle.owl_top.specs.Outcome.{IsNoDocument};
-ghost use Rattle.owl_top.specs.Answers.{IsOnlyReading};
+ghost use Rattle.owl_reader.specs.declared.fault.ReadFault.TheVariants.{Memory};
+ghost use Rattle.fss_terms.specs.Functional.{ReadsFunctional};
+ghost use Rattle.fss_defects.specs.FirstDefects.{IsFirstDefect};
+ghost use Rattle.fss_read.specs.Reading.{HasRead};
+ghost use Rattle.owl_top.specs.Answers.{IsOnlyDefect, IsOnlyReading};
 
+use fss_defects::{defects_are_of_no_document, documents_are_read_one_way, one_first_defect};
 use fss_read::{ReadFault, Reader};
 use owl_characters::NoMemory;
 use owl_doc::Doc;
@@ -17,9 +19,7 @@ use std::alloc::Global;
 const PIECE: usize = 4096;
 
 fn start(alloc: Global) -> Result<Reader, ReadFault>
-    ensures starts { IfOk result Starts }
-    ensures fed { IfOk result (λ reader. reader.fed ≡ 0) }
-    ensures open_yet { IfOk result (λ reader. reader.refused ≡ None) }
+    ensures starts { IfOk result (λ reader. HasRead reader []) }
     ensures memory { IfErr result (λ fault. fault ≡ Memory) }
 {
     match Reader::new(alloc) {
@@ -28,42 +28,38 @@ fn start(alloc: Global) -> Result<Reader, ReadFault>
     }
 }
 
-/// The next piece of what is left to feed, and what is behind it.
-fn next_piece(rest: &[u8]) -> (&[u8], &[u8])
-    requires { 0 < length rest.now }
-    ensures whole { rest.now ≡ result.0.now ++ result.1.now }
-    ensures shorter { length result.1.now < length rest.now }
-    ensures count { length rest.now ≡ length result.0.now + length result.1.now }
-{
-    rest.split_at(rest.len().min(PIECE))
-}
-
 /// Feeds a reader with all the bytes, piece by piece.
 fn feed_all(reader: &mut Reader, bytes: &[u8]) -> Result<(), ReadFault>
-    requires open_yet { reader.old.refused ≡ None }
-    requires within { reader.old.fed + length bytes.now ≤ most_bytes }
-    ensures leads { OnOk result (Leads reader.old bytes.now reader.new) }
-    ensures open_yet { OnOk result (reader.new.refused ≡ None) }
-    ensures refusal { IfErr result (λ fault. fault ≢ ReadFault.Memory → Refuses reader.old bytes.now) }
-    ensures short { IfErr result (λ fault. fault ≢ ReadFault.TooLong) }
+    requires { HasRead reader.old [] }
+    ensures reads { OnOk result (HasRead reader.new bytes.now) }
+    ensures refuses { IfErr result (λ fault. fault ≢ Memory → IsFirstDefect bytes.now fault) }
 {
-    let mut rest = bytes;
-    while !rest.is_empty() {
-        let (piece, behind) = next_piece(rest);
+    for piece in bytes.chunks(PIECE) {
         reader.feed(piece)?;
-        rest = behind;
     }
     Ok(())
 }
 
-/// The document that the bytes are. A refusal other than `Memory` comes exactly where they are none.
-pub fn read_document(alloc: Global, bytes: &[u8]) -> Result<Doc, ReadFault>
-    requires { length bytes.now ≤ most_bytes }
-    ensures ok { IfOk result (λ doc. IsOnlyReading bytes.now doc.prefixes (ontology_of doc)) }
-    ensures none { IfErr result (λ fault. fault ≢ ReadFault.Memory → IsNoDocument bytes.now) }
-    ensures short { IfErr result (λ fault. fault ≢ ReadFault.TooLong) }
+/// The document that a reader makes of the bytes.
+fn read(alloc: Global, bytes: &[u8]) -> Result<Doc, ReadFault>
+    ensures reads { IfOk result (λ doc. ReadsFunctional bytes.now doc.prefixes (ontology_of doc)) }
+    ensures refuses { IfErr result (λ fault. fault ≢ Memory → IsFirstDefect bytes.now fault) }
 {
     let mut reader = start(alloc)?;
     feed_all(&mut reader, bytes)?;
     reader.finish()
+}
+
+/// The document that the bytes are. A refusal other than `Memory` is their first defect, and comes exactly where they
+/// are no document.
+pub fn read_document(alloc: Global, bytes: &[u8]) -> Result<Doc, ReadFault>
+    requires { length bytes.now ≤ most_bytes }
+    ensures ok { IfOk result (λ doc. IsOnlyReading bytes.now doc.prefixes (ontology_of doc)) }
+    ensures defect { IfErr result (λ fault. fault ≢ Memory → IsOnlyDefect bytes.now fault) }
+{
+    // What is known of all bytes.
+    documents_are_read_one_way();
+    defects_are_of_no_document();
+    one_first_defect();
+    read(alloc, bytes)
 }

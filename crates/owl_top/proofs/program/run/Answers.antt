@@ -1,7 +1,7 @@
 use Rattle.std.proofs.Common.{Err, inl, map, string_bytes, codes, refl, ap}
 use Rattle.owl_port.specs.Outside.{Rose}
 use Rattle.owl_top.specs.Commands.{HasNoCommand, request_of}
-use Rattle.owl_top.specs.Outcome.{IsFaulty, IsFirstFaulty, IsOutcome, refused}
+use Rattle.owl_top.specs.Outcome.{IsFaulty, IsFirstFaulty, refused}
 use Rattle.owl_top.specs.declared.status.Status.TheVariants.{Words}
 use Rattle.owl_top.proofs.Delivering.{asked_fault, asked_front, asked_note, asked_note_alone, asked_note_front, asked_note_front_alone, asked_outcome, asked_written, completes_by, no_command_front, no_command_note}
 use Rattle.owl_top.proofs.Outcomes.{no_command_the}
@@ -36,10 +36,10 @@ returns-in-Ok-clause-note_front_alone g c = λ note.
     asked_note_front_alone (map string_bytes c.args.words.now) (request_of c.in-Ok.command) c.in-Ok.ensures.command.asks (g.S.Shelf.left c.args.shelf.now) (IsFaulty (λ other. Rose (g.S.Shelf.faults c.args.shelf.now other) (g.S.Shelf.faults c.obey.new.shelf other))) c.obey.result _ _ (c.obey.ensures.note_front_alone note)
 
 pub returns-in-Ok-clause-completes : goal.returns-in-Ok-clause-completes
-returns-in-Ok-clause-completes g c = λ shelf reads writes outcome is.
+returns-in-Ok-clause-completes g c = λ shelf reads writes.
     let ws = map string_bytes c.args.words.now in
     let contents = g.S.Shelf.left c.args.shelf.now in
-    completes_by (IsOutcome ws contents) c.obey.result (λ settled. asked_outcome ws (request_of c.in-Ok.command) c.in-Ok.ensures.command.asks contents c.obey.result (c.obey.ensures.outcome shelf settled)) (λ e. let h = asked_fault ws (request_of c.in-Ok.command) c.in-Ok.ensures.command.asks contents (λ other. Rose (g.S.Shelf.faults c.args.shelf.now other) (g.S.Shelf.faults c.obey.new.shelf other)) (c.obey.ensures.read_fault e) in reads h.0 h.1 h.2) (λ e. writes (c.obey.ensures.write_fault e)) outcome is
+    completes_by _ c.obey.result (λ settled. asked_outcome ws (request_of c.in-Ok.command) c.in-Ok.ensures.command.asks contents c.obey.result (c.obey.ensures.outcome shelf settled)) (λ e. let h = asked_fault ws (request_of c.in-Ok.command) c.in-Ok.ensures.command.asks contents (λ other. Rose (g.S.Shelf.faults c.args.shelf.now other) (g.S.Shelf.faults c.obey.new.shelf other)) (c.obey.ensures.read_fault e) in reads h.0 h.1 h.2) (λ e. writes (c.obey.ensures.write_fault e))
 
 pub returns-in-Err-Words-clause-outcome : goal.returns-in-Err-Words-clause-outcome
 returns-in-Err-Words-clause-outcome g c = λ _ _.
@@ -60,8 +60,7 @@ returns-in-Err-Words-clause-note_front g c = λ _ note.
     no_command_front ws (g.S.Shelf.left c.args.shelf.now) _ none _ _ (c.tell.ensures.front note)
 
 pub returns-in-Err-Words-clause-completes : goal.returns-in-Err-Words-clause-completes
-returns-in-Err-Words-clause-completes g c = λ _ _ _ outcome is.
+returns-in-Err-Words-clause-completes g c = λ _ _ _.
     let ws = map string_bytes c.args.words.now in
     let none : HasNoCommand ws = c.in-Err-Words.ensures.none (ap Err c.in-Err-Words.field-0-is) in
-    let the = no_command_the ws (g.S.Shelf.left c.args.shelf.now) none in
-    inl (refused Words (codes "words\n"), the.only outcome is, refl)
+    inl (refused Words (codes "words\n"), no_command_the ws (g.S.Shelf.left c.args.shelf.now) none, refl)

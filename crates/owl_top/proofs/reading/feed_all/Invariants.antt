@@ -1,14 +1,13 @@
-use Rattle.std.proofs.Common.{◌≡◌, ◌+◌, None, length}
-use Rattle.owl_top.specs.Answers.{IsLed}
+use Rattle.std.proofs.Common.{◌≡◌, ◌<◌, ◌++◌, ℕ, List}
+use Rattle.std.specs.Slice.Iter.{chunks_rest, chunks_size}
+use Rattle.fss_read.specs.Reading.{HasRead}
 use Rattle.owl_top.proofs.reading.feed_all.Given as goal
 
--- a front of the bytes was fed
-abbrev pub invariant-loop-rest : goal.invariant-loop-rest
-invariant-loop-rest l = record {
-  led : IsLed l.fn.reader l.reader l.bytes l.rest;
-  count : l.reader.fed + length l.rest ≡ l.fn.reader.fed + length l.bytes;
-  open_yet : l.reader.refused ≡ None;
+-- a front of the bytes was read
+abbrev pub invariant-loop-piece : goal.invariant-loop-piece
+invariant-loop-piece l = record {
+  size : 0 < chunks_size l.piece-iterator;
+  fed : List ℕ;
+  read : HasRead l.reader fed;
+  whole : l.bytes ≡ fed ++ chunks_rest l.piece-iterator;
 }
-
-abbrev pub decreases-loop-rest : goal.decreases-loop-rest
-decreases-loop-rest l = length l.rest

@@ -1,7 +1,8 @@
 use Rattle.std.proofs.Common.{Some, Err, List, ℕ, ap, sym, ◌∙◌, ◌<◌, ◌≤◌, length, arith}
 use Rattle.owl_characters.specs.Limit.{most_bytes}
 use Rattle.owl_doc.specs.Documents.{ontology_of}
-use Rattle.owl_top.proofs.Answering.{reader_trouble, says_only, shelf_trouble}
+use Rattle.owl_top.proofs.Answering.{reader_trouble, shelf_trouble}
+use Rattle.owl_top.proofs.Outcomes.{says_only}
 use Rattle.owl_top.proofs.request.document_of.Goals as goal
 
 pub returns-in_err-bytes-clause-trouble : goal.returns-in_err-bytes-clause-trouble
@@ -11,7 +12,7 @@ returns-in_err-bytes-clause-trouble g c = λ tells.
 pub returns-in_err-read_document-clause-trouble : goal.returns-in_err-read_document-clause-trouble
 returns-in_err-read_document-clause-trouble g c = λ tells.
     let few : length c.deref.result.now ≤ most_bytes = let same = ap (λ (xs : List ℕ). length xs) c.deref.ensures.value in let most = c.in_ok-bytes.ensures.within in let counted = c.in_ok-bytes.bytes.ok in omega arith in
-    reader_trouble c.from_residual-in_err-read_document.result c.in_err-read_document.field-0.0 c.args.name.now c.deref.result.now _ (c.in_ok-bytes.ensures.whole tells ∙ ap Some (sym c.deref.ensures.value)) few c.from_residual-in_err-read_document.ensures.1 c.in_err-read_document.ensures.none c.in_err-read_document.ensures.short
+    reader_trouble c.from_residual-in_err-read_document.result c.in_err-read_document.field-0.0 c.args.name.now c.deref.result.now _ (c.in_ok-bytes.ensures.whole tells ∙ ap Some (sym c.deref.ensures.value)) few c.from_residual-in_err-read_document.ensures.1 c.in_err-read_document.ensures.defect
 
 pub returns-clause-ok : goal.returns-clause-ok
 returns-clause-ok g c = λ tells.

@@ -1,7 +1,12 @@
-use Rattle.std.proofs.Common.{◌++◌, sym, subst}
-use Rattle.fss_read.specs.Reading.{Awaits, Reading}
+use Rattle.std.proofs.Common.{subst, sym}
+use Rattle.owl_reader.specs.Readings.{Reading}
+use Rattle.owl_tokens.specs.FunctionalSpellingLaws.{functional_is_prompt}
+use Rattle.fss_read.specs.Reading.{HasRead}
+use Rattle.fss_read.proofs.Results.{if_err}
 use Rattle.fss_read.proofs.reader.Reader.feed.Goals as goal
 
-pub returns-in-Err-clause-refusal : goal.returns-in-Err-clause-refusal
-returns-in-Err-clause-refusal c =
-    λ _ no_memory more prefixes o a. c.in-Err.ensures.refusal no_memory more prefixes o (subst (λ (x : Reading). Awaits x (c.args.piece.now ++ more) prefixes o) (sym c.self.view_is) a)
+pub returns-clause-refuses : goal.returns-clause-refuses
+returns-clause-refuses c = if_err c.feed.result (λ e refuses other bytes h. refuses other bytes (subst (λ (r : Reading _). HasRead r bytes) (sym c.self.view_is) h)) c.feed.ensures.refuses
+
+pub returns-clause-early : goal.returns-clause-early
+returns-clause-early c = c.feed.ensures.early functional_is_prompt
