@@ -31,6 +31,11 @@ def imports_of(text):
     return found
 
 
+def modules_of(text):
+    """The modules that a file imports whole, by the name that they have there."""
+    return {here: path for path, here in re.findall(r"use\s+Rattle\.([\w.]+) as ([\w-]+)", text)}
+
+
 def parts_of(text):
     """The definitions of a file, each with all of its text. Those that name each other stand under the first of them."""
     parts, name, is_mutual = {}, None, False
@@ -59,6 +64,7 @@ class File:
             self.text = file.read()
         self.lines = self.text.count("\n")
         self.imports, self.parts = imports_of(self.text), parts_of(self.text)
+        self.modules = modules_of(self.text)
         # A constructor and a field lead to the type that they stand in.
         self.inner = {}
         for name, text in self.parts.items():
@@ -97,6 +103,9 @@ def main():
                 wanted.append(file.imports[word])
             elif word in file.parts or word in file.inner:
                 wanted.append((module, word))
+        for here, there in re.findall(r"([\w-]+)\.([\w-]+)", file.parts[name]):
+            if here in file.modules:
+                wanted.append((file.modules[here], there))
 
     rows = [(order.index(module.split(".")[0]), module) for module, names in reached.items() if names]
     total = 0

@@ -118,6 +118,8 @@ chain() {
 }
 chain $((2 ** 24 - 4)) >heavy.ofn
 chain $((2 ** 24 - 3)) >heavier.ofn
+size=$(stat -c %s heavier.ofn)
+{ head -c $((size - 2)) heavier.ofn && printf ' :p))'; } >crooked.ofn
 mkdir folder.ofn
 cp m.ofn secret.ofn && chmod 000 secret.ofn
 mkfifo pipe.ofn
@@ -189,6 +191,8 @@ weight $((2 ** 24))
 ' show heavy.ofn
 call 'a weight of 2^24 + 1' 5 '' 'limit: Weight: heavier.ofn
 ' translate --to fss heavier.ofn
+call 'a weight of 2^24 + 1, and a name too many behind it' 3 '' "crooked.ofn: item at $(head -c 200 heavier.ofn | grep -b -o SubObjectPropertyOf | cut -d: -f1): NotHere at $((size - 1))
+" show crooked.ofn
 call '2^27 + 1 bytes' 5 '' 'limit: DocumentBytes: big.ofn
 ' translate --to fss big.ofn
 call '2^27 bytes' 0 "$nothing" "$done_line" translate --to fss full.ofn

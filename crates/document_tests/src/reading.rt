@@ -5,12 +5,13 @@ use owl_characters::NoMemory;
 use std::alloc::Global;
 use std::test::Fail;
 
-/// What a reader answers to a bad document, then to a good one, and at the end.
+/// What a reader answers to a front of a document whose last word no document
+/// goes on with, then to a good one, and at the end.
 fn answers(
     alloc: Global,
 ) -> Result<(Option<ReadFault>, Option<ReadFault>, Option<ReadFault>), NoMemory> {
     let mut reader = Reader::new(alloc)?;
-    let first = reader.feed(b"Ontology) ".as_slice()).err();
+    let first = reader.feed(b"Ontology(SubClassOf(A ".as_slice()).err();
     let second = reader.feed(b"Ontology()".as_slice()).err();
     Ok((first, second, reader.finish().err()))
 }
@@ -19,8 +20,8 @@ fn answers(
 fn a_refusal_is_kept(rt: HostRuntime) -> Result<(), Fail> {
     let (first, second, last) = answers(rt.alloc())?;
     let kept = Some(ReadFault::Refused {
-        item_at: 0,
-        at: 8,
+        item_at: 9,
+        at: 20,
         reason: Reason::NotHere,
     });
     assert_eq!(rt; first, kept);
