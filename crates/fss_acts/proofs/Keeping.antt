@@ -1,7 +1,7 @@
 -- Literals and IRIs that were kept.
 use Rattle.std.proofs.Common.{◌≡◌, ◌≢◌, ◌<◌, ℕ, List, length, Option, None, Some, Result, Ok, Err, refl, sym, ap, ◌∙◌, subst, arith}
 use Rattle.owl_arena.specs.Shared.{deepest}
-use Rattle.owl_atom.specs.Literals.{DenotesLiteral, LiteralParts}
+use Rattle.rdf_terms.specs.Literals.{DenotesLiteral, LiteralParts}
 use Rattle.owl_atom.specs.declared.prefixes.Prefix.{Prefix}
 use Rattle.owl_maker.specs.Constructs.{Constructs}
 use Rattle.owl_maker.specs.Makings.{Making}

@@ -3,7 +3,7 @@ use Rattle.std.specs.Prelude.{◌≡◌, ◌≢◌, ◌<◌, ◌≤◌, ℕ, Boo
 use Rattle.grammar.specs.Derivations.{Event}
 use Rattle.owl_arena.specs.Shared.{deepest}
 use Rattle.owl_atom.specs.declared.prefixes.Prefix.{Prefix}
-use Rattle.owl_atom.specs.Literals.{DenotesLiteral, IsLiteral, LiteralParts}
+use Rattle.rdf_terms.specs.Literals.{DenotesLiteral, IsLiteral, LiteralParts}
 use Rattle.owl_atom.specs.Prefixes.{expansion}
 use Rattle.owl_characters.specs.Names.{IsPrefixName}
 use Rattle.owl_doc.specs.Documents.{Document as Built}

@@ -1,8 +1,8 @@
 -- Which fault of a token comes of what was found below.
 use Rattle.owl_atom.specs.declared.fault.DeclareFault.{DeclareFault}
 use Rattle.owl_atom.specs.declared.fault.DeclareFault.TheVariants as declare
-use Rattle.owl_atom.specs.declared.fault.LiteralFault.{LiteralFault}
-use Rattle.owl_atom.specs.declared.fault.LiteralFault.TheVariants as literal
+use Rattle.rdf_terms.specs.declared.fault.LiteralFault.{LiteralFault}
+use Rattle.rdf_terms.specs.declared.fault.LiteralFault.TheVariants as literal
 use Rattle.owl_maker.specs.declared.fault.MakeFault.{MakeFault}
 use Rattle.owl_maker.specs.declared.fault.MakeFault.TheVariants as make
 use Rattle.owl_reader.specs.declared.fault.Reason.TheVariants.{BadLiteral, EmptyKey, PrefixFixed, PrefixTwice}

@@ -6,7 +6,7 @@ use Rattle.std.proofs.lemmas.List.Elements.{Contains-append_right}
 use Rattle.std.proofs.lemmas.Option.{same_Some}
 use Rattle.grammar.specs.Derivations.Event.{Do}
 use Rattle.owl_atom.specs.declared.prefixes.Prefix.{Prefix}
-use Rattle.owl_atom.specs.Literals.{DenotesLiteral}
+use Rattle.rdf_terms.specs.Literals.{DenotesLiteral}
 use Rattle.owl_list.specs.AscendingLaws.{in_head}
 use Rattle.owl_reader.specs.declared.fault.TokenFault.{TokenFault}
 use Rattle.owl_tokens.specs.declared.token.Token.{Token}

@@ -3,7 +3,7 @@ use Rattle.std.specs.Prelude.{◌≡◌, ◌≢◌, ◌≤◌, ◌<◌, ◌⊎�
 use Rattle.std.specs.Str.Parse.{digits_value}
 use Rattle.grammar.specs.Derivations.{Event}
 use Rattle.owl_arena.specs.Shared.{deepest, heaviest}
-use Rattle.owl_atom.specs.Literals.{DenotesLiteral, LiteralParts}
+use Rattle.rdf_terms.specs.Literals.{DenotesLiteral, LiteralParts}
 use Rattle.owl_atom.specs.Prefixes.{expansion, fixed_prefixes, iri_of, is_fixed}
 use Rattle.owl_reader.specs.declared.fault.Reason.TheVariants as reason
 use Rattle.owl_reader.specs.declared.fault.TokenFault.{TokenFault}

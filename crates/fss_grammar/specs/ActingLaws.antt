@@ -2,7 +2,7 @@
 use Rattle.std.proofs.Common.{◌≡◌, ◌↔◌, ℕ, Bool, true, false, cond, List, [], ◌∷◌, ◌++◌, Option, Some, refl, sym, ap, ◌∙◌}
 use Rattle.std.specs.Option.{option_map}
 use Rattle.owl_atom.specs.declared.prefixes.Prefix.{Prefix}
-use Rattle.owl_atom.specs.Literals.{LiteralParts}
+use Rattle.rdf_terms.specs.Literals.{LiteralParts}
 use Rattle.owl_atom.specs.Prefixes.{prefix_in}
 use Rattle.owl_characters.specs.Order.{text_eq}
 use Rattle.owl_tokens.specs.declared.token.Token.{Token}

@@ -3,7 +3,7 @@ use Rattle.std.proofs.Common.{◌≡◌, inl, inr, ℕ, Bool, true, false, not, 
 use Rattle.std.specs.Prelude.{◌==◌}
 use Rattle.std.specs.Char.{is_ascii_alphabetic, is_ascii_alphanumeric}
 use Rattle.std.proofs.lemmas.Bool.{and_parts, cases_Bool, eqb-true, true≢false}
-use Rattle.owl_atom.specs.Literals.{DenotesLiteral, DenotesTyped, LiteralParts, PlainForm, PlainParts}
+use Rattle.rdf_terms.specs.Literals.{DenotesLiteral, DenotesTyped, LiteralParts, PlainForm, PlainParts}
 use Rattle.owl_characters.specs.CutLaws.{SameCut, found}
 use Rattle.owl_characters.specs.Iri.{AllAre}
 use Rattle.owl_characters.specs.LanguageTagLaws.{tag_to_fits}

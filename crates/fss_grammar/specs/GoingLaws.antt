@@ -6,7 +6,7 @@ use Rattle.grammar.specs.Pages.{IsIn}
 use Rattle.grammar.specs.Pages.IsIn.{first, later}
 use Rattle.grammar.specs.Pages.Named.{action, part, token as word}
 use Rattle.owl_atom.specs.declared.prefixes.Prefix.{Prefix}
-use Rattle.owl_atom.specs.Literals.{DenotesLiteral, IsLiteral, LiteralParts}
+use Rattle.rdf_terms.specs.Literals.{DenotesLiteral, IsLiteral, LiteralParts}
 use Rattle.owl_tokens.specs.declared.token.Token.{Token}
 use Rattle.owl_tokens.specs.declared.token.Token.TheVariants as token
 use Rattle.owl_tokens.specs.declared.token.Sign.TheVariants as sign

@@ -4,7 +4,7 @@ use Rattle.grammar.specs.Derivations.{Event}
 use Rattle.grammar.specs.Derivations.Event.{Do, Take}
 use Rattle.owl_characters.specs.Iri.{IsIri}
 use Rattle.owl_atom.specs.declared.prefixes.Prefix.{Prefix}
-use Rattle.owl_atom.specs.Literals.{DenotesLiteral, IsLiteral, LiteralParts}
+use Rattle.rdf_terms.specs.Literals.{DenotesLiteral, IsLiteral, LiteralParts}
 use Rattle.owl_tokens.specs.declared.token.Token.{Token}
 use Rattle.owl_tokens.specs.declared.token.Token.TheVariants as token
 use Rattle.owl_tree.specs.declared.atom.Atom.{Atom}

@@ -7,7 +7,7 @@ use Rattle.grammar.specs.Pages.{numbered}
 use Rattle.grammar.specs.Parts.{Means}
 use Rattle.owl_characters.specs.Iri.{IsIri}
 use Rattle.owl_atom.specs.declared.prefixes.Prefix.{Prefix}
-use Rattle.owl_atom.specs.Literals.{IsLiteral, LiteralParts}
+use Rattle.rdf_terms.specs.Literals.{IsLiteral, LiteralParts}
 use Rattle.owl_tokens.specs.declared.token.Token.{Token}
 use Rattle.owl_tokens.specs.declared.token.Token.TheVariants as token
 use Rattle.owl_tree.specs.declared.atom.Atom.TheVariants.{Literal}

@@ -7,7 +7,7 @@ use Rattle.owl_tokens.specs.declared.token.Token.{Token}
 use Rattle.owl_tokens.specs.declared.token.Token.TheVariants as token
 use Rattle.owl_tokens.specs.declared.token.Sign.TheVariants as sign
 use Rattle.owl_atom.specs.declared.prefixes.Prefix.{Prefix}
-use Rattle.owl_atom.specs.Literals.{DenotesLiteral, LiteralParts}
+use Rattle.rdf_terms.specs.Literals.{DenotesLiteral, LiteralParts}
 use Rattle.owl_atom.specs.Prefixes.{expansion}
 use Rattle.owl_tree.specs.declared.atom.Atom.{Atom}
 use Rattle.owl_tree.specs.declared.atom.Atom.TheVariants.{Iri, Label, Literal, Number}

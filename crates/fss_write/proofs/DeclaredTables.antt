@@ -17,7 +17,7 @@ use Rattle.owl_characters.specs.IriLaws.{written_iri}
 use Rattle.owl_characters.specs.NameLaws.{written_name}
 use Rattle.owl_atom.specs.declared.prefixes.Prefix.{Prefix}
 use Rattle.owl_atom.specs.Prefixes.{AreAscending, IsTable, fixed_prefixes, iri_of, is_fixed, prefix_in}
-use Rattle.owl_atom.specs.Vocabulary.{owl, rdf, rdfs, xsd}
+use Rattle.rdf_terms.specs.Vocabulary.{owl, rdf, rdfs, xsd}
 use Rattle.fss_terms.specs.Functional.{AreDeclarable, IsDeclarable, IsTableOf, PrefixDeclaration, declaration_of, declared_prefix}
 use Rattle.fss_write.specs.Text.{as_declared, declared_prefixes, with_prefix, written_prefixes}
 use Rattle.fss_write.specs.Parts.{HaveIris}

@@ -23,7 +23,7 @@ use Rattle.owl_characters.specs.Limit.{most_bytes}
 use Rattle.owl_characters.specs.Utf8Laws.{no_bytes}
 use Rattle.owl_atom.specs.declared.prefixes.Prefix.{Prefix}
 use Rattle.owl_atom.specs.Prefixes.{IsTable}
-use Rattle.owl_atom.specs.Vocabulary.{xsd}
+use Rattle.rdf_terms.specs.Vocabulary.{xsd}
 use Rattle.owl_tree.specs.declared.tag.Tag.{Tag}
 use Rattle.owl_tree.specs.declared.tag.Tag.TheVariants as tag
 use Rattle.owl_tree.specs.Canonical.{canonical}

@@ -17,7 +17,7 @@ use Rattle.owl_characters.specs.AsciiLaws.{ascii_chars}
 use Rattle.owl_atom.specs.declared.prefixes.Prefix.{Prefix}
 use Rattle.owl_atom.specs.Places.{IsGapFor, IsPlaceOf}
 use Rattle.owl_atom.specs.Prefixes.{AreAscending, IsTable, is_declared, is_fixed, prefix_in}
-use Rattle.owl_atom.specs.Vocabulary.{owl, rdf, rdfs, xsd}
+use Rattle.rdf_terms.specs.Vocabulary.{owl, rdf, rdfs, xsd}
 use Rattle.owl_atom.specs.PrefixLaws.{IsFound, SetsOnly, absent, contained, found, insert_at, set_at, stands, tables_are_told_by_names}
 use Rattle.fss_write.specs.Parts.{HaveIris}
 use Rattle.fss_write.specs.Text.{with_prefix, written_prefixes}

@@ -16,7 +16,7 @@ use Rattle.owl_tokens.specs.declared.token.Token.TheVariants as token
 use Rattle.owl_characters.specs.AllAreLaws.{AllAre-append, all_are}
 use Rattle.owl_text.specs.LongestTokenLaws.{sign_longest, str_longest}
 use Rattle.owl_atom.specs.declared.prefixes.Prefix.{Prefix}
-use Rattle.owl_atom.specs.Literals.{FitsTag, IsLiteral, LiteralParts, of_datatype, string, with_tag}
+use Rattle.rdf_terms.specs.Literals.{FitsTag, IsLiteral, LiteralParts, of_datatype, string, with_tag}
 use Rattle.owl_tree.specs.declared.atom.Atom.{Atom}
 use Rattle.owl_tree.specs.declared.atom.Atom.TheVariants.{Iri, Label, Literal, Number}
 use Rattle.owl_tree.specs.declared.tag.Tag.{Tag}

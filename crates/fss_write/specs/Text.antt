@@ -6,9 +6,9 @@ use Rattle.owl_characters.specs.Order.{text_cmp, text_eq}
 use Rattle.owl_tokens.specs.Tokens.{character_spelling}
 use Rattle.owl_list.specs.Ascending.{by_order}
 use Rattle.owl_atom.specs.declared.prefixes.Prefix.{Prefix}
-use Rattle.owl_atom.specs.Literals.{LiteralParts, string}
+use Rattle.rdf_terms.specs.Literals.{LiteralParts, string}
 use Rattle.owl_atom.specs.Prefixes.{fixed_prefixes, is_fixed}
-use Rattle.owl_atom.specs.Vocabulary.{owl, rdf, rdfs, xsd}
+use Rattle.rdf_terms.specs.Vocabulary.{owl, rdf, rdfs, xsd}
 use Rattle.owl_tree.specs.declared.atom.Atom.{Atom}
 use Rattle.owl_tree.specs.declared.atom.Atom.TheVariants.{Iri, Label, Literal, Number}
 use Rattle.owl_tree.specs.declared.tag.Tag.{Tag}

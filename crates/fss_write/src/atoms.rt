@@ -4,7 +4,7 @@ ghost use Rattle.std.specs.Prelude.{◌≡◌, ◌++◌, ℕ, List, codes, flat_
 ghost use Rattle.std.specs.Str.{IsCharBoundary, chars, encode_utf8_all};
 ghost use Rattle.owl_atom.specs.Prefixes.{Shortens};
 ghost use Rattle.std.specs.Fmt.{decimal};
-ghost use Rattle.owl_atom.specs.Literals.{string};
+ghost use Rattle.rdf_terms.specs.Literals.{string};
 ghost use Rattle.owl_characters.specs.Order.{text_eq};
 ghost use Rattle.owl_tokens.specs.Tokens.{character_spelling};
 ghost use Rattle.fss_write.specs.Parts.{IsTooLong};

@@ -13,7 +13,7 @@ use Rattle.owl_characters.specs.OrderLaws.{unequal}
 use Rattle.owl_characters.specs.AsciiLaws.{ascii_chars, ascii_bytes}
 use Rattle.owl_characters.specs.NameLaws.{written_name}
 use Rattle.owl_atom.specs.Prefixes.{AreAscending, IsTable, iri_of, fixed, fixed_prefixes}
-use Rattle.owl_atom.specs.Vocabulary.{owl, rdf, rdfs, xsd}
+use Rattle.rdf_terms.specs.Vocabulary.{owl, rdf, rdfs, xsd}
 use Rattle.owl_atom.specs.declared.prefixes.Prefix.{Prefix}
 
 ascending : AreAscending fixed_prefixes

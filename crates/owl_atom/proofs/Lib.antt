@@ -1,8 +1,3 @@
-pub mod Characters
-pub mod Iris
-pub mod Labels
-pub mod LanguageTags
-pub mod LiteralForms
 pub mod PrefixTables
 pub mod PrefixBlocks
 pub mod Shortening
@@ -10,9 +5,3 @@ pub mod Fronts
 pub mod ByIri
 pub mod LocalParts
 pub mod FixedPrefixes
-pub mod Words
-pub mod AsciiTexts
-pub mod DatatypeRows
-pub mod IntegerForms
-pub mod IntegerRows
-pub mod LexicalForms

@@ -8,7 +8,7 @@ use Rattle.std.specs.Str.{encode_utf8_all}
 use Rattle.owl_characters.specs.Iri.{AllAre, is_among}
 use Rattle.owl_characters.specs.Names.{IsPrefixName}
 use Rattle.owl_characters.specs.Order.{text_cmp, text_eq}
-use Rattle.owl_atom.specs.Vocabulary.{rdf, rdfs, xsd, owl}
+use Rattle.rdf_terms.specs.Vocabulary.{rdf, rdfs, xsd, owl}
 use Rattle.owl_atom.specs.declared.prefixes.Prefix.{Prefix}
 
 -- the prefix of this name

@@ -12,10 +12,10 @@ ghost use Rattle.owl_atom.specs.Places.{IsBest, first};
 ghost use Rattle.owl_atom.specs.Prefixes.{AreAscending};
 
 use crate::blocks::Blocks;
-use crate::iri::Iri;
 use crate::prefixes::{is_plain_local, longer, push};
 use owl_characters::NoMemory;
 use owl_list::arrange;
+use rdf_terms::Iri;
 use std::alloc::Global;
 
 /// The IRI of a prefix, and the place of the prefix in its table.

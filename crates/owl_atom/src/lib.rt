@@ -1,24 +1,14 @@
-//! The atoms of ontologies: IRIs, labels of anonymous individuals, literals
-//! and prefixes, and the datatypes that are built in.
+//! The atoms of ontologies: tables of prefixes, and the terms of RDF, which
+//! stand in a crate below.
 #![tactic(auto)]
 
 mod blocks;
 mod by_iri;
-mod datatypes;
 mod fault;
-mod iri;
-mod label;
-mod language;
-mod lexical;
-mod literal;
 mod prefixes;
-mod scan;
-mod vocabulary;
 
-pub use datatypes::{facet_ok, in_map, reserved};
-pub use fault::{DeclareFault, ExpandFault, IriFault, LabelFault, LiteralFault};
-pub use iri::Iri;
-pub use label::Label;
-pub use lexical::lexical_ok;
-pub use literal::Literal;
+pub use fault::{DeclareFault, ExpandFault};
 pub use prefixes::Prefixes;
+pub use rdf_terms::{
+    Iri, IriFault, Label, LabelFault, Literal, LiteralFault, facet_ok, in_map, lexical_ok, reserved,
+};

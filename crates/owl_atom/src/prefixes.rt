@@ -14,9 +14,8 @@ ghost use Rattle.owl_atom.specs.Prefixes.{prefix_in, AreAscending, IsTable, is_d
 use crate::blocks::Blocks;
 use crate::by_iri::ByIri;
 use crate::fault::{DeclareFault, ExpandFault};
-use crate::iri::Iri;
-use crate::vocabulary::{OWL, RDF, RDFS, XSD};
 use owl_characters::{NoMemory, Text};
+use rdf_terms::{Iri, OWL, RDF, RDFS, XSD};
 use std::alloc::{AllocError, Global};
 use std::marker::Model;
 

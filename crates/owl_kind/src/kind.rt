@@ -2,12 +2,12 @@
 
 ghost use Rattle.std.specs.Prelude.{◌≡◌, true, nat_eq};
 ghost use Rattle.std.specs.List.{list_all, starts_with};
-ghost use Rattle.owl_atom.specs.Datatypes.{has};
-ghost use Rattle.owl_atom.specs.Tables.{are_ascii, shown};
+ghost use Rattle.rdf_terms.specs.Datatypes.{has};
+ghost use Rattle.rdf_terms.specs.Tables.{are_ascii, shown};
 ghost use Rattle.owl_characters.specs.Iri.{is_ascii};
 ghost use Rattle.owl_kind.specs.Kinds.{is_built_in};
 
-use owl_atom::{Iri, in_map};
+use rdf_terms::{Iri, in_map};
 
 /// What an IRI may name (Structural Specification, sections 5.1 to 5.6).
 #[derive(Clone, Copy, Debug, PartialEq, Eq)]

@@ -11,7 +11,7 @@ ghost use Rattle.owl_kind.specs.Marks.{IsTable, clashes, declared_by, first_that
 
 use crate::kind::Kind;
 use crate::marks::Marks;
-use owl_atom::Iri;
+use rdf_terms::Iri;
 use owl_characters::NoMemory;
 use std::alloc::{AllocError, Global};
 use std::collections::BTreeMap;

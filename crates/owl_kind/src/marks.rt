@@ -4,7 +4,7 @@ ghost use Rattle.std.specs.Prelude.{◌≡◌};
 ghost use Rattle.owl_kind.specs.Marks.{is_marked, is_of, is_of_both, clashes, marked};
 
 use crate::kind::{Kind, built_in};
-use owl_atom::Iri;
+use rdf_terms::Iri;
 
 /// A mark for each kind as which an IRI is declared.
 #[derive(Clone, Copy, Debug)]

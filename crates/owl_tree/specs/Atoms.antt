@@ -2,7 +2,7 @@
 use Rattle.std.specs.Prelude.{◌<◌, ◌^◌}
 use Rattle.owl_characters.specs.Iri.{IsIri}
 use Rattle.owl_characters.specs.Names.{IsLabel}
-use Rattle.owl_atom.specs.Literals.{IsLiteral}
+use Rattle.rdf_terms.specs.Literals.{IsLiteral}
 use Rattle.owl_tree.specs.declared.atom.Atom.{Atom}
 use Rattle.owl_tree.specs.declared.atom.Atom.TheVariants.{Iri, Label, Literal, Number}
 

@@ -3,7 +3,7 @@ use Rattle.std.specs.declared.cmp.Ordering.{Ordering}
 use Rattle.std.specs.declared.cmp.Ordering.TheVariants.{Less, Equal, Greater}
 use Rattle.std.specs.Ordering.{nat_cmp, on, ordering_then}
 use Rattle.owl_characters.specs.Order.{text_cmp}
-use Rattle.owl_atom.specs.Literals.{literal_cmp}
+use Rattle.rdf_terms.specs.Literals.{literal_cmp}
 use Rattle.owl_tree.specs.declared.atom.Atom.{Atom}
 use Rattle.owl_tree.specs.declared.atom.Atom.TheVariants.{Iri, Label, Literal, Number}
 use Rattle.owl_tree.specs.declared.tag.Tag.{Tag}

@@ -14,9 +14,9 @@ use Rattle.std.proofs.lemmas.Cmp.{nat_cmp_total, on_total, then_total, tied_itse
 use Rattle.std.proofs.lemmas.Str.{encodes_same}
 use Rattle.owl_characters.specs.Order.{text_cmp}
 use Rattle.owl_characters.specs.OrderLaws.{equal_ties, texts_total}
-use Rattle.owl_atom.specs.Literals.{LiteralParts, literal_cmp}
-use Rattle.owl_atom.specs.LiteralLaws as literals
-use Rattle.owl_atom.specs.LiteralLaws.{total_order}
+use Rattle.rdf_terms.specs.Literals.{LiteralParts, literal_cmp}
+use Rattle.rdf_terms.specs.LiteralLaws as literals
+use Rattle.rdf_terms.specs.LiteralLaws.{total_order}
 use Rattle.owl_tree.specs.contracts.atom.Atom as atom
 use Rattle.owl_tree.specs.contracts.atom.AtomPartialEq.TheImpl as derived
 use Rattle.owl_tree.specs.declared.atom.Atom.{Atom}

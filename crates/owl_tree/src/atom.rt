@@ -12,7 +12,7 @@ ghost use Rattle.owl_tree.specs.Rows.{sort_of};
 ghost use Rattle.owl_tree.specs.OrderLaws.{atoms_total, only_equals_tie};
 
 use crate::row::AtomSort;
-use owl_atom::{Iri, Label, Literal};
+use rdf_terms::{Iri, Label, Literal};
 use owl_characters::NoMemory;
 use std::alloc::Global;
 use std::cmp::Ordering;

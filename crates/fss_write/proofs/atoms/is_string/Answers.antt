@@ -2,7 +2,7 @@ use Rattle.std.proofs.Common.{refl, sym, ◌∙◌}
 use Rattle.std.specs.Cmp.{both_ways}
 use Rattle.std.proofs.lemmas.Slice.Eq.{bytes_eq-Decides}
 use Rattle.owl_characters.specs.AsciiLaws.{from_bytes, from_characters}
-use Rattle.owl_atom.specs.Literals.{string}
+use Rattle.rdf_terms.specs.Literals.{string}
 use Rattle.fss_write.proofs.atoms.is_string.Goals as goal
 
 pub returns : goal.returns

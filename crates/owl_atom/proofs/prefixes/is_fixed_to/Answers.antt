@@ -1,6 +1,6 @@
 use Rattle.std.proofs.Common.{refl}
 use Rattle.std.specs.Prelude.{codes, []}
-use Rattle.owl_atom.specs.Vocabulary.{owl, rdf, rdfs, xsd}
+use Rattle.rdf_terms.specs.Vocabulary.{owl, rdf, rdfs, xsd}
 use Rattle.owl_atom.proofs.FixedPrefixes.{fixed_here, fixed_nowhere}
 use Rattle.owl_atom.proofs.prefixes.is_fixed_to.Goals as goal
 

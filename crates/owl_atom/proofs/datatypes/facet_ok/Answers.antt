@@ -1,8 +1,0 @@
-use Rattle.std.proofs.Common.{refl}
-use Rattle.owl_atom.specs.Datatypes.{allows_facet, bare_row, binary_row, datatype_map, ordered_row, plain_row, text_facets, text_row}
-use Rattle.owl_atom.proofs.DatatypeRows.{facet_in_rows}
-use Rattle.owl_atom.proofs.datatypes.facet_ok.Goals as goal
-
-pub returns : goal.returns
-unfolding allows_facet datatype_map ordered_row text_row text_facets plain_row binary_row bare_row
-returns c = facet_in_rows c.is_facet_in_rows.result _ c.text.result.now c.args.datatype.now c.text-2.result.now c.args.facet.now c.is_facet_in_rows.ensures c.text.ensures.bytes c.text-2.ensures.bytes refl

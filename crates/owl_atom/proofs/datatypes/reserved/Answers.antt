@@ -1,8 +1,0 @@
-use Rattle.std.proofs.Common.{refl}
-use Rattle.owl_atom.specs.Vocabulary.{is_reserved}
-use Rattle.owl_atom.proofs.AsciiTexts.{fronts_are}
-use Rattle.owl_atom.proofs.datatypes.reserved.Goals as goal
-
-pub returns : goal.returns
-unfolding is_reserved
-returns c = fronts_are c.begins_with_one_of.result _ c.text.result.now c.args.iri.now c.begins_with_one_of.ensures c.text.ensures.bytes c.text.ensures.scalars refl

@@ -1,0 +1,10 @@
+pub mod Characters
+pub mod Iris
+pub mod Labels
+pub mod LanguageTags
+pub mod LiteralForms
+pub mod AsciiTexts
+pub mod DatatypeRows
+pub mod IntegerForms
+pub mod IntegerRows
+pub mod LexicalForms

@@ -1,0 +1,10 @@
+use Rattle.std.proofs.Common.{◌≡◌, IfOk, refl, subst}
+use Rattle.rdf_terms.proofs.LiteralForms.{plain_literal_chars}
+use Rattle.rdf_terms.specs.WordLaws.{http_iri}
+use Rattle.rdf_terms.proofs.literal.plain_literal.Goals as goal
+
+pub known-requires : goal.known-requires
+known-requires c = http_iri _ refl refl
+
+pub returns : goal.returns
+returns c = subst (λ x. IfOk c.known.result (λ iri. iri ≡ x)) plain_literal_chars c.known.ensures

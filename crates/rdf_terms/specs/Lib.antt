@@ -1,0 +1,8 @@
+pub mod Characters
+pub mod Vocabulary
+pub mod WordLaws
+pub mod Literals
+pub mod LiteralLaws
+pub mod Datatypes
+pub mod Tables
+pub mod TableLaws
