@@ -1,5 +1,4 @@
 mod Lists
-mod Results
 mod Taking
 mod Tokens
 mod Streams

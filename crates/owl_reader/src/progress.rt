@@ -13,15 +13,15 @@ use crate::item::{Item, ends_item, item_start, resumes_item};
 use crate::syntax::Syntax;
 use grammar::{ParseFault, Parser};
 use owl_lexer::{Placed, TokenLanguage};
-use std::alloc::Global;
 
 /// What a parser and a syntax made of the tokens so far, and the last item.
 #[derive(Drop)]
 pub struct Progress<S: Syntax> {
-    pub alloc: Global,
     pub parser: Parser<S::Grammar>,
     pub syntax: S,
     pub last: Option<Item>,
+    /// The acts in front of the token that was taken last.
+    pub acts: Vec<u8>,
 }
 
 impl<S: Syntax> Progress<S> {
@@ -58,13 +58,13 @@ impl<S: Syntax> Progress<S> {
             → IsRefused S.Grammar.grammar S.rules steps placed.at (Some placed.token) fault) }
     {
         let Placed { token, at } = placed;
-        let mut acts = Vec::new(self.alloc);
-        if let Err(fault) = self.parser.feed(S::class_of(&token), &mut acts) {
+        self.acts.clear();
+        if let Err(fault) = self.parser.feed(S::class_of(&token), &mut self.acts) {
             return Err(self.refusal_of(fault, at));
         }
-        let start = item_start(resumes_item::<S>(&acts), self.last, at);
-        let is_whole = ends_item::<S>(&acts);
-        if let Err(fault) = self.syntax.take(&acts, Some(token)) {
+        let start = item_start(resumes_item::<S>(&self.acts), self.last, at);
+        let is_whole = ends_item::<S>(&self.acts);
+        if let Err(fault) = self.syntax.take(&self.acts, Some(token)) {
             return Err(fault.at(start, at));
         }
         self.last = Some(Item {
@@ -93,9 +93,7 @@ impl<S: Syntax> Progress<S> {
             → IsRefusedAmong S.Grammar.grammar S.rules steps tokens.items fault) }
     {
         for placed in tokens {
-            if let Err(fault) = self.take(placed) {
-                return Err(fault);
-            }
+            self.take(placed)?;
         }
         Ok(())
     }
@@ -113,12 +111,12 @@ impl<S: Syntax> Progress<S> {
             self.old.parser self.old.syntax self.old.last steps
             → IsRefused S.Grammar.grammar S.rules steps at None fault) }
     {
-        let mut acts = Vec::new(self.alloc);
-        if let Err(fault) = self.parser.finish(&mut acts) {
+        self.acts.clear();
+        if let Err(fault) = self.parser.finish(&mut self.acts) {
             return Err(self.refusal_of(fault, at));
         }
-        let start = item_start(resumes_item::<S>(&acts), self.last, at);
-        match self.syntax.take(&acts, None) {
+        let start = item_start(resumes_item::<S>(&self.acts), self.last, at);
+        match self.syntax.take(&self.acts, None) {
             Ok(()) => Ok(()),
             Err(fault) => Err(fault.at(start, at)),
         }

@@ -70,10 +70,10 @@ impl<S: Syntax> Reader<S> {
     {
         let parser = Parser::new(alloc, S::document())?;
         let progress = Progress {
-            alloc,
             parser,
             syntax,
             last: None,
+            acts: Vec::new(alloc),
         };
         Ok(Reader {
             alloc,
@@ -183,10 +183,8 @@ fn read<S: Syntax>(
 {
     let room = MOST_BYTES - fed;
     if room < piece.len() as u64 {
-        return match take(alloc, lexer, progress, &piece[..room as usize]) {
-            Ok(()) => Err(ReadFault::TooLong),
-            Err(fault) => Err(fault),
-        };
+        take(alloc, lexer, progress, &piece[..room as usize])?;
+        return Err(ReadFault::TooLong);
     }
     take(alloc, lexer, progress, piece)
 }
@@ -212,11 +210,7 @@ fn end<S: Syntax>(
 {
     let mut lexer = lexer;
     let mut progress = progress;
-    if let Err(fault) = take_last(alloc, &mut lexer, &mut progress) {
-        return Err(fault);
-    }
-    if let Err(fault) = progress.end(fed) {
-        return Err(fault);
-    }
+    take_last(alloc, &mut lexer, &mut progress)?;
+    progress.end(fed)?;
     Ok(progress.syntax)
 }

@@ -60,10 +60,10 @@ pub fn take<S: Syntax>(
     match lexer.feed(piece, &mut tokens) {
         Ok(()) => progress.take_all(tokens),
         Err(LexFault::Memory) => Err(ReadFault::Memory),
-        Err(fault) => match progress.take_all(tokens) {
-            Ok(()) => Err(refusal_of(fault, progress.last)),
-            Err(refusal) => Err(refusal),
-        },
+        Err(fault) => {
+            progress.take_all(tokens)?;
+            Err(refusal_of(fault, progress.last))
+        }
     }
 }
 
@@ -89,9 +89,9 @@ pub fn take_last<S: Syntax>(
     match lexer.finish(&mut tokens) {
         Ok(()) => progress.take_all(tokens),
         Err(LexFault::Memory) => Err(ReadFault::Memory),
-        Err(fault) => match progress.take_all(tokens) {
-            Ok(()) => Err(refusal_of(fault, progress.last)),
-            Err(refusal) => Err(refusal),
-        },
+        Err(fault) => {
+            progress.take_all(tokens)?;
+            Err(refusal_of(fault, progress.last))
+        }
     }
 }

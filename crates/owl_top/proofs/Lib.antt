@@ -1,5 +1,4 @@
 pub mod Asking
-pub mod Fed
 pub mod Outcomes
 pub mod Lines
 pub mod Answering

@@ -3,6 +3,7 @@ use Rattle.std.proofs.lemmas.List.{nil_from_length}
 use Rattle.std.specs.Vec.Iter.{into_iter_items}
 use Rattle.owl_lexer.specs.declared.placed.Placed.{Placed}
 use Rattle.owl_lexer.specs.Languages.{AreSpelled}
+use Rattle.owl_reader.specs.ResultLaws.{passed}
 use Rattle.owl_reader.proofs.Tokens.{PassesFrom, all_passed, among, can_more, passes_none, with_more}
 use Rattle.owl_reader.proofs.progress.Progress.take_all.Goals as goal
 
@@ -16,14 +17,14 @@ loop-placed-init g c = record {
 
 pub loop-placed-preserved : goal.loop-placed-preserved
 loop-placed-preserved g c = record {
-  passes = λ steps s. with_more c.in-Some.placed (subst (λ (l : List (Placed _)). PassesFrom g.S.Grammar.Table.grammar g.S.Syntax.rules g.S.Syntax.Made c.loop-placed.self.parser c.loop-placed.self.syntax c.loop-placed.self.last steps c.args.tokens.items l) c.in-Some.ensures.steps.0 (c.loop-placed.invariant.passes steps s)) c.in_default.ensures.takes;
-  stands = can_more c.loop-placed.invariant.stands c.in_default.ensures.takes;
+  passes = λ steps s. with_more c.in-Some.placed (subst (λ (l : List (Placed _)). PassesFrom g.S.Grammar.Table.grammar g.S.Syntax.rules g.S.Syntax.Made c.loop-placed.self.parser c.loop-placed.self.syntax c.loop-placed.self.last steps c.args.tokens.items l) c.in-Some.ensures.steps.0 (c.loop-placed.invariant.passes steps s)) c.in_ok-take.ensures.takes;
+  stands = can_more c.loop-placed.invariant.stands c.in_ok-take.ensures.takes;
   len = search rules;
   spelled = (subst (λ (l : List (Placed _)). AreSpelled g.S.Language.TokenLanguage.spells l) c.in-Some.ensures.steps.0 c.loop-placed.invariant.spelled).1;
 }
 
-pub returns-in-Err-clause-refuses : goal.returns-in-Err-clause-refuses
-returns-in-Err-clause-refuses g c = λ other steps s. among c.in-Some.placed c.in-Err.fault (subst (λ (l : List (Placed _)). PassesFrom g.S.Grammar.Table.grammar g.S.Syntax.rules g.S.Syntax.Made c.loop-placed.self.parser c.loop-placed.self.syntax c.loop-placed.self.last steps c.args.tokens.items l) c.in-Some.ensures.steps.0 (c.loop-placed.invariant.passes steps s)) (c.in-Err.ensures.refuses other)
+pub returns-in_err-take-clause-refuses : goal.returns-in_err-take-clause-refuses
+returns-in_err-take-clause-refuses g c = passed c.from_residual.result c.in_err-take.field-0.0 _ c.from_residual.ensures.1 (λ other steps s. among c.in-Some.placed c.in_err-take.field-0.0 (subst (λ (l : List (Placed _)). PassesFrom g.S.Grammar.Table.grammar g.S.Syntax.rules g.S.Syntax.Made c.loop-placed.self.parser c.loop-placed.self.syntax c.loop-placed.self.last steps c.args.tokens.items l) c.in-Some.ensures.steps.0 (c.loop-placed.invariant.passes steps s)) (c.in_err-take.ensures.refuses other))
 
 pub returns-clause-takes : goal.returns-clause-takes
 returns-clause-takes g c = λ steps s. all_passed (c.loop-placed.invariant.passes steps s) (nil_from_length (into_iter_items c.loop-placed.placed-iterator) (sym c.loop-placed.invariant.len ∙ c.in-None.ensures.steps.0))

@@ -2,7 +2,7 @@ use Rattle.std.proofs.Common.{sym, ap, ◌∙◌}
 use Rattle.owl_reader.specs.Defects.IsFirstDefect.{within}
 use Rattle.owl_reader.specs.Readings.{Reading}
 use Rattle.owl_reader.proofs.Reporting.{few_of, moved, now_refused}
-use Rattle.owl_reader.proofs.Results.{if_err, if_ok}
+use Rattle.std.proofs.lemmas.Result.{IfErr-weaker, IfOk-weaker}
 use Rattle.owl_reader.proofs.reader.Reader.finish.Goals as goal
 
 pub returns-in-Some-clause-refuses : goal.returns-in-Some-clause-refuses
@@ -10,12 +10,12 @@ returns-in-Some-clause-refuses g c = λ other bytes h.
     now_refused bytes c.in-Some.fault (h.refuses c.in-Some.fault (ap (λ (r : Reading _). r.refused) (sym c.self.view_is) ∙ c.in-Some.is) other)
 
 pub returns-in-None-clause-read : goal.returns-in-None-clause-read
-returns-in-None-clause-read g c = if_ok c.end.result (λ made reads bytes h.
+returns-in-None-clause-read g c = IfOk-weaker c.end.result _ _ (λ made reads bytes h.
     let here = moved _ c.args.self bytes c.self.view_is h in
     reads bytes (few_of bytes c.self.inside.fed (here.fed c.in-None.is) (c.self.invariant.1 c.in-None.is).few) (here.open_yet c.in-None.is)) c.end.ensures.read
 
 pub returns-in-None-clause-refuses : goal.returns-in-None-clause-refuses
-returns-in-None-clause-refuses g c = if_err c.end.result (λ e refuses other bytes h.
+returns-in-None-clause-refuses g c = IfErr-weaker c.end.result _ _ (λ e refuses other bytes h.
     let here = moved _ c.args.self bytes c.self.view_is h in
     let few = few_of bytes c.self.inside.fed (here.fed c.in-None.is) (c.self.invariant.1 c.in-None.is).few in
     within few (refuses other bytes (here.fed c.in-None.is) (here.open_yet c.in-None.is))) c.end.ensures.refuses
