@@ -17,8 +17,8 @@ use Rattle.fss_grammar.specs.Ready.ComesName.{short}
 use Rattle.fss_grammar.specs.declared.acts.Act.TheVariants.{DeclareName}
 use Rattle.fss_acts.specs.declared.assembler.Assembler.{Assembler}
 use Rattle.fss_acts.specs.Assembling.{Answers, IsComing, IsUnknown, May}
-use Rattle.fss_defects.specs.Faults.{ComesUnknown}
-use Rattle.fss_acts.specs.Turns.{AnswersAll, AnswersAllAt, AnswersToken, AnswersTokenAt, AreReady}
+use Rattle.fss_defects.specs.Faults.{ComesUnknown, FailsFirst, Told}
+use Rattle.fss_acts.specs.Turns.{AnswersAll, AnswersToken, AnswersTurnsAt, AreReady}
 use Rattle.fss_acts.proofs.Turning.{answers_last, may_first}
 
 module _ (acts : List ℕ) (next : Option Token) (m : Maker) (p : List Prefix) (table : IsTableOf m.document.declarations p) where
@@ -39,7 +39,7 @@ module _ (acts : List ℕ) (next : Option Token) (m : Maker) (p : List Prefix) (
       let here : Some s.iri ≡ None = sym s.comes.stands ∙ ap (iri_of_token p) same ∙ tables_agree m.document.declarations p table (token.Name u.name u.local) ∙ u.unknown in
       cc
 
-tells : (acts : List ℕ) (next : Option Token) (m : Maker) (r : Result (Unit {0}) TokenFault) (new : Assembler) → (ComesUnknown acts next m → ⊥) → AnswersAllAt acts next m r new → AnswersTokenAt acts next m r new
+tells : (acts : List ℕ) (next : Option Token) (m : Maker) (r : Result (Unit {0}) TokenFault) (new : Assembler) → (ComesUnknown acts next m → ⊥) → AnswersTurnsAt FailsFirst acts next m r new → AnswersTurnsAt Told acts next m r new
 tells acts next m (Ok done) new known all = record {
   maker = all.maker;
   act = all.act;

@@ -14,7 +14,7 @@ use Rattle.fss_grammar.specs.declared.acts.Act.{Act}
 use Rattle.fss_acts.specs.declared.assembler.Assembler.{Assembler}
 use Rattle.fss_acts.specs.Assembling.{Answers, AnswersAt, Assembles, IsComing, May, Performed}
 use Rattle.fss_defects.specs.Faults.{Fails, FailsFirst}
-use Rattle.fss_acts.specs.Turns.{AnswersAll, AnswersAllAt, AreReady, PerformedAll}
+use Rattle.fss_acts.specs.Turns.{AnswersAll, AnswersTurnsAt, AreReady, Taken}
 use Rattle.fss_acts.proofs.Tables.{coming_still}
 
 -- ---- lists of acts
@@ -71,7 +71,7 @@ module _ (acts : List ℕ) (act : Act) (x : ℕ) (others : List ℕ) (next : Opt
           coming_still old.prefixes new.prefixes act next m p.maker may.assembles.table p.assembles.table p.acts found coming,
         )
 
-    then_others : (newer : Assembler) (s : Result (Unit {0}) TokenFault) (m : Maker) (p : Performed act next m new) → AnswersAllAt others next p.maker s newer → AnswersAllAt (x ∷ others) next m s newer
+    then_others : (newer : Assembler) (s : Result (Unit {0}) TokenFault) (m : Maker) (p : Performed act next m new) → AnswersTurnsAt FailsFirst others next p.maker s newer → AnswersTurnsAt FailsFirst (x ∷ others) next m s newer
     then_others newer (Ok end) m p all = record {
       maker = all.maker;
       act = record { act = act; number_is = number; middle = p.maker; performs = p.acts; later = all.act };
@@ -84,7 +84,7 @@ module _ (acts : List ℕ) (act : Act) (x : ℕ) (others : List ℕ) (next : Opt
     answers_both newer s all m h ready =
         let all_ready = subst (λ (l : List ℕ). AreReady l next m) cut ready in
         let p = performed m h (ready_first act x others next m number all_ready) in
-        subst (λ (l : List ℕ). AnswersAllAt l next m s newer) (sym cut)
+        subst (λ (l : List ℕ). AnswersTurnsAt FailsFirst l next m s newer) (sym cut)
         (then_others newer s m p (all p.maker p.assembles (ready_others act x others next m p.maker number all_ready p.acts)))
 
   -- the first one fails
@@ -100,7 +100,7 @@ module _ (acts : List ℕ) (act : Act) (x : ℕ) (others : List ℕ) (next : Opt
 pub answers_last : (acts : List ℕ) (act : Act) (x : ℕ) (next : Option Token) → acts ≡ x ∷ [] → act_number act ≡ x → (old new : Assembler) (r : Result (Unit {0}) TokenFault) → Answers act next old r new → AnswersAll acts next old r new
 answers_last acts act x next cut number old new (Ok done) one = λ m h ready.
     let p = one m h (ready_first act x [] next m number (subst (λ (l : List ℕ). AreReady l next m) cut ready)) in
-    subst (λ (l : List ℕ). PerformedAll l next m new) (sym cut) record {
+    subst (λ (l : List ℕ). Taken FailsFirst l next m new) (sym cut) record {
       maker = p.maker;
       act = record { act = act; number_is = number; middle = p.maker; performs = p.acts; later = refl };
       assembles = p.assembles;

@@ -19,32 +19,30 @@ AreReady [] next m = Unit {0}
 AreReady (a ∷ acts) next m =
     (act : Act) × (act_number act ≡ a) × IsReady act next m × ((n : Maker) → Acts act next m n → AreReady acts next n)
 
--- the acts made this of a maker, and none could have failed
-pub record PerformedAll (acts : List ℕ) (next : Option Token) (m : Maker) (new : Assembler) : Type 0 where
+-- what is wrong with acts in front of a token
+abbrev pub Faults : Type 1
+Faults = List ℕ → Option Token → Maker → TokenFault → Type 0
+
+-- the acts made this of a maker, and nothing was wrong with them
+pub record Taken (AreAtFault : Faults) (acts : List ℕ) (next : Option Token) (m : Maker) (new : Assembler) : Type 0 where
   pub maker : Maker
   pub act : ActInTurn acts next m maker
   pub assembles : Assembles new maker
-  pub free : (f : TokenFault) → FailsFirst acts next m f → ⊥
+  pub free : (f : TokenFault) → AreAtFault acts next m f → ⊥
 
-abbrev pub AnswersAllAt : List ℕ → Option Token → Maker → Result (Unit {0}) TokenFault → Assembler → Type 0
-AnswersAllAt acts next m (Ok done) new = PerformedAll acts next m new
-AnswersAllAt acts next m (Err f) new = f ≢ fault.Memory → FailsFirst acts next m f
+abbrev pub AnswersTurnsAt : Faults → List ℕ → Option Token → Maker → Result (Unit {0}) TokenFault → Assembler → Type 0
+AnswersTurnsAt AreAtFault acts next m (Ok done) new = Taken AreAtFault acts next m new
+AnswersTurnsAt AreAtFault acts next m (Err f) new = f ≢ fault.Memory → AreAtFault acts next m f
 
--- Wherever the grammar has the acts, they are done, or the first that fails does so, or there is no memory.
+-- Wherever the grammar has the acts, they are done, or what is wrong with them is told, or there is no memory.
+abbrev pub AnswersTurns : Faults → List ℕ → Option Token → Assembler → Result (Unit {0}) TokenFault → Assembler → Type 0
+AnswersTurns AreAtFault acts next old r new =
+    (m : Maker) → Assembles old m → AreReady acts next m → AnswersTurnsAt AreAtFault acts next m r new
+
+-- the first act that fails is told
 abbrev pub AnswersAll : List ℕ → Option Token → Assembler → Result (Unit {0}) TokenFault → Assembler → Type 0
-AnswersAll acts next old r new = (m : Maker) → Assembles old m → AreReady acts next m → AnswersAllAt acts next m r new
-
--- the acts made this of a maker, and nothing could have been told
-pub record Taken (acts : List ℕ) (next : Option Token) (m : Maker) (new : Assembler) : Type 0 where
-  pub maker : Maker
-  pub act : ActInTurn acts next m maker
-  pub assembles : Assembles new maker
-  pub free : (f : TokenFault) → Told acts next m f → ⊥
-
-abbrev pub AnswersTokenAt : List ℕ → Option Token → Maker → Result (Unit {0}) TokenFault → Assembler → Type 0
-AnswersTokenAt acts next m (Ok done) new = Taken acts next m new
-AnswersTokenAt acts next m (Err f) new = f ≢ fault.Memory → Told acts next m f
+AnswersAll = AnswersTurns FailsFirst
 
 -- the same, where an unknown prefix is told before all else
 abbrev pub AnswersToken : List ℕ → Option Token → Assembler → Result (Unit {0}) TokenFault → Assembler → Type 0
-AnswersToken acts next old r new = (m : Maker) → Assembles old m → AreReady acts next m → AnswersTokenAt acts next m r new
+AnswersToken = AnswersTurns Told

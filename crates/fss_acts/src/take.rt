@@ -16,9 +16,6 @@ use owl_reader::TokenFault;
 use owl_tokens::Token;
 use owl_tree::Tag;
 
-/// The number of the act before the name of a prefix that is declared.
-const DECLARE_NAME: u8 = 85;
-
 impl Assembler {
     /// Does the acts in front of this token or of the end. That a prefix is
     /// unknown is told before all else.
@@ -98,5 +95,5 @@ fn act_of(number: u8) -> Act
 fn is_naming(acts: &[u8]) -> bool
     ensures { IsTrue result ↔ (acts.now ≡ act_number Act.DeclareName ∷ []) }
 {
-    acts == [DECLARE_NAME].as_slice()
+    acts == [Act::DeclareName.number()].as_slice()
 }

@@ -44,6 +44,30 @@ pub enum Act {
 }
 
 impl Act {
+    /// The number of the act, by which tables have it.
+    pub fn number(self) -> u8
+        ensures { result ≡ act_number self }
+    {
+        match self {
+            Act::Begin(tag) => tag.number(),
+            Act::Shut => 78,
+            Act::Plain => 79,
+            Act::Tagged => 80,
+            Act::Typed => 81,
+            Act::Hold => 82,
+            Act::HeldProperty => 83,
+            Act::HeldDatatype => 84,
+            Act::DeclareName => 85,
+            Act::DeclareIri => 86,
+            Act::OntologyIri => 87,
+            Act::VersionIri => 88,
+            Act::ImportIri => 89,
+            Act::AddAnnotation => 90,
+            Act::AddAxiom => 91,
+            Act::EndItem => 92,
+        }
+    }
+
     /// The act with this number: of a tag that begins the number of the tag.
     pub fn numbered(number: u8) -> Option<Act>
         ensures some { IfSome result (λ act. act_number act ≡ number) }
