@@ -18,7 +18,7 @@ use Rattle.owl_tree.specs.Frames.{Frame, opened, tree_of, with_kid}
 use Rattle.owl_tree.specs.Ontologies.{Head, Ontology, OntologyName}
 use Rattle.owl_tree.specs.Rows.{Row, Leaf, Node, is_of_sort, row_of}
 use Rattle.owl_tree.specs.Shape.{HasKeyProperty}
-use Rattle.owl_tree.specs.Trees.{Tree, kids_of, leaf, node}
+use Rattle.owl_tree.specs.Trees.{Tree, leaf}
 use Rattle.fss_terms.specs.Functional.{PrefixDeclaration}
 use Rattle.fss_terms.specs.Terms.{BeginsAtom, iri_of_token}
 use Rattle.fss_grammar.specs.Acts.{act_number}

@@ -1,5 +1,5 @@
 -- What each alternative of a rule for items of a document means.
-use Rattle.std.proofs.Common.{◌≡◌, true, false, ◌&&◌, List, [], ◌∷◌, ◌++◌, codes, filter, flat_map, Option, Some, None, refl, sym, ap, ◌∙◌, subst, subst₂, append_assoc, true≢false}
+use Rattle.std.proofs.Common.{◌≡◌, true, false, ◌&&◌, List, [], ◌∷◌, ◌++◌, codes, filter, flat_map, Option, Some, None, refl, sym, subst, subst₂, append_assoc, true≢false}
 use Rattle.grammar.specs.Derivations.Event.{Do, Take}
 use Rattle.grammar.specs.Pages.{IsIn}
 use Rattle.grammar.specs.Pages.IsIn.{first, later}

@@ -11,8 +11,8 @@ ghost use Rattle.owl_kind.specs.Marks.{IsTable, clashes, declared_by, first_that
 
 use crate::kind::Kind;
 use crate::marks::Marks;
-use rdf_terms::Iri;
 use owl_characters::NoMemory;
+use rdf_terms::Iri;
 use std::alloc::{AllocError, Global};
 use std::collections::BTreeMap;
 use std::marker::Model;

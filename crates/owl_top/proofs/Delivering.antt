@@ -3,13 +3,13 @@ use Rattle.std.proofs.Common.{Result, Ok, Err, OnOk, OnErr, ◌≡◌, ◌≢◌
 use Rattle.std.specs.List.{AllByRecursion}
 use Rattle.std.proofs.lemmas.List.{append-nil}
 use Rattle.std.proofs.Math.Seq.{take-length}
-use Rattle.owl_top.specs.Commands.{Asks, HasNoCommand, IsAmong, Name, Request, names_of}
-use Rattle.owl_top.specs.Outcome.{Becomes, IsFaulty, IsFirstFaulty, IsFrontNoted, IsFrontOfNote, IsFrontTaken, IsFrontWritten, IsLine, IsNoted, IsNotedAlone, IsOutcome, IsQuiet, IsSettled, IsSuccess, IsTheOutcome, IsWritten, LineFor, Outcome, of_asked, of_memory, of_words, of_write_fault, refused}
-use Rattle.owl_top.specs.Answers.{HasNoText, IsAnswered, IsFound, IsTaken, IsWrittenFor, Rises, Shelves, delivered_line}
-use Rattle.owl_top.specs.declared.status.Status.{Status}
-use Rattle.owl_top.specs.declared.status.Status.TheVariants.{Done, No, Words, Document as NoDocument, Target, Limit, ReadFailed, WriteFailed, Memory}
-use Rattle.owl_top.proofs.Lines.{fault_in}
-use Rattle.owl_top.proofs.Outcomes.{no_command_the, outcome_the, same_request}
+use Rattle.owl_command.specs.Commands.{Asks, HasNoCommand, IsAmong, Name, Request, names_of}
+use Rattle.owl_answer.specs.Outcome.{Becomes, IsFaulty, IsFirstFaulty, IsFrontNoted, IsFrontOfNote, IsFrontTaken, IsFrontWritten, IsLine, IsNoted, IsNotedAlone, IsOutcome, IsQuiet, IsSettled, IsSuccess, IsTheOutcome, IsWritten, LineFor, Outcome, of_asked, of_memory, of_words, of_write_fault, refused}
+use Rattle.owl_answer.specs.Answers.{HasNoText, IsAnswered, IsFound, IsTaken, IsWrittenFor, Rises, Shelves, delivered_line}
+use Rattle.owl_command.specs.declared.status.Status.{Status}
+use Rattle.owl_command.specs.declared.status.Status.TheVariants.{Done, No, Words, Document as NoDocument, Target, Limit, ReadFailed, WriteFailed, Memory}
+use Rattle.owl_top.proofs.Causes.{fault_in}
+use Rattle.owl_top.proofs.Requests.{no_command_the, outcome_the, same_request}
 
 -- what was put is a front of what was to be put, also where it is all
 pub front_of : {T E : Type 0} (r : Result T E) (before after line : List ℕ) → OnOk r (after ≡ before ++ line) → OnErr r ((n : ℕ) × (n < length line) × (after ≡ before ++ take n line)) → (n : ℕ) × (after ≡ before ++ take n line)

@@ -1,5 +1,3 @@
-pub mod Asking
-pub mod Outcomes
-pub mod Lines
-pub mod Answering
+pub mod Causes
+pub mod Requests
 pub mod Delivering

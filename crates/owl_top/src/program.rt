@@ -3,15 +3,13 @@
 ghost use Rattle.std.specs.Prelude.{◌≡◌, ◌≢◌, ◌++◌, ◌↔◌, ◌⊎◌, ℕ, List, Some, [], map, take, string_bytes, IsTrue, IfOk};
 ghost use Rattle.std.specs.List.{AllByRecursion};
 ghost use Rattle.owl_port.specs.Outside.{Rose};
-ghost use Rattle.owl_top.specs.Commands.{AreDistinct, Asks, HasItsNames, HasNoCommand, Name, Request, names_of, request_of};
-ghost use Rattle.owl_top.specs.Outcome.{Becomes, IsFaulty, IsFirstFaulty, IsFrontNoted, IsFrontOfNote, IsFrontTaken, IsFrontWritten, IsLine, IsNoted, IsNotedAlone, IsOutcome, IsQuiet, IsReadBack, IsSettled, IsSuccess, IsTheOutcome, IsWritten, LineFor, Outcome};
-ghost use Rattle.owl_top.specs.Answers.{IsProper, IsTaken, IsWrittenFor, delivered_line, outcome_of};
+ghost use Rattle.owl_command.specs.Commands.{AreDistinct, Asks, HasItsNames, HasNoCommand, Name, Request, names_of, request_of};
+ghost use Rattle.owl_answer.specs.Outcome.{Becomes, IsFaulty, IsFirstFaulty, IsFrontNoted, IsFrontOfNote, IsFrontTaken, IsFrontWritten, IsLine, IsNoted, IsNotedAlone, IsOutcome, IsQuiet, IsReadBack, IsSettled, IsSuccess, IsTheOutcome, IsWritten, LineFor, Outcome};
+ghost use Rattle.owl_answer.specs.Answers.{IsProper, IsTaken, IsWrittenFor, delivered_line, outcome_of};
 
-use crate::answer::Answer;
-use crate::command::{Command, WordsFault};
-use crate::request::answer_to;
-use crate::status::Status;
+use owl_answer::{Answer, answer_to};
 use owl_characters::NoMemory;
+use owl_command::{Command, Status, WordsFault};
 use owl_port::{Failed, Shelf, Sink, put_all};
 use std::alloc::Global;
 
@@ -162,7 +160,7 @@ pub fn run<S: Shelf, O: Sink, N: Sink>(
         ((outcome : Outcome) × IsTheOutcome (IsOutcome (map string_bytes words.now) (S.left shelf.old)) outcome × (result ≡ outcome.status))
         ⊎ (result ≡ Status.Memory) }
 {
-    match crate::command::words(alloc, words) {
+    match owl_command::words(alloc, words) {
         Ok(command) => obey(alloc, &command, shelf, out, note),
         Err(WordsFault::Words) => {
             tell(note, "words\n");

@@ -12,8 +12,8 @@ ghost use Rattle.owl_tree.specs.Rows.{sort_of};
 ghost use Rattle.owl_tree.specs.OrderLaws.{atoms_total, only_equals_tie};
 
 use crate::row::AtomSort;
-use rdf_terms::{Iri, Label, Literal};
 use owl_characters::NoMemory;
+use rdf_terms::{Iri, Label, Literal};
 use std::alloc::Global;
 use std::cmp::Ordering;
 

@@ -1,0 +1,63 @@
+//! What a run answers, before anything is written.
+
+ghost use Rattle.std.specs.Prelude.{◌≡◌, [], string_bytes, IfOk, IsErr};
+ghost use Rattle.std.specs.Str.{encode_utf8_all};
+ghost use Rattle.owl_answer.specs.Outcome.{too_long_output};
+ghost use Rattle.owl_answer.specs.Answers.{outcome_of};
+
+use owl_characters::{NoMemory, Text};
+use owl_command::Status;
+use std::alloc::{AllocError, Global};
+
+/// The status of a run, the text for the output, which is empty unless all is well, and the line for the note.
+#[derive(Debug, Drop)]
+pub struct Answer {
+    pub status: Status,
+    pub text: Text,
+    pub line: String,
+}
+
+/// An answer that writes its line and nothing else.
+pub fn refused(
+    alloc: Global,
+    status: Status,
+    line: Result<String, AllocError>,
+) -> Result<Answer, NoMemory>
+    ensures ok { IfOk result (λ answer. IfOk line (λ text. outcome_of answer ≡ record { status = status; text = []; line = string_bytes text })) }
+    ensures only { IsErr line → IsErr result }
+{
+    Ok(Answer {
+        status,
+        text: Text::new(alloc),
+        line: line?,
+    })
+}
+
+/// An answer that writes a text, and a line.
+pub fn told(alloc: Global, status: Status, text: Text, line: &str) -> Result<Answer, NoMemory>
+    ensures { IfOk result (λ answer. outcome_of answer ≡ record { status = status; text = encode_utf8_all text; line = line.now }) }
+{
+    Ok(Answer {
+        status,
+        text,
+        line: String::from_str(alloc, line)?,
+    })
+}
+
+/// An answer that writes the same line as a text and to the note.
+pub fn said(alloc: Global, status: Status, line: &str) -> Result<Answer, NoMemory>
+    ensures { IfOk result (λ answer. outcome_of answer ≡ record { status = status; text = line.now; line = line.now }) }
+{
+    told(alloc, status, Text::of(alloc, line)?, line)
+}
+
+/// The answer where the text would have more than 2^27 bytes.
+pub fn too_long_output(alloc: Global) -> Result<Answer, NoMemory>
+    ensures { IfOk result (λ answer. outcome_of answer ≡ too_long_output) }
+{
+    refused(
+        alloc,
+        Status::Limit,
+        format!(in alloc; "limit: OutputBytes: output\n"),
+    )
+}

@@ -1,0 +1,8 @@
+//! What the words of the command line ask for, and the statuses with which the program ends.
+#![tactic(auto)]
+
+mod command;
+mod status;
+
+pub use command::{Command, Target, WordsFault, words};
+pub use status::Status;
