@@ -78,9 +78,7 @@ impl Reader {
             → HasRead self bytes → IsFirstDefect bytes fault) }
         ensures same { (fault : ReadFault) → self.refused ≡ Some fault → result ≡ Err fault }
     {
-        match self.shell.finish() {
-            Ok(assembler) => Ok(assembler.finish()),
-            Err(fault) => Err(fault),
-        }
+        let assembler = self.shell.finish()?;
+        Ok(assembler.finish())
     }
 }

@@ -93,8 +93,8 @@ impl Table {
         if more <= self.spare() {
             return Ok(());
         }
-        self.nodes.reserve(more)?;
-        let buckets = self.nodes.capacity();
+        self.nodes.reserve(more.saturating_add(1))?;
+        let buckets = odd_at_most(self.nodes.capacity());
         self.nexts.reserve(buckets - self.nexts.len())?;
         let mut heads = vec![in *self.heads.allocator(); 0; buckets]?;
         link_all(&self.nodes, &mut heads, &mut self.nexts);
@@ -114,6 +114,24 @@ impl Table {
         self.nodes.push(node).unwrap();
         self.nexts.push(0).unwrap();
         link(&mut self.heads, &mut self.nexts, place, mix);
+    }
+}
+
+/// The greatest odd number up to this one.
+///
+/// Nodes over kids at places that follow one another have mixes that lie a
+/// multiple of four apart, and would leave most of an even number of buckets
+/// empty.
+fn odd_at_most(number: usize) -> usize
+    requires { 0 < number }
+    ensures most { result ≤ number }
+    ensures near { number ≤ result + 1 }
+    ensures some { 0 < result }
+{
+    if number.is_multiple_of(2) {
+        number - 1
+    } else {
+        number
     }
 }
 

@@ -1,8 +1,11 @@
--- Numbers in a list and in a set.
-use Rattle.std.proofs.Common.{◌≡◌, ◌↔◌, ◌||◌, inl, inr, ℕ, Bool, true, false, List, [], ◌∷◌, ◌++◌, IsTrue, cond, nat_eq, refl, sym, ap, ◌∙◌, subst}
+-- Numbers in a list and as marks.
+use Rattle.std.proofs.Common.{◌≡◌, ◌<◌, ◌↔◌, ◌||◌, length, inl, inr, ℕ, Bool, true, false, List, [], ◌∷◌, ◌++◌, IsTrue, cond, nat_eq, refl, sym, ap, ◌∙◌, subst}
 use Rattle.std.specs.Cmp.{nat_eq_equiv}
 use Rattle.std.specs.List.{Contains, list_any}
-use Rattle.std.proofs.lemmas.Bool.{eqb-true}
+use Rattle.std.specs.Prelude.{slice_index_or, slice_set}
+use Rattle.std.proofs.lemmas.Bool.{eqb-true, false≢true}
+use Rattle.std.proofs.lemmas.List.{get_or-set_other}
+use Rattle.std.proofs.lemmas.Grind.{get_or-set_at}
 use Rattle.std.proofs.lemmas.List.Elements.{Contains-append_cases}
 use Rattle.std.proofs.lemmas.List.Folds.{list_any-append}
 use Rattle.std.proofs.lemmas.Map.Views.{Contains-from_any, list_any-from_Contains}
@@ -20,7 +23,15 @@ by_test false true c e = cc
 by_test false false true e = refl
 by_test false false false e = refl
 
--- the set after one more number is put into it
+-- the marks after one more
+pub mark_put : (marks : List Bool) (id q : ℕ) → id < length marks → slice_index_or (slice_set marks id true) q false ≡ cond (nat_eq id q) true (slice_index_or marks q false)
+mark_put marks id q h = by_equality (nat_eq id q) refl
+  where
+    by_equality : (same : Bool) → nat_eq id q ≡ same → slice_index_or (slice_set marks id true) q false ≡ cond same true (slice_index_or marks q false)
+    by_equality true e = get_or-set_at marks id q true false (sym (eqb-true id q e)) h
+    by_equality false e = get_or-set_other marks id q true false (λ f. false≢true (sym e ∙ subst (λ (n : ℕ). nat_eq id n ≡ true) (sym f) (nat_eq_equiv.refl id)))
+
+-- what is told after one more number is put in
 pub known_pushed : (ids : List ℕ) (id : ℕ) (old new : ℕ → Bool) → ((q : ℕ) → old q ≡ list_any (nat_eq q) ids) → ((q : ℕ) → new q ≡ cond (nat_eq id q) true (old q)) → (q : ℕ) → new q ≡ list_any (nat_eq q) (ids ++ id ∷ [])
 known_pushed ids id old new before after q =
     after q

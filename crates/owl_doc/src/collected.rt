@@ -1,20 +1,19 @@
 //! Numbers of trees as they come, each once.
 
-ghost use Rattle.std.specs.Prelude.{◌≡◌, ◌↔◌, ◌++◌, ◌∷◌, [], Contains, IsTrue, OnOk, OnErr};
+ghost use Rattle.std.specs.Prelude.{◌≡◌, ◌↔◌, ◌<◌, ◌^◌, ◌++◌, ◌∷◌, [], ℕ, Contains, IsTrue, OnOk, OnErr, false, length, slice_index_or};
 ghost use Rattle.owl_list.specs.Ascending.{AreApart};
 
 use owl_arena::ExprId;
 use owl_characters::NoMemory;
 use std::alloc::{AllocError, Global};
-use std::collections::HashSet;
 use std::marker::Model;
 
 /// Numbers in the order in which they came, each once, which contracts see as
-/// their list.
+/// their list. Each has a mark at its place.
 #[derive(Drop)]
 pub struct Collected {
     ids: Vec<ExprId>,
-    known: HashSet<ExprId>,
+    marks: Vec<bool>,
 }
 
 impl Model for Collected {
@@ -36,7 +35,7 @@ impl Collected {
     {
         Collected {
             ids: Vec::new(alloc),
-            known: HashSet::new(alloc),
+            marks: Vec::new(alloc),
         }
     }
 
@@ -45,7 +44,7 @@ impl Collected {
         ensures has { IsTrue result ↔ Contains self.now id }
         ensures once { AreApart self.now }
     {
-        self.known.contains(&id)
+        is_marked(&self.marks, id.place())
     }
 
     /// Adds a number that is not among them. Where the call refuses, nothing
@@ -56,7 +55,8 @@ impl Collected {
         ensures err { OnErr result (self.new ≡ self.old) }
     {
         self.ids.reserve(1)?;
-        self.known.insert(id).map_err(AllocError::from)?;
+        make_room(&mut self.marks, id.place())?;
+        self.marks[id.place()] = true;
         self.ids.push(id).unwrap();
         Ok(())
     }
@@ -68,4 +68,24 @@ impl Collected {
     {
         self.ids
     }
+}
+
+/// Whether there is a mark at this place.
+fn is_marked(marks: &[bool], place: usize) -> bool
+    ensures { result ≡ slice_index_or marks.now place false }
+{
+    place < marks.len() && marks[place]
+}
+
+/// Makes the marks go as far as this place, which changes none.
+fn make_room(marks: &mut Vec<bool>, place: usize) -> Result<(), AllocError>
+    requires { place < 2 ^ 32 }
+    ensures room { OnOk result (place < length marks.new.items) }
+    ensures same { (k : ℕ) →
+        slice_index_or marks.new.items k false ≡ slice_index_or marks.old.items k false }
+{
+    if marks.len() <= place {
+        marks.resize(place + 1, false)?;
+    }
+    Ok(())
 }

@@ -1,7 +1,6 @@
 -- An item of an ontology while it is written: constructs that are open, as they are written, and the whole item.
-use Rattle.std.specs.Prelude.{◌≡◌, ◌≤◌, ◌+◌, Bool, true, false, ◌&&◌, ◌||◌, IsTrue, List, [], ◌∷◌, ◌++◌, drop, length, map}
+use Rattle.std.specs.Prelude.{◌≤◌, ◌+◌, Bool, true, false, ◌&&◌, ◌||◌, List, [], ◌∷◌, length}
 use Rattle.owl_arena.specs.Shared.{deepest}
-use Rattle.owl_tree.specs.declared.tag.Tag.{Tag}
 use Rattle.owl_tree.specs.Frames.{Frame, tree_of, with_kid}
 use Rattle.owl_tree.specs.Rows.{is_group}
 use Rattle.owl_tree.specs.Shape.{AreShaped, IsShaped}
