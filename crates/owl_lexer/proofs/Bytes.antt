@@ -1,14 +1,14 @@
 -- What a byte makes of what is in hand.
-use Rattle.std.proofs.Common.{◌≡◌, ◌↔◌, ◌⊎◌, inl, inr, ℕ, ◌+◌, ◌<◌, Bool, true, false, Option, None, Some, List, [], ◌∷◌, ◌++◌, length, refl, sym, ap, ◌∙◌, subst, arith, add-zero, if◌then◌else◌}
-use Rattle.std.proofs.Common.{Result, Ok, Err}
-use Rattle.std.specs.Prelude.{◌&&◌, OnOk, IfErr}
-use Rattle.owl_characters.specs.declared.utf8_step.BadUtf8.{BadUtf8 as Fault}
+use Rattle.std.proofs.Common.{◌≡◌, ◌↔◌, ◌⊎◌, inl, inr, ℕ, ◌+◌, ◌<◌, ◌≤◌, Bool, true, false, Option, None, Some, List, [], ◌∷◌, ◌++◌, length, refl, sym, ap, ◌∙◌, subst, arith, add-zero, if◌then◌else◌}
+use Rattle.std.specs.Prelude.{◌&&◌}
 use Rattle.std.specs.Char.{IsScalar, encode_utf8, len_utf8}
 use Rattle.std.specs.Str.{encode_utf8_all}
 use Rattle.std.proofs.lemmas.Bool.{and_parts, eqb-true}
 use Rattle.std.proofs.lemmas.List.{append_assoc, append-nil, length-append}
-use Rattle.std.proofs.lemmas.Str.{length-encode}
-use Rattle.owl_characters.specs.Feeding.{BeginsNone, Feeding, IsUnfinished}
+use Rattle.std.proofs.lemmas.Str.{encode_ascii, length-encode}
+use lib.Utf8.{low_scalar}
+use Rattle.owl_characters.specs.Feeding.{BeginsNone, Feeding, IsUnfinished, Steps}
+use Rattle.owl_characters.specs.declared.utf8_step.Utf8Step.TheVariants.{Char}
 use Rattle.owl_characters.specs.Utf8.{behind_mark, is_mark, mark_size}
 use Rattle.owl_characters.specs.Utf8.{BeginsNoCharacter, Decodes, size}
 use Rattle.owl_characters.specs.Utf8Laws.{no_bytes}
@@ -85,7 +85,7 @@ takes_unfinished a value hand old new fresh b before r u e =
     let sizes : length new.held ≡ length old.held + 1 = ap (λ (l : List ℕ). length l) held ∙ length-append old.held (b ∷ []) in
     let begun : BegunBytes = record { at = hand.at; held = hand.held.items; bytes = old.held; fresh = fresh } in
     record {
-      ready = record { ready = r.ready; place = r.place ∙ sym at; clean = ap (λ (f : Feeding). f.bad) e; first = r.first; start = r.start; part = inr (subst IsUnfinished (sym held) u) };
+      ready = record { ready = r.ready; place = let place = r.place in omega arith; clean = ap (λ (f : Feeding). f.bad) e; first = r.first; start = r.start; part = inr (subst IsUnfinished (sym held) u) };
       adds = record {
         given = [];
         added = sym (append-nil before);
@@ -158,7 +158,23 @@ ends_whole a old b c given fault w g more =
 pub record FeedsWhole (old new : Feeding) (b c : ℕ) : Type 0 where
   pub scalar : IsScalar c
   pub is : encode_utf8 c ≡ old.held ++ b ∷ []
-  pub feed : new ≡ record { at = old.at + len_utf8 c; held = []; bad = false }
+  pub at : new.at ≤ old.at + len_utf8 c
+  pub held : new.held ≡ []
+  pub clean : new.bad ≡ false
+
+-- as the feed tells it
+pub fed_whole : (old new : Feeding) (b c at : ℕ) → Steps old b (Char c at) new → FeedsWhole old new b c
+fed_whole old new b c at s =
+    let place : new.at ≡ old.at + len_utf8 c = ap (λ (x : Feeding). x.at) s.3 in
+    record { scalar = s.1; is = s.2; at = omega arith; held = ap (λ (x : Feeding). x.held) s.3; clean = ap (λ (x : Feeding). x.bad) s.3 }
+
+-- a byte of ASCII, which the feed isn't told
+pub ascii_whole : (feed : Feeding) (b c : ℕ) → c ≡ b → b < 128 → feed.held ≡ [] → feed.bad ≡ false → FeedsWhole feed feed b c
+ascii_whole feed b c e small none clean = subst (FeedsWhole feed feed b) (sym e)
+    (record { scalar = low_scalar b (omega arith); is = encode_ascii b small ∙ ap (λ (l : List ℕ). l ++ b ∷ []) (sym none); at = omega arith; held = none; clean = clean })
+
+pub no_mark_plain : (fresh : Bool) (c : ℕ) → fresh ≡ false → (fresh && is_mark c) ≡ false
+no_mark_plain fresh c e = ap (λ (b : Bool). b && is_mark c) e
 
 -- how many bytes the character takes
 width : (old new : Feeding) (b c : ℕ) → FeedsWhole old new b c → len_utf8 c ≡ length old.held + 1
@@ -166,8 +182,8 @@ width old new b c f = sym (length-encode c) ∙ ap (λ (l : List ℕ). length l)
 
 pub takes_whole : {T : Type 0} → (a : Automaton) (value : ℕ → List ℕ → Option T) (old new : Source) (b c : ℕ) (before after : List (Placed T)) → IsOpen a old → FeedsWhole old.feed new.feed b c → (old.fresh && is_mark c) ≡ false → new.fresh ≡ false → Takes a value old.hand (c ∷ []) before after new.hand → TakesBytes a value old (b ∷ []) before after new
 takes_whole a value old new b c before after r f plain_c fresh t =
-    let at : new.feed.at ≡ old.feed.at + len_utf8 c = ap (λ (x : Feeding). x.at) f.feed in
-    let held : new.feed.held ≡ [] = ap (λ (x : Feeding). x.held) f.feed in
+    let at = f.at in
+    let held = f.held in
     let nothing : length new.feed.held ≡ 0 = ap (λ (l : List ℕ). length l) held in
     let takes = width old.feed new.feed b c f in
     let place = r.place in
@@ -179,7 +195,7 @@ takes_whole a value old new b c before after r f plain_c fresh t =
     let gives = gives_whole a (begun_in old) b c t.adds.given (begun_of new.hand) whole t.adds.gives in
     let begun : whole_behind (begun_of new.hand) ≡ begun_in new = λ i. record { at = new.hand.at; held = new.hand.held.items; bytes = sym held i; fresh = sym fresh i } in
     record {
-      ready = record { ready = t.ready; place = omega arith; clean = ap (λ (x : Feeding). x.bad) f.feed; first = λ e. let no : true ≡ false = sym e ∙ fresh in cc; start = λ e. let no : true ≡ false = sym e ∙ fresh in cc; part = inl held };
+      ready = record { ready = t.ready; place = omega arith; clean = f.clean; first = λ e. let no : true ≡ false = sym e ∙ fresh in cc; start = λ e. let no : true ≡ false = sym e ∙ fresh in cc; part = inl held };
       adds = record { given = t.adds.given; added = t.adds.added; gives = subst (GivesBytes a (begun_in old) (b ∷ []) t.adds.given) begun gives };
       few = omega arith;
       end = omega arith;
@@ -197,8 +213,8 @@ refuses_whole a value old new b c before after fault r f plain_c t =
 -- a byte order mark in front is passed over
 
 -- where nothing is held, no lexeme stands in front
-moved_front : (a : Automaton) (hand : Hand) → hand.held.items ≡ [] → IsReady a hand → IsFrontOf a (hand.at + 3) hand.held.items hand.front
-moved_front a hand none r = front_at hand.front r.front
+moved_front : (a : Automaton) (hand : Hand) → hand.held.items ≡ [] → IsFrontOf a hand.at hand.held.items hand.front → IsFrontOf a (hand.at + 3) hand.held.items hand.front
+moved_front a hand none f = front_at hand.front f
   where
     front_at : (front : Option Front) → IsFrontOf a hand.at hand.held.items front → IsFrontOf a (hand.at + 3) hand.held.items front
     front_at None f = f
@@ -231,8 +247,8 @@ takes_mark a value old new b c before r f passes fresh moved =
     let both = and_parts old.fresh (is_mark c) passes in
     let none = r.first both.0 in
     let width_is : len_utf8 c ≡ 3 = ap len_utf8 (eqb-true c 65279 both.1) in
-    let feed_at : new.feed.at ≡ old.feed.at + len_utf8 c = ap (λ (x : Feeding). x.at) f.feed in
-    let feed_held : new.feed.held ≡ [] = ap (λ (x : Feeding). x.held) f.feed in
+    let feed_at = f.at in
+    let feed_held = f.held in
     let nothing : length new.feed.held ≡ 0 = ap (λ (l : List ℕ). length l) feed_held in
     let takes = width old.feed new.feed b c f in
     let at : new.hand.at ≡ old.hand.at + 3 = ap (λ (h : Hand). h.at) moved in
@@ -246,9 +262,9 @@ takes_mark a value old new b c before r f passes fresh moved =
     let last : record { at = old.hand.at + 3; held = []; bytes = []; fresh = false } ≡ begun_in new = λ i. record { at = sym at i; held = sym (held ∙ none) i; bytes = sym feed_held i; fresh = sym fresh i } in
     record {
       ready = record {
-        ready = subst (IsReady a) (sym moved) (record { leads = r.ready.leads; front = moved_front a old.hand none r.ready; end = omega arith; scalars = r.ready.scalars });
+        ready = subst (IsReady a) (sym moved) (record { leads = r.ready.leads; front = λ k. moved_front a old.hand none (r.ready.front k); end = omega arith; scalars = r.ready.scalars });
         place = omega arith;
-        clean = ap (λ (x : Feeding). x.bad) f.feed;
+        clean = f.clean;
         first = λ e. held ∙ none;
         start = λ e. let no : true ≡ false = sym e ∙ fresh in cc;
         part = inl feed_held;
@@ -288,10 +304,10 @@ bad_stops a place [] some = absurd (omega arith)
 bad_stops a place (b ∷ bytes) some = refl
 
 -- the place behind the characters in hand is where the next one begins
-place_of : (a : Automaton) (source : Source) (at : ℕ) → IsOpen a source → at ≡ source.feed.at → at ≡ end_of (begun_of source.hand)
-place_of a source at r e = let place = r.place in let end = r.ready.end in omega arith
+place_of : (a : Automaton) (source : Source) (at : ℕ) → IsOpen a source → at ≡ source.hand.end → at ≡ end_of (begun_of source.hand)
+place_of a source at r e = e ∙ r.ready.end
 
-bad_ending : (a : Automaton) (source : Source) (at : ℕ) (bytes : List ℕ) → IsOpen a source → at ≡ source.feed.at → 0 < length bytes → Stops (Spells a) (end_of (begun_of source.hand)) [] bytes (Some (BadUtf8 at))
+bad_ending : (a : Automaton) (source : Source) (at : ℕ) (bytes : List ℕ) → IsOpen a source → at ≡ source.hand.end → 0 < length bytes → Stops (Spells a) (end_of (begun_of source.hand)) [] bytes (Some (BadUtf8 at))
 bad_ending a source at bytes r e some = subst (λ (p : ℕ). Stops (Spells a) p [] bytes (Some (BadUtf8 at))) (place_of a source at r e) (bad_stops a at bytes some)
 
 some_bytes : (front : List ℕ) (b : ℕ) (more : List ℕ) → 0 < length (front ++ b ∷ more)
@@ -301,7 +317,7 @@ ends_some_bytes : (a : Automaton) (old : BegunBytes) (bytes : List ℕ) (xs : Li
 ends_some_bytes a old bytes xs fault h more lexemes e k =
     ([], (same_continues_bytes a old (bytes ++ more) lexemes xs e (Some fault) k (h more)).lexemes ∙ sym (append-nil xs))
 
-pub refuses_bad : {T : Type 0} → (a : Automaton) (value : ℕ → List ℕ → Option T) (old : Source) (hand : Hand) (b at : ℕ) (before after : List (Placed T)) → IsOpen a old → at ≡ old.feed.at → BeginsNone (old.feed.held ++ b ∷ []) → Finishes a value old.hand before after hand → RefusesBytes a value (begun_in old) (b ∷ []) before after (BadUtf8 at)
+pub refuses_bad : {T : Type 0} → (a : Automaton) (value : ℕ → List ℕ → Option T) (old : Source) (hand : Hand) (b at : ℕ) (before after : List (Placed T)) → IsOpen a old → at ≡ old.hand.end → BeginsNone (old.feed.held ++ b ∷ []) → Finishes a value old.hand before after hand → RefusesBytes a value (begun_in old) (b ∷ []) before after (BadUtf8 at)
 refuses_bad a value old hand b at before after r e n f =
     let ends : EndsBytesAt a (begun_in old) (b ∷ []) f.adds.given (BadUtf8 at) = λ more.
     last_bytes a (begun_in old) (b ∷ more) f.adds.given (Some (BadUtf8 at)) r.first (begins_none old.feed.held b more n)
@@ -357,7 +373,7 @@ ends_well a value old new before after r none feed fresh f =
       few = f.few;
     }
 
-pub ends_cut : {T : Type 0} → (a : Automaton) (value : ℕ → List ℕ → Option T) (old : Source) (hand : Hand) (at : ℕ) (before after : List (Placed T)) → IsOpen a old → at ≡ old.feed.at → IsUnfinished old.feed.held × (0 < length old.feed.held) → Finishes a value old.hand before after hand → EndsBytesBadly a value (begun_in old) before after (BadUtf8 at)
+pub ends_cut : {T : Type 0} → (a : Automaton) (value : ℕ → List ℕ → Option T) (old : Source) (hand : Hand) (at : ℕ) (before after : List (Placed T)) → IsOpen a old → at ≡ old.hand.end → IsUnfinished old.feed.held × (0 < length old.feed.held) → Finishes a value old.hand before after hand → EndsBytesBadly a value (begun_in old) before after (BadUtf8 at)
 ends_cut a value old hand at before after r e u f =
     let none = none_behind old.feed.held (unfinished_begins_none old.feed.held u.0) in
     let some : 0 < length (old.feed.held ++ []) = let size = length-append old.feed.held [] in let more = u.1 in omega arith in
@@ -387,8 +403,3 @@ ends_badly a value old before after fault r n f =
 pub unfinished_of : (feed : Feeding) → feed.bad ≡ false → (feed.bad ≡ true) ⊎ (IsUnfinished feed.held × (0 < length feed.held)) → IsUnfinished feed.held × (0 < length feed.held)
 unfinished_of feed clean (inl bad) = let e : true ≡ false = sym bad ∙ clean in cc
 unfinished_of feed clean (inr u) = u
-
--- no character begins in what the feed holds at the end
-pub end_begins_none : (feed : Feeding) (r : Result (Unit {0}) Fault) → feed.bad ≡ false → OnOk r ((feed.held ≡ []) × (feed.bad ≡ false)) → IfErr r (λ e. (e.at ≡ feed.at) × ((feed.bad ≡ true) ⊎ (IsUnfinished feed.held × (0 < length feed.held)))) → BeginsNoCharacter feed.held
-end_begins_none feed (Ok x) clean ok err = subst BeginsNoCharacter (sym ok.0) no_bytes
-end_begins_none feed (Err e) clean ok err = unfinished_begins_none feed.held (unfinished_of feed clean err.1).0

@@ -13,7 +13,7 @@ use Rattle.owl_lexer.specs.declared.source.Source.{Source}
 use Rattle.owl_lexer.proofs.Ends.{keeps_both}
 use Rattle.owl_lexer.proofs.Feeding.{parted}
 
-takes_both_bytes : {T : Type 0} → (a : Automaton) (value : ℕ → List ℕ → Option T) (old mid new : Source) (bs ds : List ℕ) (before between after : List (Placed T)) → TakesBytes a value old bs before between mid → TakesBytes a value mid ds between after new → TakesBytes a value old (bs ++ ds) before after new
+pub takes_both_bytes : {T : Type 0} → (a : Automaton) (value : ℕ → List ℕ → Option T) (old mid new : Source) (bs ds : List ℕ) (before between after : List (Placed T)) → TakesBytes a value old bs before between mid → TakesBytes a value mid ds between after new → TakesBytes a value old (bs ++ ds) before after new
 takes_both_bytes a value old mid new bs ds before between after t u =
     let many = length-append bs ds in
     let few = t.few in

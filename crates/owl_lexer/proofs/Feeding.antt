@@ -1,9 +1,10 @@
 -- What characters add, and what they are refused for.
 use Rattle.std.proofs.Common.{◌≡◌, ℕ, zero, suc, ◌+◌, ◌<◌, ◌≤◌, Option, None, Some, List, [], ◌∷◌, ◌++◌, length, take, drop, get_or, refl, sym, ap, ◌∙◌, subst, arith}
 use Rattle.std.proofs.Common.{Result, Ok, Err}
-use Rattle.std.specs.Prelude.{OnOk, IfErr}
+use Rattle.std.specs.Prelude.{IfErr}
+use Rattle.std.specs.Result.{IsErrAnd}
 use Rattle.std.proofs.lemmas.Grind.{get_or_default_zero}
-use Rattle.std.proofs.lemmas.List.{append_assoc, append-nil, length-append, length-drop, take-append-drop}
+use Rattle.std.proofs.lemmas.List.{append_assoc, append-nil, drop_all, length-append, length-drop, take-append-drop, take_all}
 use Rattle.std.proofs.Math.Seq.{drop-cons, take-suc}
 use Rattle.std.specs.Char.{len_utf8}
 use Rattle.std.proofs.lemmas.Str.{len_utf8_bounds}
@@ -18,12 +19,12 @@ use Rattle.owl_lexer.specs.Cutting.{Lexeme}
 use Rattle.owl_lexer.specs.Giving.{Begun, EndsAt, Gives, GivesSome}
 use Rattle.owl_lexer.specs.GivingLaws.{behind_front, ends_behind, ends_front, ends_here, ends_some, front_of, gives_both, gives_front, gives_held, some_behind, some_front, some_none}
 use Rattle.owl_lexer.specs.Hands.{IsFrontOf, IsReady, Refuses, Takes, begun_of}
-use Rattle.owl_lexer.specs.Holding.{IsFront}
 use Rattle.owl_lexer.specs.declared.hand.Front.{Front}
 use Rattle.owl_lexer.specs.declared.hand.Hand.{Hand}
 use Rattle.owl_lexer.specs.declared.placed.Placed.{Placed}
 use Rattle.owl_lexer.proofs.Ends.{ends_behind as end_behind, ends_both as end_both}
-use Rattle.owl_lexer.proofs.Hands.{Grows}
+use Rattle.owl_lexer.specs.Languages.{IsLanguage}
+use Rattle.owl_lexer.proofs.Hands.{Grows, front_is_all}
 
 -- a lexeme stands for one token at most
 pub one_at_most : {T : Type 0} → (at : ℕ) (token : Option T) → length (placed_at at token) ≤ 1
@@ -61,9 +62,8 @@ refuses_memory a value old cs before after fault e same = record {
 }
 
 -- no lexeme stands in front
-pub refuses_here : {T : Type 0} → (a : Automaton) (value : ℕ → List ℕ → Option T) (old : Hand) (c : ℕ) (before : List (Placed T)) → IsReady a old → a.step old.state c ≡ None → old.front ≡ None → Refuses a value (begun_of old) (c ∷ []) before before (BadToken old.at)
-refuses_here a value old c before r stuck none =
-    let front = subst (IsFrontOf a old.at old.held.items) none r.front in
+pub refuses_here : {T : Type 0} → (a : Automaton) (value : ℕ → List ℕ → Option T) (old : Hand) (c : ℕ) (before : List (Placed T)) → IsReady a old → a.step old.state c ≡ None → IsFrontOf a old.at old.held.items None → Refuses a value (begun_of old) (c ∷ []) before before (BadToken old.at)
+refuses_here a value old c before r stuck front =
     let ends = ends_here a old.at old.held.items old.state c r.leads front stuck in
     record {
       some = record { given = []; added = sym (append-nil before); next = ends_some a (begun_of old) (c ∷ []) [] (BadToken old.at) ends };
@@ -74,18 +74,33 @@ refuses_here a value old c before r stuck none =
 
 pub record GivesFront {T : Type 0} (a : Automaton) (value : ℕ → List ℕ → Option T) (old mid : Hand) (front : Front) (before between : List (Placed T)) : Type 0 where
   pub old_ready : IsReady a old
-  pub is : old.front ≡ Some front
+  pub is : IsFrontOf a old.at old.held.items (Some front)
   pub ready : IsReady a mid
   pub begun : begun_of mid ≡ record { at = front.end; held = [] }
   pub end : mid.end ≡ front.end
   pub added : between ≡ before ++ placed_at old.at (value front.kind (take front.length old.held.items))
 
-pub front_is : (a : Automaton) (old : Hand) (front : Front) → IsReady a old → old.front ≡ Some front → IsFront a old.held.items front.length front.kind × (front.end ≡ old.at + size (take front.length old.held.items))
-front_is a old front r e = subst (IsFrontOf a old.at old.held.items) e r.front
+-- all that is held
+abbrev pub all_front : Hand → ℕ → Front
+all_front hand kind = record { length = length hand.held.items; kind = kind; end = hand.end }
+
+pub gives_all : {T : Type 0} → (a : Automaton) (value : ℕ → List ℕ → Option T) (spells : T → List ℕ → Type 0) → IsLanguage a value spells → (old mid : Hand) (kind : ℕ) (before between : List (Placed T)) → IsReady a old → a.kind old.state ≡ Some kind → IsReady a mid → begun_of mid ≡ record { at = old.end; held = [] } → mid.end ≡ old.end → between ≡ before ++ placed_at old.at (value kind old.held.items) → GivesFront a value old mid (all_front old kind) before between
+gives_all {T = T} a value spells l old mid kind before between r e ready begun end added = record {
+  old_ready = r;
+  is = front_is_all a value spells l old kind r (length old.held.items) refl e;
+  ready = ready;
+  begun = begun;
+  end = end;
+  added = subst (λ (cs : List ℕ). between ≡ before ++ placed_at {T = T} old.at (value kind cs)) (sym (take_all (length old.held.items) old.held.items (omega arith))) added;
+}
+
+-- nothing stands behind all that is held
+pub none_behind : (held : List ℕ) (c : ℕ) → c ∷ [] ≡ drop (length held) held ++ c ∷ []
+none_behind held c = ap (λ (l : List ℕ). l ++ c ∷ []) (sym (drop_all (length held) held (omega arith)))
 
 pub mid_is : {T : Type 0} → (a : Automaton) (value : ℕ → List ℕ → Option T) (old mid : Hand) (front : Front) (before between : List (Placed T)) → GivesFront a value old mid front before between → begun_of mid ≡ behind_front old.at old.held.items front.length
 mid_is a value old mid front before between g =
-    let end = (front_is a old front g.old_ready g.is).1 in
+    let end = g.is.1 in
     g.begun ∙ same_begun (record { at = front.end; held = [] }) (behind_front old.at old.held.items front.length) end refl
 
 pub front_added : {T : Type 0} → (a : Automaton) (value : ℕ → List ℕ → Option T) (old mid : Hand) (front : Front) (before between after : List (Placed T)) (ys : List Lexeme) → GivesFront a value old mid front before between → after ≡ between ++ tokens_of value ys → after ≡ before ++ tokens_of value (front_of old.at old.held.items front.length front.kind ∷ ys)
@@ -104,9 +119,8 @@ some_wide cs zero some within = absurd (omega arith)
 some_wide [] (suc count) some within = absurd (omega arith)
 some_wide (c ∷ cs) (suc count) some within = let bounds = len_utf8_bounds c in let low = bounds.0 in omega arith
 
-pub parts_of : (a : Automaton) (old : Hand) (front : Front) → IsReady a old → old.front ≡ Some front → Parts old front
-parts_of a old front r e =
-    let is = front_is a old front r e in
+pub parts_of : (a : Automaton) (old : Hand) (front : Front) → IsReady a old → IsFrontOf a old.at old.held.items (Some front) → Parts old front
+parts_of a old front r is =
     let within = is.0.within in
     let end_is = is.1 in
     let behind = r.end in
@@ -117,7 +131,7 @@ parts_of a old front r e =
 
 pub takes_front : {T : Type 0} → (a : Automaton) (value : ℕ → List ℕ → Option T) (old mid new : Hand) (front : Front) (c : ℕ) (cs : List ℕ) (before between after : List (Placed T)) → GivesFront a value old mid front before between → a.step old.state c ≡ None → cs ≡ drop front.length old.held.items ++ c ∷ [] → Takes a value mid cs between after new → Takes a value old (c ∷ []) before after new
 takes_front {T = T} a value old mid new front c cs before between after g stuck is t =
-    let here = front_is a old front g.old_ready g.is in
+    let here = g.is in
     let gives : Gives a (behind_front old.at old.held.items front.length) (drop front.length old.held.items ++ c ∷ []) t.adds.given (begun_of new) =
     subst (λ (l : List ℕ). Gives a (behind_front old.at old.held.items front.length) l t.adds.given (begun_of new)) is
     (subst (λ (b : Begun). Gives a b cs t.adds.given (begun_of new)) (mid_is a value old mid front before between g) t.adds.gives) in
@@ -154,7 +168,7 @@ takes_front {T = T} a value old mid new front c cs before between after g stuck 
 
 pub refuses_front : {T : Type 0} → (a : Automaton) (value : ℕ → List ℕ → Option T) (old mid : Hand) (front : Front) (c : ℕ) (cs : List ℕ) (before between after : List (Placed T)) (fault : LexFault) → GivesFront a value old mid front before between → a.step old.state c ≡ None → cs ≡ drop front.length old.held.items ++ c ∷ [] → Refuses a value (begun_of mid) cs between after fault → Refuses a value (begun_of old) (c ∷ []) before after fault
 refuses_front a value old mid front c cs before between after fault g stuck is r =
-    let here = front_is a old front g.old_ready g.is in
+    let here = g.is in
     let behind = behind_front old.at old.held.items front.length in
     let cs_is = drop front.length old.held.items ++ c ∷ [] in
     record {
@@ -233,20 +247,10 @@ room_left cs i lt =
     ap size (sym (parted cs i lt)) ∙ size_append (take i cs) (get_or cs i 0 ∷ [] ++ drop (suc i) cs) in
     omega arith
 
--- answers of calls
-
-pub on_ok : {P Q : Type 0} → (r : Result (Unit {0}) LexFault) → (P → Q) → OnOk r P → OnOk r Q
-on_ok (Ok x) f h = f h
-on_ok (Err e) f h = tt
-
-pub if_err : {P Q : LexFault → Type 0} → (r : Result (Unit {0}) LexFault) → ((fault : LexFault) → P fault → Q fault) → IfErr r P → IfErr r Q
-if_err (Ok x) f h = tt
-if_err (Err e) f h = f e h
-
--- nothing stands behind the front
-pub alone : (behind rest : List ℕ) (c : ℕ) → length behind ≡ 0 → behind ≡ rest → c ∷ [] ≡ rest ++ c ∷ []
-alone [] rest c e same = ap (λ (l : List ℕ). l ++ c ∷ []) same
-alone (b ∷ behind) rest c e same = absurd (omega arith)
+-- a fault that is passed on
+pub passed : {T E : Type 0} (r : Result T E) (fault : E) (P : E → Type 0) → IsErrAnd r (λ y. y ≡ fault) → P fault → IfErr r P
+passed (Ok x) fault P e p = tt
+passed (Err y) fault P e p = subst P (sym e) p
 
 pub item_is : (cs : List ℕ) (i x : ℕ) → i < length cs → x ≡ get_or cs i x → x ≡ get_or cs i 0
 item_is cs i x lt e = e ∙ get_or_default_zero cs i x lt

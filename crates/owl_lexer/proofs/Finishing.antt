@@ -15,7 +15,7 @@ use Rattle.owl_lexer.specs.Holding.{LeadsTo, NoneBeyond}
 use Rattle.owl_lexer.specs.declared.hand.Front.{Front}
 use Rattle.owl_lexer.specs.declared.hand.Hand.{Hand}
 use Rattle.owl_lexer.specs.declared.placed.Placed.{Placed}
-use Rattle.owl_lexer.proofs.Feeding.{GivesFront, front_added, front_is, mid_is, one_at_most, parts_of}
+use Rattle.owl_lexer.proofs.Feeding.{GivesFront, front_added, mid_is, one_at_most, parts_of}
 
 -- what comes of the second hand comes of the first behind the lexemes that were given, where no character follows
 pub record Turns {T : Type 0} (a : Automaton) (value : ℕ → List ℕ → Option T) (first : Hand) (before after : List (Placed T)) (now : Hand) : Type 0 where
@@ -30,7 +30,7 @@ pub record Turns {T : Type 0} (a : Automaton) (value : ℕ → List ℕ → Opti
 
 pub turns_more : {T : Type 0} → (a : Automaton) (value : ℕ → List ℕ → Option T) (first now mid new : Hand) (front : Front) (cs : List ℕ) (before so_far between after : List (Placed T)) → Turns a value first before so_far now → GivesFront a value now mid front so_far between → cs ≡ drop front.length now.held.items → Takes a value mid cs between after new → Turns a value first before after new
 turns_more {T = T} a value first now mid new front cs before so_far between after turns g is t =
-    let here = front_is a now front g.old_ready g.is in
+    let here = g.is in
     let lexeme = front_of now.at now.held.items front.length front.kind in
     let gives : Gives a (behind_front now.at now.held.items front.length) (drop front.length now.held.items) t.adds.given (begun_of new) =
     subst (λ (l : List ℕ). Gives a (behind_front now.at now.held.items front.length) l t.adds.given (begun_of new)) is
@@ -105,9 +105,8 @@ ends_held : (a : Automaton) (at : ℕ) (held : List ℕ) (state : ℕ) → 0 < l
 ends_held a at [] state some h n = absurd (omega arith)
 ends_held a at (c ∷ held) state some h n = last_here a at c held state h n
 
-pub turns_bad : {T : Type 0} → (a : Automaton) (value : ℕ → List ℕ → Option T) (first now : Hand) (before after : List (Placed T)) → Turns a value first before after now → 0 < length now.held.items → now.front ≡ None → FinishesBadly a value (begun_of first) before after (BadToken now.at)
-turns_bad a value first now before after turns some none =
-    let front = subst (IsFrontOf a now.at now.held.items) none turns.ready.front in
+pub turns_bad : {T : Type 0} → (a : Automaton) (value : ℕ → List ℕ → Option T) (first now : Hand) (before after : List (Placed T)) → Turns a value first before after now → 0 < length now.held.items → IsFrontOf a now.at now.held.items None → FinishesBadly a value (begun_of first) before after (BadToken now.at)
+turns_bad a value first now before after turns some front =
     let ends = turns.ends [] (BadToken now.at) (ends_held a now.at now.held.items now.state some turns.ready.leads front) in
     let added = turns.added ∙ ap (λ l. before ++ tokens_of value l) (sym (append-nil turns.given)) in
     record {
@@ -129,7 +128,7 @@ turns_memory a value first now before so_far after fault turns e same = record {
 -- what stood behind the front was refused
 pub turns_refused : {T : Type 0} → (a : Automaton) (value : ℕ → List ℕ → Option T) (first now mid : Hand) (front : Front) (cs : List ℕ) (before so_far between after : List (Placed T)) (fault : LexFault) → Turns a value first before so_far now → GivesFront a value now mid front so_far between → cs ≡ drop front.length now.held.items → Refuses a value (begun_of mid) cs between after fault → FinishesBadly a value (begun_of first) before after fault
 turns_refused a value first now mid front cs before so_far between after fault turns g is r =
-    let here = front_is a now front g.old_ready g.is in
+    let here = g.is in
     let lexeme = front_of now.at now.held.items front.length front.kind in
     let behind = behind_front now.at now.held.items front.length in
     record {

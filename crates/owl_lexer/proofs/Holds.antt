@@ -23,7 +23,7 @@ use Rattle.owl_lexer.specs.declared.fault.LexFault.{LexFault}
 use Rattle.owl_lexer.specs.declared.placed.Placed.{Placed}
 use Rattle.owl_lexer.specs.declared.source.Source.{Source}
 
-part_begins_none : (bytes : List ℕ) → IsPart bytes → (c : ℕ) (rest : List ℕ) → bytes ≡ encode_utf8 c ++ rest → ⊥
+pub part_begins_none : (bytes : List ℕ) → IsPart bytes → (c : ℕ) (rest : List ℕ) → bytes ≡ encode_utf8 c ++ rest → ⊥
 part_begins_none bytes (inr u) c rest e = no_whole bytes u c rest e
 part_begins_none bytes (inl none) c rest e =
     let sizes : 0 ≡ length (encode_utf8 c) + length rest = sym (ap (λ (l : List ℕ). length l) none) ∙ ap (λ (l : List ℕ). length l) e ∙ length-append (encode_utf8 c) rest in

@@ -7,3 +7,4 @@ pub mod BytesFeeding
 pub mod Classes
 pub mod Holds
 pub mod Tokens
+pub mod Runs

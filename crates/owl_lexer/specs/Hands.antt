@@ -1,5 +1,5 @@
 -- What the machine has in hand, and what it makes of characters.
-use Rattle.std.specs.Prelude.{◌≡◌, ◌≢◌, ℕ, ◌+◌, ◌≤◌, List, ◌++◌, length, take, true, Option, None, Some}
+use Rattle.std.specs.Prelude.{◌≡◌, ◌≢◌, ℕ, ◌+◌, ◌<◌, ◌≤◌, List, [], ◌∷◌, ◌++◌, length, take, true, Option, None, Some}
 use Rattle.std.specs.Str.{all_scalars}
 use Rattle.owl_characters.specs.Utf8.{size}
 use Rattle.owl_lexer.specs.declared.fault.LexFault.{LexFault}
@@ -17,14 +17,28 @@ abbrev pub IsFrontOf : Automaton → ℕ → List ℕ → Option Front → Type 
 IsFrontOf a at held None = NoneBeyond a held 0
 IsFrontOf a at held (Some front) = IsFront a held front.length front.kind × (front.end ≡ at + size (take front.length held))
 
+-- Where the state is that of a lexeme, all that is held is the longest; else it is remembered.
 pub record IsReady (a : Automaton) (hand : Hand) : Type 0 where
   pub leads : LeadsTo a hand.held.items hand.state
-  pub front : IsFrontOf a hand.at hand.held.items hand.front
+  pub front : a.kind hand.state ≡ None → IsFrontOf a hand.at hand.held.items hand.front
   pub end : hand.end ≡ hand.at + size hand.held.items
   pub scalars : all_scalars hand.held.items ≡ true
 
 abbrev pub begun_of : Hand → Begun
 begun_of hand = record { at = hand.at; held = hand.held.items }
+
+-- ASCII characters, each of which leads from a state back to it
+abbrev pub AreRun : Automaton → ℕ → List ℕ → Type 0
+AreRun a state [] = Unit {0}
+AreRun a state (c ∷ cs) = (c < 128) × (a.step state c ≡ Some state) × AreRun a state cs
+
+-- the characters of a run are held too
+pub record HoldsRun (a : Automaton) (old : Hand) (cs : List ℕ) (new : Hand) : Type 0 where
+  pub run : AreRun a old.state cs
+  pub ready : IsReady a new
+  pub at : new.at ≡ old.at
+  pub held : new.held.items ≡ old.held.items ++ cs
+  pub end : new.end ≡ old.end + length cs
 
 -- the characters end with these
 pub record EndsIn (cs held : List ℕ) : Type 0 where

@@ -1,5 +1,5 @@
 -- The longest lexeme in front of the characters in hand stands first, once the next character leads nowhere.
-use Rattle.std.proofs.Common.{◌≡◌, inl, inr, ℕ, ◌+◌, ◌≤◌, Option, None, Some, List, [], ◌∷◌, ◌++◌, length, take, drop, refl, sym, ap, ◌∙◌, subst, arith}
+use Rattle.std.proofs.Common.{◌≡◌, inl, inr, ℕ, ◌+◌, ◌<◌, ◌≤◌, Option, None, Some, List, [], ◌∷◌, ◌++◌, length, take, drop, refl, sym, ap, ◌∙◌, subst, arith}
 use Rattle.std.proofs.lemmas.Bool.{cases_lt}
 use Rattle.std.proofs.lemmas.List.{append_assoc, length-append, length-take-le, take-append-drop, take-append-le, take_all}
 use Rattle.std.proofs.Math.Seq.{take-append_seam}
@@ -92,14 +92,11 @@ front_more a held c next count kind h e f = record {
   longest = none_more a held c next count h e f.longest;
 }
 
--- the characters are a lexeme
-pub front_whole : (a : Automaton) (held : List ℕ) (c next kind : ℕ) → LeadsTo a (held ++ c ∷ []) next → a.kind next ≡ Some kind → IsFront a (held ++ c ∷ []) (length held + 1) kind
-front_whole a held c next kind h e =
-    let size = length-snoc held c in
-    let all : take (length held + 1) (held ++ c ∷ []) ≡ held ++ c ∷ [] = take_all (length held + 1) (held ++ c ∷ []) (omega arith) in
-    record {
-      some = omega arith;
-      within = omega arith;
-      spelled = subst (Spells a kind) (sym all) (ap (kind_at a) h ∙ e);
-      longest = λ n k lt le s. absurd (omega arith);
-    }
+-- all that is held is a lexeme
+pub front_all : (a : Automaton) (held : List ℕ) (state kind : ℕ) → 0 < length held → LeadsTo a held state → a.kind state ≡ Some kind → IsFront a held (length held) kind
+front_all a held state kind some h e = record {
+  some = some;
+  within = omega arith;
+  spelled = subst (Spells a kind) (sym (take_all (length held) held (omega arith))) (ap (kind_at a) h ∙ e);
+  longest = λ n k lt le s. absurd (omega arith);
+}

@@ -66,7 +66,7 @@ pub record IsSound (begun : BegunBytes) : Type 0 where
   pub scalars : all_scalars begun.held ≡ true
   pub first : begun.fresh ≡ true → begun.at ≡ 0
 
-decodes_all : (held more cs tail : List ℕ) → all_scalars held ≡ true → Decodes more cs tail → Decodes (encode_utf8_all held ++ more) (held ++ cs) tail
+pub decodes_all : (held more cs tail : List ℕ) → all_scalars held ≡ true → Decodes more cs tail → Decodes (encode_utf8_all held ++ more) (held ++ cs) tail
 decodes_all [] more cs tail s d = d
 decodes_all (c ∷ held) more cs tail s d =
     let parts = and_parts _ _ s in

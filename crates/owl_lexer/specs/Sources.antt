@@ -17,9 +17,10 @@ use Rattle.owl_lexer.specs.declared.source.Source.{Source}
 abbrev pub IsPart : List ℕ → Type 0
 IsPart bytes = (bytes ≡ []) ⊎ IsUnfinished bytes
 
+-- The place of the next character is the end of what is in hand. What the feed counts is no more, since a run passes it by.
 pub record IsOpen (a : Automaton) (source : Source) : Type 0 where
   pub ready : IsReady a source.hand
-  pub place : source.hand.end ≡ source.feed.at
+  pub place : source.feed.at ≤ source.hand.end
   pub clean : source.feed.bad ≡ false
   pub first : source.fresh ≡ true → source.hand.held.items ≡ []
   pub start : source.fresh ≡ true → source.hand.at ≡ 0

@@ -7,7 +7,7 @@ use Rattle.owl_lexer.specs.declared.fault.LexFault.TheVariants.{BadToken, BadUtf
 use Rattle.owl_lexer.specs.Automata.{Automaton, Spells}
 use Rattle.owl_lexer.specs.Cutting.{BeginsNone, Cuts, Lexeme, Stands}
 use Rattle.owl_lexer.specs.Holding.{GoesNowhere, IsFront, LeadsTo, NoneBeyond}
-use Rattle.owl_lexer.specs.HoldingLaws.{front_more, front_whole, leads_on, none_first, none_more, nothing_held, stands_first}
+use Rattle.owl_lexer.specs.HoldingLaws.{front_all, front_more, leads_on, none_first, none_more, nothing_held, stands_first}
 
 -- a lexeme stands first, or none does
 data FirstIn (a : Automaton) (cs : List ℕ) : Type 0 where
@@ -27,7 +27,7 @@ scanned_first a held state more h g (front count kind f) =
 scanned_first a held state more h g (no_front n) = nothing (none_first a held state more h g n)
 
 scanned_more : (a : Automaton) (held : List ℕ) (c next : ℕ) (kind : Option ℕ) → LeadsTo a (held ++ c ∷ []) next → a.kind next ≡ kind → Scanned a held → Scanned a (held ++ c ∷ [])
-scanned_more a held c next (Some kind) h e s = front (length held + 1) kind (front_whole a held c next kind h e)
+scanned_more a held c next (Some kind) h e s = front (length (held ++ c ∷ [])) kind (front_all a (held ++ c ∷ []) next kind (let size = length-append held (c ∷ []) in omega arith) h e)
 scanned_more a held c next None h e (front count kind f) = front count kind (front_more a held c next count kind h e f)
 scanned_more a held c next None h e (no_front n) = no_front (none_more a held c next 0 h e n)
 

@@ -1,11 +1,12 @@
 //! What the machine has in hand, and how it takes characters.
 
-ghost use Rattle.std.specs.Prelude.{◌≡◌, ◌≢◌, ℕ, ◌+◌, ◌^◌, ◌<◌, ◌≤◌, List, [], ◌∷◌, ◌++◌, length, take, drop, Some, OnOk, OnErr, IfOk, IfErr};
+ghost use Rattle.std.specs.Prelude.{◌≡◌, ◌≢◌, ℕ, ◌+◌, ◌^◌, ◌<◌, ◌≤◌, List, [], ◌∷◌, ◌++◌, length, take, drop, None, Some, IsTrue, OnOk, OnErr, IfOk, IfErr};
 ghost use Rattle.std.specs.Char.{len_utf8};
 ghost use Rattle.owl_characters.specs.Utf8.{size};
 ghost use Rattle.owl_lexer.specs.Adding.{placed_at};
 ghost use Rattle.owl_lexer.specs.Giving.{nothing_at};
-ghost use Rattle.owl_lexer.specs.Hands.{Finishes, FinishesBadly, IsReady, Refuses, Takes, begun_of};
+ghost use Rattle.owl_lexer.specs.declared.placed.Placed.{Placed};
+ghost use Rattle.owl_lexer.specs.Hands.{AreRun, Finishes, FinishesBadly, HoldsRun, IsFrontOf, IsReady, Refuses, Takes, begun_of};
 
 use crate::fault::LexFault;
 use crate::language::TokenLanguage;
@@ -24,7 +25,7 @@ pub struct Front {
 
 /// The characters of a lexeme that is begun, the bytes of the first of them and
 /// behind the last, the state to which they lead, and the longest lexeme in
-/// front of them.
+/// front of them, where they aren't one themselves.
 #[derive(Debug, Drop)]
 pub struct Hand {
     pub alloc: Global,
@@ -79,7 +80,34 @@ fn wide(c: char) -> u64
     c.len_utf8() as u64
 }
 
+/// The longest lexeme in front of the characters that are held, if there is one.
+#[inline(always)]
+fn longest_front<L: TokenLanguage>(hand: &Hand) -> Option<Front>
+    requires { IsReady L.automaton hand.now }
+    ensures { IsFrontOf L.automaton hand.now.at hand.now.held.items result }
+{
+    match L::kind(hand.state) {
+        Some(kind) => Some(Front {
+            length: hand.held.len(),
+            kind,
+            end: hand.end,
+        }),
+        None => hand.front,
+    }
+}
+
+/// Remembers the longest lexeme in front of the characters that are held.
+#[inline(never)]
+fn remember<L: TokenLanguage>(hand: &mut Hand)
+    requires { IsReady L.automaton hand.old }
+    ensures front { IsFrontOf L.automaton hand.old.at hand.old.held.items hand.new.front }
+    ensures rest { hand.new ≡ record hand.old { front = hand.new.front } }
+{
+    hand.front = longest_front::<L>(hand);
+}
+
 /// Holds a character that leads to this state.
+#[inline(always)]
 fn hold<L: TokenLanguage>(hand: &mut Hand, state: u8, c: char) -> Result<(), NoMemory>
     requires ready { IsReady L.automaton hand.old }
     requires step { L.automaton.step hand.old.state c ≡ Some state }
@@ -89,22 +117,95 @@ fn hold<L: TokenLanguage>(hand: &mut Hand, state: u8, c: char) -> Result<(), NoM
     ensures held { OnOk result (hand.new.held.items ≡ hand.old.held.items ++ c ∷ []) }
     ensures end { OnOk result (hand.new.end ≡ hand.old.end + len_utf8 c) }
 {
+    if L::kind(state).is_none() {
+        remember::<L>(hand);
+    }
     add(&mut hand.held, c)?;
     hand.end += width(c);
     hand.state = state;
-    if let Some(kind) = L::kind(state) {
-        hand.front = Some(Front {
-            length: hand.held.len(),
-            kind,
-            end: hand.end,
-        });
+    Ok(())
+}
+
+/// Whether a byte is an ASCII character that leads from a state back to it.
+#[inline(always)]
+fn leads_back<L: TokenLanguage>(state: u8, byte: u8) -> bool
+    ensures { IsTrue result → (byte < 128) × (L.automaton.step state byte ≡ Some state) }
+{
+    byte < 128 && L::step(state, char::from(byte)).is_some_and(|next| next == state)
+}
+
+/// How many of the first bytes are a run.
+#[inline(always)]
+fn run_length<L: TokenLanguage>(state: u8, bytes: &[u8]) -> usize
+    ensures within { result ≤ length bytes.now }
+    ensures run { AreRun L.automaton state (take result bytes.now) }
+{
+    let mut count = 0;
+    while count < bytes.len() && leads_back::<L>(state, bytes[count]) {
+        count += 1;
     }
+    count
+}
+
+/// Puts ASCII characters at the end.
+#[inline(always)]
+fn add_ascii(items: &mut Vec<char>, bytes: &[u8]) -> Result<(), NoMemory>
+    ensures { OnOk result (items.new.items ≡ items.old.items ++ bytes.now) }
+{
+    for byte in bytes {
+        add(items, char::from(*byte))?;
+    }
+    Ok(())
+}
+
+/// Holds the first bytes for as long as they are a run, and answers how many.
+#[inline(always)]
+pub fn hold_run<L: TokenLanguage>(hand: &mut Hand, bytes: &[u8]) -> Result<usize, NoMemory>
+    requires ready { IsReady L.automaton hand.old }
+    requires room { hand.old.end + length bytes.now < 2 ^ 63 }
+    ensures within { IfOk result (λ count. count ≤ length bytes.now) }
+    ensures holds { IfOk result (λ count.
+        HoldsRun L.automaton hand.old (take count bytes.now) hand.new) }
+{
+    let count = run_length::<L>(hand.state, bytes);
+    add_ascii(&mut hand.held, &bytes[..count])?;
+    hand.end += count as u64;
+    Ok(count)
+}
+
+/// Adds the token of all that is held, a lexeme of this kind that ends at this
+/// byte, if it stands for one. Nothing is in hand then.
+#[inline(always)]
+fn give_all<L: TokenLanguage>(
+    hand: &mut Hand,
+    kind: u8,
+    end: u64,
+    into: &mut Vec<Placed<L::Token>>,
+) -> Result<(), NoMemory>
+    ensures ready { OnOk result (IsReady L.automaton hand.new) }
+    ensures begun { OnOk result (begun_of hand.new ≡ nothing_at end) }
+    ensures end { OnOk result (hand.new.end ≡ end) }
+    ensures added { OnOk result
+        (into.new.items
+        ≡ into.old.items ++ placed_at hand.old.at (L.value_of kind hand.old.held.items)) }
+    ensures err { OnErr result (into.new.items ≡ into.old.items) }
+{
+    if let Some(token) = L::value(hand.alloc, kind, &hand.held)? {
+        let at = hand.at;
+        if into.push(Placed { token, at }).is_err() {
+            return Err(NoMemory);
+        }
+    }
+    hand.held.clear();
+    hand.at = end;
+    hand.end = end;
+    hand.state = L::start();
+    hand.front = None;
     Ok(())
 }
 
 /// Adds the token of the longest lexeme in front, if it stands for one, and
 /// answers the characters behind it. Nothing is in hand then.
-#[inline(always)]
 fn give<L: TokenLanguage>(
     hand: &mut Hand,
     front: Front,
@@ -120,20 +221,26 @@ fn give<L: TokenLanguage>(
         ++ placed_at hand.old.at (L.value_of front.kind (take front.length hand.old.held.items))) }
     ensures err { OnErr result (into.new.items ≡ into.old.items) }
 {
-    let behind = if front.length < hand.held.len() {
-        hand.held.split_off(front.length)?
-    } else {
-        Vec::new(hand.alloc)
-    };
-    if let Some(token) = L::value(hand.alloc, front.kind, &hand.held)? {
-        add(into, Placed { token, at: hand.at })?;
-    }
-    hand.held.clear();
-    hand.at = front.end;
-    hand.end = front.end;
-    hand.state = L::start();
-    hand.front = None;
+    let behind = hand.held.split_off(front.length)?;
+    give_all::<L>(hand, front.kind, front.end, into)?;
     Ok(behind)
+}
+
+/// Holds a character with which a lexeme begins, where nothing is in hand.
+#[inline(always)]
+fn begin<L: TokenLanguage>(hand: &mut Hand, c: char) -> Result<(), LexFault>
+    requires ready { IsReady L.automaton hand.old }
+    requires nothing { hand.old.held.items ≡ [] }
+    requires room { hand.old.end + len_utf8 c < 2 ^ 63 }
+    ensures ok { OnOk result ((into : List (Placed L.Token)) →
+        Takes L.automaton L.value_of hand.old (c ∷ []) into into hand.new) }
+    ensures err { IfErr result (λ fault. (into : List (Placed L.Token)) →
+        Refuses L.automaton L.value_of (begun_of hand.old) (c ∷ []) into into fault) }
+{
+    match L::step(hand.state, c) {
+        Some(state) => Ok(hold::<L>(hand, state, c)?),
+        None => Err(LexFault::BadToken { at: hand.at }),
+    }
 }
 
 /// Takes a character, and adds the tokens that are whole now to the end of
@@ -153,23 +260,30 @@ pub fn push<L: TokenLanguage>(
         Refuses L.automaton L.value_of (begun_of hand.old) (c ∷ [])
         into.old.items into.new.items fault) }
 {
-    match L::step(hand.state, c) {
-        Some(state) => Ok(hold::<L>(hand, state, c)?),
-        None => turn::<L>(hand, c, into),
+    if let Some(state) = L::step(hand.state, c) {
+        return Ok(hold::<L>(hand, state, c)?);
+    }
+    match L::kind(hand.state) {
+        Some(kind) => {
+            give_all::<L>(hand, kind, hand.end, into)?;
+            begin::<L>(hand, c)
+        }
+        None => turn_back::<L>(hand, c, into),
     }
 }
 
-/// Takes a character that leads nowhere: the longest lexeme in front is given,
-/// and what stands behind it is taken again.
+/// Takes a character that leads nowhere, where all that is held is no lexeme:
+/// what stands behind the longest one in front is taken again.
 #[inline(never)]
 #[cycle(feeding)]
-fn turn<L: TokenLanguage>(
+fn turn_back<L: TokenLanguage>(
     hand: &mut Hand,
     c: char,
     into: &mut Vec<Placed<L::Token>>,
 ) -> Result<(), LexFault>
     requires ready { IsReady L.automaton hand.old }
     requires step { L.automaton.step hand.old.state c ≡ None }
+    requires none { L.automaton.kind hand.old.state ≡ None }
     requires room { hand.old.end + len_utf8 c < 2 ^ 63 }
     ensures ok { OnOk result
         (Takes L.automaton L.value_of hand.old (c ∷ []) into.old.items into.new.items hand.new) }
@@ -181,12 +295,8 @@ fn turn<L: TokenLanguage>(
         return Err(LexFault::BadToken { at: hand.at });
     };
     let mut behind = give::<L>(hand, front, into)?;
-    if behind.is_empty() {
-        push::<L>(hand, c, into)
-    } else {
-        add(&mut behind, c)?;
-        push_all::<L>(hand, &behind, into)
-    }
+    add(&mut behind, c)?;
+    push_all::<L>(hand, &behind, into)
 }
 
 /// Takes characters, one after another.
@@ -205,9 +315,7 @@ pub fn push_all<L: TokenLanguage>(
         into.old.items into.new.items fault) }
 {
     for c in chars {
-        if let Err(fault) = push::<L>(hand, *c, into) {
-            return Err(fault);
-        }
+        push::<L>(hand, *c, into)?;
     }
     Ok(())
 }
@@ -226,13 +334,11 @@ pub fn finish<L: TokenLanguage>(
         into.old.items into.new.items fault) }
 {
     while !hand.held.is_empty() {
-        let Some(front) = hand.front else {
+        let Some(front) = longest_front::<L>(hand) else {
             return Err(LexFault::BadToken { at: hand.at });
         };
         let behind = give::<L>(hand, front, into)?;
-        if let Err(fault) = push_all::<L>(hand, &behind, into) {
-            return Err(fault);
-        }
+        push_all::<L>(hand, &behind, into)?;
     }
     Ok(())
 }

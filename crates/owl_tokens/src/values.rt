@@ -106,32 +106,35 @@ fn name(alloc: Global, spelling: &[char]) -> Result<Token, NoMemory>
 
 /// The token that a lexeme of this kind stands for. White space and comments
 /// stand for none.
+#[inline(always)]
 #[tactic(auto, unfolding(crate::specs::Values::value_of))]
 pub fn value(alloc: Global, kind: u8, spelling: &[char]) -> Result<Option<Token>, NoMemory>
     ensures { IfOk result (λ token. token ≡ value_of kind spelling.now) }
 {
-    if kind < kinds::IRI || kinds::DEC < kind {
-        Ok(sign_of(kind).map(Token::Sign))
-    } else {
-        Ok(Some(text_token(alloc, kind, spelling)?))
+    if kinds::IRI <= kind && kind <= kinds::DEC {
+        return text_token(alloc, kind, spelling);
+    }
+    match sign_of(kind) {
+        Some(sign) => Ok(Some(Token::Sign(sign))),
+        None => Ok(None),
     }
 }
 
 /// The token that a lexeme of this kind stands for, if it has a text.
 #[inline(never)]
 #[tactic(auto, unfolding(crate::specs::Values::value_of))]
-fn text_token(alloc: Global, kind: u8, spelling: &[char]) -> Result<Token, NoMemory>
+fn text_token(alloc: Global, kind: u8, spelling: &[char]) -> Result<Option<Token>, NoMemory>
     requires { (3 ≤ kind) × (kind ≤ 10) }
-    ensures { IfOk result (λ token. Some token ≡ value_of kind spelling.now) }
+    ensures { IfOk result (λ token. token ≡ value_of kind spelling.now) }
 {
     match kind {
-        kinds::IRI => Ok(Token::Iri(Text::of_chars(alloc, between_ends(spelling))?)),
-        kinds::NAME => name(alloc, spelling),
-        kinds::BLANK => Ok(Token::Blank(Text::of_chars(alloc, behind(spelling, 2))?)),
-        kinds::STR => Ok(Token::Str(unescaped(alloc, between_ends(spelling))?)),
-        kinds::AT => Ok(Token::At(Text::of_chars(alloc, behind(spelling, 1))?)),
-        kinds::WORD => Ok(Token::Word(Text::of_chars(alloc, spelling)?)),
-        kinds::INT => Ok(Token::Int(Text::of_chars(alloc, spelling)?)),
-        _ => Ok(Token::Dec(Text::of_chars(alloc, spelling)?)),
+        kinds::IRI => Ok(Some(Token::Iri(Text::of_chars(alloc, between_ends(spelling))?))),
+        kinds::NAME => Ok(Some(name(alloc, spelling)?)),
+        kinds::BLANK => Ok(Some(Token::Blank(Text::of_chars(alloc, behind(spelling, 2))?))),
+        kinds::STR => Ok(Some(Token::Str(unescaped(alloc, between_ends(spelling))?))),
+        kinds::AT => Ok(Some(Token::At(Text::of_chars(alloc, behind(spelling, 1))?))),
+        kinds::WORD => Ok(Some(Token::Word(Text::of_chars(alloc, spelling)?))),
+        kinds::INT => Ok(Some(Token::Int(Text::of_chars(alloc, spelling)?))),
+        _ => Ok(Some(Token::Dec(Text::of_chars(alloc, spelling)?))),
     }
 }

@@ -6,8 +6,8 @@ use Rattle.owl_lexer.proofs.hand.+feeding.Given as goal
 abbrev pub decreases-push : goal.decreases-push
 decreases-push g l = 3 * (length l.hand.now.held.items + 1) + 1
 
-abbrev pub decreases-turn : goal.decreases-turn
-decreases-turn g l = 3 * (length l.hand.now.held.items + 1)
+abbrev pub decreases-turn_back : goal.decreases-turn_back
+decreases-turn_back g l = 3 * (length l.hand.now.held.items + 1)
 
 abbrev pub decreases-push_all : goal.decreases-push_all
 decreases-push_all g l = 3 * (length l.hand.now.held.items + length l.chars.now) + 2

@@ -1,14 +1,15 @@
 -- A byte is begun, or makes a character whole, or begins none.
 use Rattle.std.proofs.Common.{refl, sym, ◌∙◌}
-use Rattle.owl_lexer.proofs.Bytes.{refuses_bad, refuses_last, refuses_whole, takes_mark, takes_unfinished, takes_whole}
-use Rattle.owl_lexer.proofs.Feeding.{if_err, on_ok}
+use Rattle.owl_lexer.proofs.Bytes.{fed_whole, refuses_bad, refuses_last, refuses_whole, takes_mark, takes_unfinished, takes_whole}
+use Rattle.std.proofs.lemmas.Result.{IfErr-weaker, on_ok_weaker}
+use Rattle.owl_lexer.proofs.Feeding.{passed}
 use Rattle.owl_lexer.proofs.source.take.Goals as goal
 
 pub returns-then-passes-clause-ok : goal.returns-then-passes-clause-ok
 returns-then-passes-clause-ok g c =
     let step = c.in-Char.ensures.step c.requires.ready.clean in
     takes_mark g.L.TokenLanguage.automaton g.L.TokenLanguage.value_of c.args.source.now _ c.args.byte c.in-Char.c c.args.into.now.items c.requires.ready
-    (record { scalar = step.1; is = step.2; feed = step.3 }) (sym c.is_mark_in_front-passes.ensures ∙ c.if-passes.true) refl refl
+    (fed_whole c.args.source.now.feed c.push.new.self c.args.byte c.in-Char.c _ step) (sym c.is_mark_in_front-passes.ensures ∙ c.if-passes.true) refl refl
 
 pub returns-in-More-clause-ok : goal.returns-in-More-clause-ok
 returns-in-More-clause-ok g c =
@@ -17,25 +18,27 @@ returns-in-More-clause-ok g c =
 pub returns-else-passes-clause-ok : goal.returns-else-passes-clause-ok
 returns-else-passes-clause-ok g c =
     let step = c.in-Char.ensures.step c.requires.ready.clean in
-    on_ok c.push-in-Char.result
+    on_ok_weaker c.push-in-Char.result
     (takes_whole g.L.TokenLanguage.automaton g.L.TokenLanguage.value_of c.args.source.now _ c.args.byte c.in-Char.c c.args.into.now.items c.push-in-Char.new.into.items c.requires.ready
-    (record { scalar = step.1; is = step.2; feed = step.3 }) (sym c.is_mark_in_front-passes.ensures ∙ c.if-passes.false) refl)
+    (fed_whole c.args.source.now.feed c.push.new.self c.args.byte c.in-Char.c _ step) (sym c.is_mark_in_front-passes.ensures ∙ c.if-passes.false) refl)
     c.push-in-Char.ensures.ok
 
 pub returns-else-passes-clause-err : goal.returns-else-passes-clause-err
 returns-else-passes-clause-err g c =
     let step = c.in-Char.ensures.step c.requires.ready.clean in
-    if_err c.push-in-Char.result
+    IfErr-weaker c.push-in-Char.result _ _
     (λ fault. refuses_whole g.L.TokenLanguage.automaton g.L.TokenLanguage.value_of c.args.source.now c.push.new.self c.args.byte c.in-Char.c c.args.into.now.items c.push-in-Char.new.into.items fault c.requires.ready
-    (record { scalar = step.1; is = step.2; feed = step.3 }) (sym c.is_mark_in_front-passes.ensures ∙ c.if-passes.false))
+    (fed_whole c.args.source.now.feed c.push.new.self c.args.byte c.in-Char.c _ step) (sym c.is_mark_in_front-passes.ensures ∙ c.if-passes.false))
     c.push-in-Char.ensures.err
 
-pub returns-in-Ok-clause-err : goal.returns-in-Ok-clause-err
-returns-in-Ok-clause-err g c =
+pub returns-in_ok-finish-in-Bad-clause-err : goal.returns-in_ok-finish-in-Bad-clause-err
+returns-in_ok-finish-in-Bad-clause-err g c =
     let step = c.in-Bad.ensures.step c.requires.ready.clean in
-    refuses_bad g.L.TokenLanguage.automaton g.L.TokenLanguage.value_of c.args.source.now c.finish.new.hand c.args.byte c.in-Bad.at c.args.into.now.items c.finish.new.into.items c.requires.ready step.0 step.1 c.in-Ok.ensures.ok
+    refuses_bad g.L.TokenLanguage.automaton g.L.TokenLanguage.value_of c.args.source.now c.finish.new.hand c.args.byte c.args.source.now.hand.end c.args.into.now.items c.finish.new.into.items c.requires.ready refl step.1 c.in_ok-finish-in-Bad.ensures.ok
 
-pub returns-in-Err-clause-err : goal.returns-in-Err-clause-err
-returns-in-Err-clause-err g c =
+pub returns-in_err-finish-in-Bad-clause-err : goal.returns-in_err-finish-in-Bad-clause-err
+returns-in_err-finish-in-Bad-clause-err g c =
     let step = c.in-Bad.ensures.step c.requires.ready.clean in
-    refuses_last g.L.TokenLanguage.automaton g.L.TokenLanguage.value_of c.args.source.now c.args.byte c.args.into.now.items c.finish.new.into.items c.in-Err.fault c.requires.ready step.1 c.in-Err.ensures.err
+    let fault = c.in_err-finish-in-Bad.field-0.0 in
+    passed c.from_residual.result fault _ c.from_residual.ensures.1
+    (refuses_last g.L.TokenLanguage.automaton g.L.TokenLanguage.value_of c.args.source.now c.args.byte c.args.into.now.items c.finish.new.into.items fault c.requires.ready step.1 c.in_err-finish-in-Bad.ensures.err)

@@ -1,8 +1,12 @@
 -- The bytes so far were taken.
-use Rattle.std.proofs.Common.{take}
+use Rattle.std.proofs.Common.{◌≤◌, ◌-◌, length, take}
 use Rattle.owl_lexer.specs.Sources.{TakesBytes}
 use Rattle.owl_lexer.proofs.source.take_all.Given as goal
 
-abbrev pub invariant-loop-byte : goal.invariant-loop-byte
-invariant-loop-byte g l =
-    TakesBytes g.L.TokenLanguage.automaton g.L.TokenLanguage.value_of l.fn.source (take l.byte-index l.bytes) l.fn.into.items l.into.items l.source
+abbrev pub invariant-loop-place : goal.invariant-loop-place
+invariant-loop-place g l =
+    (l.place ≤ length l.bytes) ×
+    TakesBytes g.L.TokenLanguage.automaton g.L.TokenLanguage.value_of l.fn.source (take l.place l.bytes) l.fn.into.items l.into.items l.source
+
+abbrev pub decreases-loop-place : goal.decreases-loop-place
+decreases-loop-place g l = length l.bytes - l.place
