@@ -1,8 +1,5 @@
 -- What characters add, and what they are refused for.
 use Rattle.std.proofs.Common.{◌≡◌, ℕ, zero, suc, ◌+◌, ◌<◌, ◌≤◌, Option, None, Some, List, [], ◌∷◌, ◌++◌, length, take, drop, get_or, refl, sym, ap, ◌∙◌, subst, arith}
-use Rattle.std.proofs.Common.{Result, Ok, Err}
-use Rattle.std.specs.Prelude.{IfErr}
-use Rattle.std.specs.Result.{IsErrAnd}
 use Rattle.std.proofs.lemmas.Grind.{get_or_default_zero}
 use Rattle.std.proofs.lemmas.List.{append_assoc, append-nil, drop_all, length-append, length-drop, take-append-drop, take_all}
 use Rattle.std.proofs.Math.Seq.{drop-cons, take-suc}
@@ -246,11 +243,6 @@ room_left cs i lt =
     let whole : size cs ≡ size (take i cs) + (len_utf8 (get_or cs i 0) + size (drop (suc i) cs)) =
     ap size (sym (parted cs i lt)) ∙ size_append (take i cs) (get_or cs i 0 ∷ [] ++ drop (suc i) cs) in
     omega arith
-
--- a fault that is passed on
-pub passed : {T E : Type 0} (r : Result T E) (fault : E) (P : E → Type 0) → IsErrAnd r (λ y. y ≡ fault) → P fault → IfErr r P
-passed (Ok x) fault P e p = tt
-passed (Err y) fault P e p = subst P (sym e) p
 
 pub item_is : (cs : List ℕ) (i x : ℕ) → i < length cs → x ≡ get_or cs i x → x ≡ get_or cs i 0
 item_is cs i x lt e = e ∙ get_or_default_zero cs i x lt

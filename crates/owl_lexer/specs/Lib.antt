@@ -33,3 +33,4 @@ pub mod LexingLaws
 pub mod GapTests
 pub mod GapTestLaws
 pub mod PatternLaws
+pub mod ResultLaws

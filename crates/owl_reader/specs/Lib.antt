@@ -8,4 +8,3 @@ pub mod Readings
 pub mod Early
 pub mod SameStepsLaws
 pub mod OneDefectLaws
-pub mod ResultLaws

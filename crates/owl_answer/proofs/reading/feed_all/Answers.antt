@@ -2,7 +2,7 @@ use Rattle.std.proofs.Common.{ℕ, List, ◌++◌, ap, sym, subst, ◌∙◌}
 use Rattle.std.proofs.lemmas.List.{append_assoc}
 use Rattle.std.specs.Slice.Iter.{chunks_rest}
 use Rattle.fss_defects.specs.FirstDefects.{IsFirstDefect}
-use Rattle.owl_reader.specs.ResultLaws.{passed}
+use Rattle.owl_lexer.specs.ResultLaws.{passed}
 use Rattle.owl_answer.proofs.reading.feed_all.Goals as goal
 
 pub returns-in_err-feed-clause-refuses : goal.returns-in_err-feed-clause-refuses

@@ -1,6 +1,6 @@
 use Rattle.std.proofs.lemmas.Result.{IfErr-weaker}
 use Rattle.owl_reader.specs.declared.fault.ReadFault.{ReadFault}
-use Rattle.owl_reader.specs.ResultLaws.{passed}
+use Rattle.owl_lexer.specs.ResultLaws.{passed}
 use Rattle.owl_answer.proofs.reading.read.Goals as goal
 
 pub returns-in_err-feed_all-clause-refuses : goal.returns-in_err-feed_all-clause-refuses
