@@ -1,10 +1,8 @@
 //! Runs the program over a row.
 
-use crate::devices::Devices;
-use crate::fault::RowFault;
-use crate::row::{Document, Row};
 use owl_characters::{NoMemory, Text};
-use owl_port::{MemShelf, MemSink};
+use owl_port::{MemShelf, MemSink, Shelf, Sink};
+use row_files::{Devices, Document, Row, RowFault};
 use std::alloc::{AllocError, Global};
 
 /// What came of a run: the exit status, and what was written and noted.
@@ -69,7 +67,18 @@ impl Answer {
     }
 
     fn run(&mut self, alloc: Global, words: &[String], shelf: &mut MemShelf) {
-        let status = owl_top::run(alloc, words, shelf, &mut self.output, &mut self.note);
-        self.status = u64::from(status.number());
+        self.status = status_of(alloc, words, shelf, &mut self.output, &mut self.note);
     }
+}
+
+/// The exit status of a run. Over any shelf and sinks, since what is known of a
+/// run is much where they are known.
+fn status_of<S: Shelf, O: Sink, N: Sink>(
+    alloc: Global,
+    words: &[String],
+    shelf: &mut S,
+    output: &mut O,
+    note: &mut N,
+) -> u64 {
+    u64::from(owl_top::run(alloc, words, shelf, output, note).number())
 }

@@ -1,9 +1,7 @@
 //! What is not as expected of a row.
 
 use crate::answer::{Answer, answer_to};
-use crate::fault::RowFault;
-use crate::row::Row;
-use crate::token::{Language, tokens_of};
+use row_files::{Devices, Language, Row, RowFault, tokens_of};
 use std::alloc::{AllocError, Global};
 use std::fmt::Write;
 
@@ -18,17 +16,28 @@ pub fn report_of(alloc: Global, row: &Row<'_>) -> Result<String, RowFault> {
 }
 
 fn report_all(alloc: Global, row: &Row<'_>, report: &mut String) -> Result<(), RowFault> {
-    if let Some(language) = row.tokens {
-        return report_tokens(alloc, row, language, report);
+    match row.tokens {
+        Some(language) => report_tokens(alloc, row, language, report),
+        None if row.cuts => report_pieces(alloc, row, report),
+        None => report_run(alloc, row, row.devices, report),
     }
-    if !row.cuts {
-        return compare(&answer_to(alloc, row, row.devices)?, row, report);
-    }
+}
+
+/// A run for each size of pieces.
+fn report_pieces(alloc: Global, row: &Row<'_>, report: &mut String) -> Result<(), RowFault> {
     for size in 1..=LARGEST_PIECE {
-        let answer = answer_to(alloc, row, row.devices.in_pieces(size))?;
-        compare(&answer, row, report)?;
+        report_run(alloc, row, row.devices.in_pieces(size), report)?;
     }
     Ok(())
+}
+
+fn report_run(
+    alloc: Global,
+    row: &Row<'_>,
+    devices: Devices,
+    report: &mut String,
+) -> Result<(), RowFault> {
+    compare(&answer_to(alloc, row, devices)?, row, report)
 }
 
 /// The tokens in each cut of the document in two pieces.
@@ -47,13 +56,17 @@ fn report_tokens(
 }
 
 fn compare(answer: &Answer, row: &Row<'_>, report: &mut String) -> Result<(), RowFault> {
-    let status = row.status.ok_or(RowFault::NoStatus)?;
-    if answer.status != status {
-        writeln!(report, "the status is {}, and not {status}", answer.status)?;
-    }
+    compare_status(answer.status, row.status.ok_or(RowFault::NoStatus)?, report)?;
     compare_texts("output", answer.output.bytes(), &row.output, report)?;
     compare_texts("note", answer.note.bytes(), &row.note, report)?;
     Ok(())
+}
+
+fn compare_status(came: u64, wanted: u64, report: &mut String) -> Result<(), AllocError> {
+    if came == wanted {
+        return Ok(());
+    }
+    writeln!(report, "the status is {came}, and not {wanted}")
 }
 
 fn compare_texts(

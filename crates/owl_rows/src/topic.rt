@@ -1,10 +1,9 @@
 //! Folders of rows.
 
-use crate::line::is_comment;
 use crate::report::report_of;
-use crate::row::read_row;
 use crate::tally::Tally;
 use anyhow::Result;
+use row_files::{folders, is_comment, read_row};
 use std::rt::Files;
 use std::{fs, io};
 
@@ -13,23 +12,10 @@ pub fn check_topics<R: Print + Files + AllocGlobal + Clone + Drop>(
     rt: &R,
     tally: &mut Tally,
 ) -> io::Result<()> {
-    for topic in &topics(rt)? {
+    for topic in &folders(rt)? {
         check_topic(rt, topic.as_str(), tally)?;
     }
     Ok(())
-}
-
-/// The names of the folders, in order.
-fn topics<R: Files + AllocGlobal + Clone + Drop>(rt: &R) -> io::Result<Vec<String>> {
-    let mut topics = Vec::new(rt.alloc());
-    for entry in fs::read_dir(rt, ".")? {
-        let entry = entry?;
-        if entry.file_type()?.is_dir() {
-            topics.push(String::from_str(rt.alloc(), entry.file_name())?)?;
-        }
-    }
-    topics.sort()?;
-    Ok(topics)
 }
 
 /// Runs the rows of a folder. A file of rows that can't be read is a wrong row.
@@ -58,9 +44,7 @@ fn check_rows<R: Print + Files + AllocGlobal>(
     let mut rows = text.split("\nrow ");
     check_head(rt, topic, rows.next().unwrap_or(""), tally)?;
     for row in rows {
-        let (name, lines) = row.split_once('\n').unwrap_or((row, ""));
-        let is_right = check_row(rt, topic, name, lines)?;
-        tally.count(is_right);
+        check_row(rt, topic, row, tally)?;
     }
     Ok(())
 }
@@ -78,21 +62,27 @@ fn check_head<R: Print>(rt: &R, topic: &str, head: &str, tally: &mut Tally) -> i
 fn check_row<R: Print + Files + AllocGlobal>(
     rt: &R,
     topic: &str,
-    name: &str,
-    lines: &str,
-) -> io::Result<bool> {
+    row: &str,
+    tally: &mut Tally,
+) -> io::Result<()> {
+    let (name, lines) = row.split_once('\n').unwrap_or((row, ""));
     match report(rt, topic, lines) {
         Ok(report) => {
-            for line in report.lines() {
-                println!(rt; "{topic}/{name}: {line}")?;
-            }
-            Ok(report.is_empty())
+            tally.count(report.is_empty());
+            print_lines(rt, topic, name, report.as_str())
         }
         Err(error) => {
-            println!(rt; "{topic}/{name}: {error:#}")?;
-            Ok(false)
+            tally.count(false);
+            println!(rt; "{topic}/{name}: {error:#}")
         }
     }
+}
+
+fn print_lines<R: Print>(rt: &R, topic: &str, name: &str, report: &str) -> io::Result<()> {
+    for line in report.lines() {
+        println!(rt; "{topic}/{name}: {line}")?;
+    }
+    Ok(())
 }
 
 fn report<R: Files + AllocGlobal>(rt: &R, topic: &str, lines: &str) -> Result<String> {

@@ -1,10 +1,10 @@
-//! Why a row can't be run.
+//! Why a row can't be read or run.
 
 use owl_characters::NoMemory;
 use std::alloc::{AllocError, AllocFailed};
 use thiserror::Error;
 
-/// Why a row can't be run.
+/// Why a row can't be read or run.
 #[derive(Clone, Copy, Debug, PartialEq, Eq, Error)]
 pub enum RowFault {
     /// No line begins so.

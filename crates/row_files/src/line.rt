@@ -4,9 +4,14 @@ ghost use Rattle.std.specs.Prelude.{◌≡◌, ◌↔◌, Some, IsNone, IsOk, On
 
 use crate::fault::RowFault;
 
-/// Whether a line says nothing.
+/// Whether a line says nothing: it is empty, or begins with `#`.
 pub fn is_comment(line: &str) -> bool {
     line.is_empty() || line.starts_with('#')
+}
+
+/// The word that a line begins with, and what stands behind it and a space.
+pub fn word_of(line: &str) -> (&str, &str) {
+    line.split_once(' ').unwrap_or((line, ""))
 }
 
 /// Sets what no line before has set.

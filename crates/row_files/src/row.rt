@@ -1,15 +1,16 @@
-//! Rows, and how they are written.
+//! Rows, and how they are read.
 
 use crate::devices::Devices;
 use crate::fault::RowFault;
-use crate::line::{is_comment, number_of, set};
-use crate::part::{Part, append_line, append_part};
+use crate::line::{is_comment, number_of, set, word_of};
+use crate::part::{append_line, append_part, part_of};
 use crate::token::{Language, language_of};
 use anyhow::{Context, Result};
 use std::alloc::Global;
+use std::fs;
 use std::rt::Files;
 
-/// A document on the shelf.
+/// A document on the shelf, with all its bytes.
 #[derive(Drop)]
 pub struct Document<'a> {
     pub name: &'a str,
@@ -36,7 +37,8 @@ pub struct Row<'a> {
     pub note: Option<Vec<u8>>,
 }
 
-/// The row of these lines, with files of this folder.
+/// The row of these lines, with files of this folder. The error names the line
+/// that can't be read and says why, for whoever wrote it.
 pub fn read_row<'a, R: Files + AllocGlobal>(
     rt: &R,
     folder: &str,
@@ -45,12 +47,6 @@ pub fn read_row<'a, R: Files + AllocGlobal>(
     let mut row = Row::new(rt.alloc());
     row.take_all(rt, folder, lines)?;
     Ok(row)
-}
-
-/// The part of a text that stands so many times, written `COUNT TEXT`.
-fn repeated(text: &str) -> Result<Part<'_>, RowFault> {
-    let (count, text) = text.split_once(' ').ok_or(RowFault::NoNumber)?;
-    Ok(Part::Repeated(number_of(count)?, text))
 }
 
 impl<'a> Row<'a> {
@@ -83,30 +79,54 @@ impl<'a> Row<'a> {
     }
 
     fn take<R: Files + AllocGlobal>(&mut self, rt: &R, folder: &str, line: &'a str) -> Result<()> {
+        let (word, rest) = word_of(line);
+        if word == "<" {
+            return self.append_file(rt, folder, rest);
+        }
+        Ok(self.say(rt.alloc(), line)?)
+    }
+
+    fn append_file<R: Files + AllocGlobal>(
+        &mut self,
+        rt: &R,
+        folder: &str,
+        name: &str,
+    ) -> Result<()> {
+        let bytes = self.text()?;
+        let content = content_of(rt, folder, name)?;
+        bytes.extend_from_slice(&content)?;
+        Ok(())
+    }
+
+    /// Takes a line that names no file.
+    fn say(&mut self, alloc: Global, line: &'a str) -> Result<(), RowFault> {
         if is_comment(line) {
             return Ok(());
         }
-        let (word, rest) = line.split_once(' ').unwrap_or((line, ""));
-        match word {
-            "=" => self.append(rt, folder, Part::Text(rest)),
-            "|" => self.append(rt, folder, Part::Line(rest)),
-            "*" => self.append(rt, folder, repeated(rest)?),
-            "<" => self.append(rt, folder, Part::File(rest)),
-            _ => Ok(self.say(rt.alloc(), word, rest)?),
+        let (word, rest) = word_of(line);
+        match part_of(word, rest)? {
+            Some(part) => Ok(append_part(self.text()?, part)?),
+            None => self.set(alloc, word, rest),
         }
     }
 
     /// Takes a line that is no part of a text.
-    fn say(&mut self, alloc: Global, word: &str, rest: &'a str) -> Result<(), RowFault> {
+    fn set(&mut self, alloc: Global, word: &str, rest: &'a str) -> Result<(), RowFault> {
         match word {
             "words" => set(&mut self.words, rest),
             "tokens" => set(&mut self.tokens, language_of(rest)?),
-            "open" => self.leave_open(),
             "document" => self.begin_document(alloc, rest),
             "output" => set(&mut self.output, Vec::new(alloc)),
             "status" => set(&mut self.status, number_of(rest)?),
             "line" => self.set_note(alloc, rest),
-            "cuts" => self.cut(),
+            "cuts" => {
+                self.cuts = true;
+                Ok(())
+            }
+            "open" => {
+                self.is_open = true;
+                Ok(())
+            }
             _ => self.devices.set(word, rest),
         }
     }
@@ -128,30 +148,21 @@ impl<'a> Row<'a> {
         set(&mut self.note, note)
     }
 
-    fn cut(&mut self) -> Result<(), RowFault> {
-        self.cuts = true;
-        Ok(())
-    }
-
-    fn leave_open(&mut self) -> Result<(), RowFault> {
-        self.is_open = true;
-        Ok(())
-    }
-
-    /// Appends a part to the output, or to the last document where the output
-    /// is not begun.
-    fn append<R: Files + AllocGlobal>(
-        &mut self,
-        rt: &R,
-        folder: &str,
-        part: Part<'_>,
-    ) -> Result<()> {
+    /// The text that parts go to: the output, or the last document where the
+    /// output is not begun.
+    fn text(&mut self) -> Result<&mut Vec<u8>, RowFault> {
         if let Some(output) = &mut self.output {
-            append_part(rt, folder, output, part)
+            Ok(output)
         } else if let Some(document) = self.documents.last_mut() {
-            append_part(rt, folder, &mut document.bytes, part)
+            Ok(&mut document.bytes)
         } else {
-            Err(RowFault::NoText.into())
+            Err(RowFault::NoText)
         }
     }
+}
+
+/// All bytes of a file of a folder. An error names its path.
+fn content_of<R: Files + AllocGlobal>(rt: &R, folder: &str, name: &str) -> Result<Vec<u8>> {
+    let path = format!(in rt.alloc(); "{folder}/{name}")?;
+    fs::read(rt, path.as_str()).context(format_args!("{path}"))
 }

@@ -28,20 +28,22 @@ pub struct Devices {
 }
 
 impl Devices {
-    /// Sets what a line names. `UnknownLine` where its word names nothing.
-    pub fn set(&mut self, word: &str, number: &str) -> Result<(), RowFault> {
-        match word {
-            "piece" => set(&mut self.piece, number_of(number)?),
-            "fail-read" => set(&mut self.fail_read, number_of(number)?),
-            "out-piece" => set(&mut self.out_piece, number_of(number)?),
-            "fail-put" => set(&mut self.fail_put, number_of(number)?),
-            "room" => set(&mut self.room, number_of(number)?),
-            "fail-note" => set(&mut self.fail_note, number_of(number)?),
-            _ => Err(RowFault::UnknownLine),
-        }
+    /// Sets what a line names. `UnknownLine` where its word names nothing,
+    /// `NoNumber` where no number stands behind it, and `Twice` where it is set.
+    pub(crate) fn set(&mut self, word: &str, number: &str) -> Result<(), RowFault> {
+        let place = match word {
+            "piece" => &mut self.piece,
+            "fail-read" => &mut self.fail_read,
+            "out-piece" => &mut self.out_piece,
+            "fail-put" => &mut self.fail_put,
+            "room" => &mut self.room,
+            "fail-note" => &mut self.fail_note,
+            _ => return Err(RowFault::UnknownLine),
+        };
+        set(place, number_of(number)?)
     }
 
-    /// The same with another size of what a read gives.
+    /// The same, but a read gives at most so many bytes.
     pub fn in_pieces(self, most: u64) -> Devices {
         Devices {
             piece: Some(most),
@@ -49,13 +51,13 @@ impl Devices {
         }
     }
 
-    /// Sets what is said of reads.
+    /// Has a shelf give what is said of reads.
     pub fn set_shelf(self, shelf: &mut MemShelf) {
         shelf.piece(size_of(self.piece));
         shelf.fail_at(call_of(self.fail_read));
     }
 
-    /// A sink for the output.
+    /// A sink for the output, with nothing in it.
     pub fn output(self, alloc: Global) -> Result<MemSink, NoMemory> {
         let mut sink = MemSink::new(alloc, self.room.unwrap_or(ROOM) as usize)?;
         sink.piece(size_of(self.out_piece));
@@ -63,7 +65,7 @@ impl Devices {
         Ok(sink)
     }
 
-    /// A sink for the note.
+    /// A sink for the note, with nothing in it, which takes a line.
     pub fn note(self, alloc: Global) -> Result<MemSink, NoMemory> {
         let mut sink = MemSink::new(alloc, NOTE_ROOM)?;
         sink.fail_at(call_of(self.fail_note));

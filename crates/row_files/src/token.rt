@@ -13,7 +13,7 @@ use ttl_tokens::Turtle;
 /// The most bytes of a document whose tokens are told.
 const MOST_BYTES: usize = 1_000_000;
 
-/// Whose tokens are cut.
+/// Whose tokens of a document are told.
 #[derive(Clone, Copy, Debug, PartialEq, Eq)]
 pub enum Language {
     Functional,
@@ -31,8 +31,12 @@ pub fn language_of(name: &str) -> Result<Language, RowFault> {
     }
 }
 
-/// The tokens of bytes that come in two pieces, a line for each, and behind
-/// them a line for how they end where the end is told.
+/// The tokens of bytes that come in two pieces, the first one of `cut` bytes: a
+/// line for each, and behind them a line for how they end. Where the bytes are
+/// not whole, more may follow, and an end without a refusal has no line.
+///
+/// `TooLong` where there are more than a million bytes, or fewer than `cut`, and
+/// else `Memory` alone.
 pub fn tokens_of(
     alloc: Global,
     language: Language,
@@ -44,58 +48,33 @@ pub fn tokens_of(
         return Err(RowFault::TooLong);
     }
     let (first, second) = bytes.split_at(cut);
-    let mut text = String::new(alloc);
     match language {
-        Language::Functional => append_dialect(
-            alloc,
-            Dialect::Functional,
-            first,
-            second,
-            is_whole,
-            &mut text,
-        )?,
-        Language::Manchester => append_dialect(
-            alloc,
-            Dialect::Manchester,
-            first,
-            second,
-            is_whole,
-            &mut text,
-        )?,
-        Language::Turtle => append_turtle(alloc, first, second, is_whole, &mut text)?,
+        Language::Functional => of_dialect(alloc, Dialect::Functional, first, second, is_whole),
+        Language::Manchester => of_dialect(alloc, Dialect::Manchester, first, second, is_whole),
+        Language::Turtle => of_turtle(alloc, first, second, is_whole),
     }
-    Ok(text)
 }
 
-fn append_dialect(
+fn of_dialect(
     alloc: Global,
     dialect: Dialect,
     first: &[u8],
     second: &[u8],
     is_whole: bool,
-    text: &mut String,
-) -> Result<(), AllocError>
+) -> Result<String, RowFault>
     requires { length first.now + length second.now < 2 ^ 62 }
 {
     let mut tokens = Vec::new(alloc);
     let ended = take_dialect(alloc, dialect, first, second, is_whole, &mut tokens);
-    append_tokens(&tokens, text)?;
-    append_ending(ended, is_whole, text)
+    text_of(alloc, &tokens, ended, is_whole)
 }
 
-fn append_turtle(
-    alloc: Global,
-    first: &[u8],
-    second: &[u8],
-    is_whole: bool,
-    text: &mut String,
-) -> Result<(), AllocError>
+fn of_turtle(alloc: Global, first: &[u8], second: &[u8], is_whole: bool) -> Result<String, RowFault>
     requires { length first.now + length second.now < 2 ^ 62 }
 {
     let mut tokens = Vec::new(alloc);
     let ended = take_turtle(alloc, first, second, is_whole, &mut tokens);
-    append_tokens(&tokens, text)?;
-    append_ending(ended, is_whole, text)
+    text_of(alloc, &tokens, ended, is_whole)
 }
 
 fn take_dialect(
@@ -112,7 +91,7 @@ fn take_dialect(
     lexer.feed(first, into)?;
     lexer.feed(second, into)?;
     if is_whole {
-        lexer.finish(into)?;
+        return lexer.finish(into);
     }
     Ok(())
 }
@@ -130,9 +109,21 @@ fn take_turtle(
     lexer.feed(first, into)?;
     lexer.feed(second, into)?;
     if is_whole {
-        lexer.finish(into)?;
+        return lexer.finish(into);
     }
     Ok(())
+}
+
+fn text_of<T: Described>(
+    alloc: Global,
+    tokens: &[Placed<T>],
+    ended: Result<(), LexFault>,
+    is_whole: bool,
+) -> Result<String, RowFault> {
+    let mut text = String::new(alloc);
+    append_tokens(tokens, &mut text)?;
+    append_ending(ended, is_whole, &mut text)?;
+    Ok(text)
 }
 
 fn append_tokens<T: Described>(tokens: &[Placed<T>], text: &mut String) -> Result<(), AllocError> {
