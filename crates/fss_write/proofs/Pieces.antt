@@ -10,7 +10,7 @@ use Rattle.owl_lexer.specs.declared.placed.Placed.{Placed}
 use Rattle.owl_tokens.specs.declared.token.Sign.TheVariants as sign
 use Rattle.owl_tokens.specs.declared.token.Token.{Token}
 use Rattle.owl_tokens.specs.declared.token.Token.TheVariants as token
-use Rattle.owl_text.specs.LongestTokenLaws.{sign_longest}
+use Rattle.owl_tokens.specs.StopLaws.{longest_closed}
 use Rattle.owl_atom.specs.declared.prefixes.Prefix.{Prefix}
 use Rattle.fss_terms.specs.Terms.{AreTerms, tokens_of}
 use Rattle.fss_terms.specs.declared.term.Term.{Term}
@@ -82,11 +82,11 @@ module _ (prefixes : List Prefix) where
 
   pub says_open : (cs : List ℕ) (terms : List Term) → SaysTerms prefixes cs terms → SaysTerms prefixes (40 ∷ cs) (Opening ∷ terms)
   says_open cs terms k =
-      cuts_token (λ tokens. AreTerms prefixes tokens (Opening ∷ terms)) (λ tokens. AreTerms prefixes tokens terms) (token.Sign sign.Open) (codes "(") cs refl (sign_longest sign.Open (codes "(") cs refl) (λ ts h. (ts, refl, h)) k
+      cuts_token (λ tokens. AreTerms prefixes tokens (Opening ∷ terms)) (λ tokens. AreTerms prefixes tokens terms) (token.Sign sign.Open) (codes "(") cs refl (longest_closed (token.Sign sign.Open) (codes "(") cs refl refl) (λ ts h. (ts, refl, h)) k
 
   pub says_close : (cs : List ℕ) (terms : List Term) → SaysTerms prefixes cs terms → SaysTerms prefixes (41 ∷ cs) (Closing ∷ terms)
   says_close cs terms k =
-      cuts_token (λ tokens. AreTerms prefixes tokens (Closing ∷ terms)) (λ tokens. AreTerms prefixes tokens terms) (token.Sign sign.Close) (codes ")") cs refl (sign_longest sign.Close (codes ")") cs refl) (λ ts h. (ts, refl, h)) k
+      cuts_token (λ tokens. AreTerms prefixes tokens (Closing ∷ terms)) (λ tokens. AreTerms prefixes tokens terms) (token.Sign sign.Close) (codes ")") cs refl (longest_closed (token.Sign sign.Close) (codes ")") cs refl refl) (λ ts h. (ts, refl, h)) k
 
   -- a keyword, and the bracket behind it
   pub says_opening : (word cs : List ℕ) (terms : List Term) → IsNameFrom is_start word → SaysTerms prefixes cs terms → SaysTerms prefixes (word ++ 40 ∷ cs) (Keyword word ∷ Opening ∷ terms)

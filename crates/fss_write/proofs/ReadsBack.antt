@@ -18,7 +18,7 @@ use Rattle.owl_lexer.specs.declared.placed.Placed.{Placed}
 use Rattle.owl_tokens.specs.declared.token.Sign.TheVariants as sign
 use Rattle.owl_tokens.specs.declared.token.Token.{Token}
 use Rattle.owl_tokens.specs.declared.token.Token.TheVariants as token
-use Rattle.owl_text.specs.LongestTokenLaws.{iri_longest, sign_longest}
+use Rattle.owl_tokens.specs.StopLaws.{longest_closed}
 use Rattle.owl_characters.specs.Limit.{most_bytes}
 use Rattle.owl_characters.specs.Utf8Laws.{no_bytes}
 use Rattle.owl_atom.specs.declared.prefixes.Prefix.{Prefix}
@@ -107,7 +107,7 @@ module _ (written read : List Prefix) (known : AreKnown written read) where
 says_full : (read : List Prefix) (iri cs : List ℕ) (more : List Term) → IsIri iri → SaysTerms read cs more → SaysTerms read (full_iri iri ++ cs) (iri_term iri ∷ more)
 says_full read iri cs more h k =
     cuts_token (λ tokens. AreTerms read tokens (iri_term iri ∷ more)) (λ tokens. AreTerms read tokens more) (token.Iri iri) (full_iri iri) cs (h, refl)
-    (iri_longest iri (full_iri iri) cs (h, refl)) (λ ts m. (ts, (token.Iri iri, refl, refl), m)) k
+    (longest_closed (token.Iri iri) (full_iri iri) cs (h, refl) refl) (λ ts m. (ts, (token.Iri iri, refl, refl), m)) k
 
 says_import : (read : List Prefix) (iri cs : List ℕ) (more : List Term) → IsIri iri → SaysTerms read cs more → SaysTerms read (import_line iri ++ cs) (import_terms iri ++ more)
 says_import read iri cs more h k =
@@ -167,18 +167,18 @@ declares_one read p ds terms cs name iri k =
     let fact : List Token → Type 0 = Declares read (declaration p ∷ ds) terms in
     let close = λ (tokens : List Token). fact (token.Word (codes "Prefix") ∷ token.Sign sign.Open ∷ token.Name p.name [] ∷ token.Sign sign.Equals ∷ token.Iri p.iri ∷ tokens) in
     let ending =
-    cuts_token close (Declares read ds terms) (token.Sign sign.Close) (codes ")") (10 ∷ cs) refl (sign_longest sign.Close (codes ")") (10 ∷ cs) refl)
+    cuts_token close (Declares read ds terms) (token.Sign sign.Close) (codes ")") (10 ∷ cs) refl (longest_closed (token.Sign sign.Close) (codes ")") (10 ∷ cs) refl refl)
     (λ ts m. (m.0, ap (λ (x : List Token). declaration_tokens (declaration p) ++ x) m.1, m.2)) (cuts_space (Declares read ds terms) 10 cs refl k) in
     let full = λ (tokens : List Token). fact (token.Word (codes "Prefix") ∷ token.Sign sign.Open ∷ token.Name p.name [] ∷ token.Sign sign.Equals ∷ tokens) in
-    let with_iri = cuts_token full close (token.Iri p.iri) (full_iri p.iri) (41 ∷ 10 ∷ cs) (iri, refl) (iri_longest p.iri (full_iri p.iri) (41 ∷ 10 ∷ cs) (iri, refl)) (λ ts m. m) ending in
+    let with_iri = cuts_token full close (token.Iri p.iri) (full_iri p.iri) (41 ∷ 10 ∷ cs) (iri, refl) (longest_closed (token.Iri p.iri) (full_iri p.iri) (41 ∷ 10 ∷ cs) (iri, refl) refl) (λ ts m. m) ending in
     let named = λ (tokens : List Token). fact (token.Word (codes "Prefix") ∷ token.Sign sign.Open ∷ token.Name p.name [] ∷ tokens) in
-    let with_equals = cuts_token named full (token.Sign sign.Equals) (codes "=") (full_iri p.iri ++ (41 ∷ 10 ∷ cs)) refl (sign_longest sign.Equals (codes "=") (full_iri p.iri ++ (41 ∷ 10 ∷ cs)) refl) (λ ts m. m) with_iri in
+    let with_equals = cuts_token named full (token.Sign sign.Equals) (codes "=") (full_iri p.iri ++ (41 ∷ 10 ∷ cs)) refl (longest_closed (token.Sign sign.Equals) (codes "=") (full_iri p.iri ++ (41 ∷ 10 ∷ cs)) refl refl) (λ ts m. m) with_iri in
     let begun = λ (tokens : List Token). fact (token.Word (codes "Prefix") ∷ token.Sign sign.Open ∷ tokens) in
     let after = 61 ∷ (full_iri p.iri ++ (41 ∷ 10 ∷ cs)) in
     let with_name = cuts_token begun named (token.Name p.name []) (p.name ++ (58 ∷ [])) after ([], name, spells_nothing, refl) (token_longest (token.Name p.name []) (p.name ++ (58 ∷ [])) after ([], name, spells_nothing, refl) refl) (λ ts m. m) with_equals in
     let word = λ (tokens : List Token). fact (token.Word (codes "Prefix") ∷ tokens) in
     let inside = (p.name ++ (58 ∷ [])) ++ after in
-    let with_open = cuts_token word begun (token.Sign sign.Open) (codes "(") inside refl (sign_longest sign.Open (codes "(") inside refl) (λ ts m. m) with_name in
+    let with_open = cuts_token word begun (token.Sign sign.Open) (codes "(") inside refl (longest_closed (token.Sign sign.Open) (codes "(") inside refl refl) (λ ts m. m) with_name in
     let whole = cuts_token fact word (token.Word (codes "Prefix")) (codes "Prefix") (40 ∷ inside) (prefix_word, refl) (token_longest (token.Word (codes "Prefix")) (codes "Prefix") (40 ∷ inside) (prefix_word, refl) refl) (λ ts m. m) with_open in
     let same : (p.name ++ (codes ":=" ++ (full_iri p.iri ++ codes ")\n"))) ++ cs ≡ inside =
     append_assoc p.name (codes ":=" ++ (full_iri p.iri ++ codes ")\n")) cs

@@ -14,7 +14,7 @@ use Rattle.owl_characters.specs.Order.{text_eq}
 use Rattle.owl_tokens.specs.declared.token.Sign.TheVariants as sign
 use Rattle.owl_tokens.specs.declared.token.Token.TheVariants as token
 use Rattle.owl_characters.specs.AllAreLaws.{AllAre-append, all_are}
-use Rattle.owl_text.specs.LongestTokenLaws.{sign_longest, str_longest}
+use Rattle.owl_tokens.specs.StopLaws.{longest_closed}
 use Rattle.owl_atom.specs.declared.prefixes.Prefix.{Prefix}
 use Rattle.rdf_terms.specs.Literals.{FitsTag, IsLiteral, LiteralParts, of_datatype, string, with_tag}
 use Rattle.owl_tree.specs.declared.atom.Atom.{Atom}
@@ -95,7 +95,7 @@ module _ (written read : List Prefix) (known : AreKnown written read) where
   says_string : (form rest : List ℕ) (literal : LiteralParts) (terms : List Term) → Cuts rest (λ tokens. AreTerms read (token.Str form ∷ tokens) (term.Atom (Literal literal) ∷ terms)) → SaysTerms read (string_text form ++ rest) (term.Atom (Literal literal) ∷ terms)
   says_string form rest literal terms k =
       cuts_token (λ tokens. AreTerms read tokens (term.Atom (Literal literal) ∷ terms)) (λ tokens. AreTerms read (token.Str form ∷ tokens) (term.Atom (Literal literal) ∷ terms)) (token.Str form) (string_text form) rest refl
-      (str_longest form (string_text form) rest refl) (λ ts m. m) k
+      (longest_closed (token.Str form) (string_text form) rest refl refl) (λ ts m. m) k
 
   says_end : (form datatype : List ℕ) (b : Bool) (rest : List ℕ) (terms : List Term) → text_eq datatype string ≡ b → IsIri datatype → FitsTag None datatype → Ends rest → SaysTerms read rest terms
       → Cuts ((if b then [] else codes "^^" ++ iri_text written datatype) ++ rest) (λ tokens. AreTerms read (token.Str form ∷ tokens) (term.Atom (Literal (of_datatype form datatype)) ∷ terms))
@@ -107,7 +107,7 @@ module _ (written read : List Prefix) (known : AreKnown written read) where
       let one = iri_token written read datatype known i in
       let literal = of_datatype form datatype in
       cuts_token (λ tokens. AreTerms read (token.Str form ∷ tokens) (term.Atom (Literal literal) ∷ terms)) (λ tokens. AreTerms read (token.Str form ∷ token.Sign sign.Carets ∷ tokens) (term.Atom (Literal literal) ∷ terms))
-      (token.Sign sign.Carets) (codes "^^") (iri_text written datatype ++ rest) refl (sign_longest sign.Carets (codes "^^") (iri_text written datatype ++ rest) refl) (λ ts m. m)
+      (token.Sign sign.Carets) (codes "^^") (iri_text written datatype ++ rest) refl (longest_closed (token.Sign sign.Carets) (codes "^^") (iri_text written datatype ++ rest) refl refl) (λ ts m. m)
       (cuts_token (λ tokens. AreTerms read (token.Str form ∷ token.Sign sign.Carets ∷ tokens) (term.Atom (Literal literal) ∷ terms)) (λ tokens. AreTerms read tokens terms) one.token (iri_text written datatype) rest one.spells
       (token_longest one.token (iri_text written datatype) rest one.spells e) (λ ts m. (ts, typed form datatype one.token refl one.stands (inr (fits.0, fits.1, refl)), m)) k)
 

@@ -35,7 +35,7 @@ spelled_exactly grammar gap value spells s t cs = (λ h. s.token t cs h, λ o. s
 
 -- tests
 
-passes_among : (f : ℕ → Bool) (cs : List ℕ) (c : ℕ) → list_all f cs ≡ true → is_among cs c ≡ true → f c ≡ true
+pub passes_among : (f : ℕ → Bool) (cs : List ℕ) (c : ℕ) → list_all f cs ≡ true → is_among cs c ≡ true → f c ≡ true
 passes_among f [] c h m = absurd (cc)
 passes_among f (x ∷ cs) c h m =
     let parts = and_parts (f x) (list_all f cs) h in
@@ -45,11 +45,11 @@ passes_among f (x ∷ cs) c h m =
     ]
 
 -- an implication that computes
-implied : (a b : Bool) → (not a || b) ≡ true → a ≡ true → b ≡ true
+pub implied : (a b : Bool) → (not a || b) ≡ true → a ≡ true → b ≡ true
 implied true b h e = h
 implied false b h e = absurd (cc)
 
-nothing : (o : Option ℕ) → is_none o ≡ true → o ≡ None
+pub nothing : (o : Option ℕ) → is_none o ≡ true → o ≡ None
 nothing None h = refl
 nothing (Some n) h = absurd (cc)
 
@@ -66,7 +66,7 @@ state_stays gap all (row ∷ rows) (kind ∷ kinds) zero h g =
 state_stays gap all (row ∷ rows) (kind ∷ kinds) (suc state) h g =
     state_stays gap all rows kinds state (and_parts (not (is_gap_kind gap (kind_number kind)) || row_stays gap all row) (gaps_stay gap all rows kinds) h).1 g
 
-state_ends : (gap : ℕ → Bool) (class : ℕ) (rows : List (List ℕ)) (kinds : List ℕ) (state : ℕ) → tokens_end gap class rows kinds ≡ true → is_token_kind gap (kind_in kinds state) ≡ true → step_in rows state class ≡ None
+pub state_ends : (gap : ℕ → Bool) (class : ℕ) (rows : List (List ℕ)) (kinds : List ℕ) (state : ℕ) → tokens_end gap class rows kinds ≡ true → is_token_kind gap (kind_in kinds state) ≡ true → step_in rows state class ≡ None
 state_ends gap class [] kinds state h g = refl
 state_ends gap class (row ∷ rows) [] state h g = absurd (cc)
 state_ends gap class (row ∷ rows) (kind ∷ kinds) zero h g =

@@ -33,4 +33,5 @@ pub mod LexingLaws
 pub mod GapTests
 pub mod GapTestLaws
 pub mod PatternLaws
+pub mod StopLaws
 pub mod ResultLaws

@@ -24,3 +24,4 @@ pub mod FunctionalSpellingLaws
 pub mod ManchesterSpellings
 pub mod ManchesterSpellingLaws
 pub mod TokenLaws
+pub mod StopLaws

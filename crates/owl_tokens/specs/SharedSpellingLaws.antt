@@ -150,7 +150,7 @@ says_more one other f value cs (comment_text v s) = comment_text v s
 abbrev pub is_gap : ℕ → Bool
 is_gap kind = (kind == SPACE) || (kind == COMMENT)
 
-gaps_are_none : (kind : ℕ) (cs : List ℕ) → is_gap kind ≡ true → value_of kind cs ≡ None
+pub gaps_are_none : (kind : ℕ) (cs : List ℕ) → is_gap kind ≡ true → value_of kind cs ≡ None
 unfolding value_of sign_of
 gaps_are_none kind cs h = elim (or_cases (kind == SPACE) (kind == COMMENT) h) [
   | inl e ↦ ap (λ (k : ℕ). value_of k cs) (eqb-true kind SPACE e)

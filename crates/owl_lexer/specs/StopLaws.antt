@@ -1,0 +1,62 @@
+-- Before which characters a token is the longest, by its table.
+use Rattle.std.proofs.Common.{◌≡◌, ℕ, zero, suc, Bool, true, false, not, ◌&&◌, ◌||◌, Option, None, Some, List, [], ◌∷◌, length, get_or, refl, ap, ◌∙◌, arith}
+use Rattle.std.specs.List.{list_all}
+use Rattle.std.proofs.lemmas.Bool.{and_parts, not_from_false}
+use Rattle.owl_lexer.specs.Automata.{kind_at, run}
+use Rattle.owl_lexer.specs.GapTests.{class_of, is_none, is_token_kind, tokens_end}
+use Rattle.owl_lexer.specs.GapTestLaws.{implied, nothing, state_ends}
+use Rattle.owl_lexer.specs.Holding.{GoesNowhere, NoneBeyond}
+use Rattle.owl_lexer.specs.HoldingLaws.{no_longer}
+use Rattle.owl_lexer.specs.Languages.{IsLanguage}
+use Rattle.owl_lexer.specs.Splitting.{IsLongest}
+use Rattle.owl_lexer.specs.Tables.{Table, automaton_of, kind_in, kind_number, state_of, step_in}
+
+-- from a state where a lexeme of a kind is whole that doesn't pass the test, no character leads on
+abbrev pub tokens_are_closed : (ℕ → Bool) → List (List ℕ) → List ℕ → Bool
+tokens_are_closed passes (row ∷ rows) (kind ∷ kinds) =
+    (not (is_token_kind passes (kind_number kind)) || list_all (λ next. is_none (state_of next)) row) && tokens_are_closed passes rows kinds
+tokens_are_closed passes rows kinds = true
+
+empty_cell : (row : List ℕ) (class : ℕ) → list_all (λ next. is_none (state_of next)) row ≡ true → state_of (get_or row class 255) ≡ None
+empty_cell [] class h = refl
+empty_cell (next ∷ row) zero h = nothing (state_of next) (and_parts (is_none (state_of next)) (list_all (λ other. is_none (state_of other)) row) h).0
+empty_cell (next ∷ row) (suc class) h = empty_cell row class (and_parts (is_none (state_of next)) (list_all (λ other. is_none (state_of other)) row) h).1
+
+state_is_closed : (passes : ℕ → Bool) (rows : List (List ℕ)) (kinds : List ℕ) (state class : ℕ) → tokens_are_closed passes rows kinds ≡ true → is_token_kind passes (kind_in kinds state) ≡ true → step_in rows state class ≡ None
+state_is_closed passes [] kinds state class h whole = refl
+state_is_closed passes (row ∷ rows) [] state class h whole = absurd (cc)
+state_is_closed passes (row ∷ rows) (kind ∷ kinds) zero class h whole =
+    let all = list_all (λ next. is_none (state_of next)) row in
+    let is = is_token_kind passes (kind_number kind) in
+    empty_cell row class (implied is all (and_parts (not is || all) (tokens_are_closed passes rows kinds) h).0 whole)
+state_is_closed passes (row ∷ rows) (kind ∷ kinds) (suc state) class h whole =
+    let all = list_all (λ next. is_none (state_of next)) row in
+    state_is_closed passes rows kinds state class (and_parts (not (is_token_kind passes (kind_number kind)) || all) (tokens_are_closed passes rows kinds) h).1 whole
+
+module _ {T : Type 0} (table : Table) (value : ℕ → List ℕ → Option T) (spells : T → List ℕ → Type 0) (language : IsLanguage (automaton_of table) value spells) (passes : ℕ → Bool) where
+  none_beyond : (cs : List ℕ) → NoneBeyond (automaton_of table) cs (length cs)
+  none_beyond cs n kind lt le s = absurd (omega arith)
+
+  -- where the state to which a token leads has no step on what follows
+  longest_at : (cs rest : List ℕ) (kind : ℕ) (o : Option ℕ) → run (automaton_of table) (Some 0) cs ≡ o → kind_at (automaton_of table) o ≡ Some kind → passes kind ≡ false → ((state : ℕ) → is_token_kind passes (kind_in table.kinds state) ≡ true → GoesNowhere (automaton_of table) state rest) → IsLongest spells cs rest
+  longest_at cs rest kind None leads whole is stuck = absurd (cc)
+  longest_at cs rest kind (Some state) leads whole is stuck = λ other longer more s e.
+      let lexeme = language.token other longer s in
+      no_longer (automaton_of table) cs state (length cs) rest leads (stuck state (ap (is_token_kind passes) whole ∙ not_from_false (passes kind) is)) (none_beyond cs) lexeme.0 longer more lexeme.1 e
+
+  module _ (t : T) (cs : List ℕ) (spelled : spells t cs) (is : (kind : ℕ) → value kind cs ≡ Some t → passes kind ≡ false) where
+    -- before a character that no such token goes on with
+    pub longest_before : (c : ℕ) (rest : List ℕ) → tokens_end passes (class_of table c) table.rows table.kinds ≡ true → IsLongest spells cs (c ∷ rest)
+    longest_before c rest h =
+        let lexeme = language.token t cs spelled in
+        longest_at cs (c ∷ rest) lexeme.0 (run (automaton_of table) (Some 0) cs) refl lexeme.1 (is lexeme.0 lexeme.2) (λ state whole. state_ends passes (class_of table c) table.rows table.kinds state h whole)
+
+    -- before anything, where no such token goes on with any character
+    pub longest_always : (rest : List ℕ) → tokens_are_closed passes table.rows table.kinds ≡ true → IsLongest spells cs rest
+    longest_always rest h =
+        let lexeme = language.token t cs spelled in
+        longest_at cs rest lexeme.0 (run (automaton_of table) (Some 0) cs) refl lexeme.1 (is lexeme.0 lexeme.2) (λ state whole. stuck rest state whole)
+      where
+        stuck : (rest : List ℕ) (state : ℕ) → is_token_kind passes (kind_in table.kinds state) ≡ true → GoesNowhere (automaton_of table) state rest
+        stuck [] state whole = tt
+        stuck (c ∷ rest) state whole = state_is_closed passes table.rows table.kinds state (class_of table c) h whole
