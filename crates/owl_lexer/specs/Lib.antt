@@ -14,7 +14,6 @@ pub mod Grammars
 pub mod Tables
 pub mod TableTests
 pub mod TableLaws
-pub mod EarlyLaws
 pub mod WorkedCases
 pub mod Adding
 pub mod Hands

@@ -5,7 +5,7 @@ use Rattle.owl_lexer.specs.Grammars.CharacterSet.{inside, outside}
 use Rattle.owl_lexer.specs.Patterns.{Pattern}
 use Rattle.owl_lexer.specs.Patterns.Pattern.{empty, one, both, either, many}
 use Rattle.owl_lexer.specs.Rests.{is_nullable, rests}
-use Rattle.owl_lexer.specs.Tables.{Table, class_in, kind_in, kind_number, state_of}
+use Rattle.owl_lexer.specs.Tables.{Table, kind_number, state_of}
 
 -- How a table came about: for each class a character of it, and for each state but the first an earlier state and a class
 -- that lead to it.
@@ -162,22 +162,3 @@ check_grown grammar classes parents table = check_with grammar classes (grow_sta
 
 abbrev pub check_table : Grammar → Origin → Table → Bool
 check_table grammar origin table = check_grown grammar (sets_of_each grammar.sets origin.characters) origin.parents table
-
--- what a character leads to: from each state to none, to one where no lexeme is whole, or to one whose kind passes
-
-abbrev pub passes_kind : (ℕ → Bool) → Option ℕ → Bool
-passes_kind test None = true
-passes_kind test (Some kind) = test kind
-
-abbrev pub passes_state : (ℕ → Bool) → List ℕ → Option ℕ → Bool
-passes_state test kinds None = true
-passes_state test kinds (Some state) = passes_kind test (kind_in kinds state)
-
-abbrev pub all_pass : (ℕ → Bool) → List ℕ → ℕ → List (List ℕ) → Bool
-all_pass test kinds class [] = true
-all_pass test kinds class (row ∷ rows) =
-    passes_state test kinds (state_of (slice_index_or row class 255)) && all_pass test kinds class rows
-
--- the lexemes that end in this character are all of kinds that pass
-abbrev pub check_last : (ℕ → Bool) → Table → ℕ → Bool
-check_last test table c = all_pass test table.kinds (class_in table.intervals table.others c) table.rows

@@ -1,6 +1,6 @@
 -- A small language: spaces, numbers with or without a fraction, and dots. Its table passes the test, a table with another
 -- cell does not, and what the automaton makes of some characters computes.
-use Rattle.std.specs.Prelude.{◌≡◌, true, false, [], ◌∷◌, Some, None, codes, refl, ◌==◌}
+use Rattle.std.specs.Prelude.{◌≡◌, true, false, [], ◌∷◌, Some, None, codes, refl}
 use Rattle.owl_lexer.specs.Automata.{Knows, kind_of}
 use Rattle.owl_lexer.specs.Grammars.{Grammar, IsLexeme}
 use Rattle.owl_lexer.specs.Grammars.CharacterSet.{inside}
@@ -9,7 +9,7 @@ use Rattle.owl_lexer.specs.Patterns.Pattern.{one}
 use Rattle.owl_lexer.specs.PatternWords.{◌then◌, maybe, some}
 use Rattle.owl_lexer.specs.Tables.{Table, automaton_of}
 use Rattle.owl_lexer.specs.TableLaws.{table_knows}
-use Rattle.owl_lexer.specs.TableTests.{Origin, check_last, check_table}
+use Rattle.owl_lexer.specs.TableTests.{Origin, check_table}
 
 abbrev space : Pattern
 space = one 0
@@ -75,8 +75,3 @@ open_number = refl
 pub whole_fraction : kind_of (automaton_of small_table) (codes "12.5") ≡ Some 2
 unfolding small_table
 whole_fraction = refl
-
--- what ends in a space is a space
-pub space_ends_spaces : check_last (λ kind. kind == 1) small_table 32 ≡ true
-unfolding small_table
-space_ends_spaces = refl

@@ -2,10 +2,8 @@
 -- the names of RDF 1.1 Turtle, section 6.5).
 use Rattle.std.specs.Prelude.{◌≡◌, ℕ, Bool, List, [], ◌∷◌, ◌++◌, codes, flat_map, if◌then◌else◌}
 use Rattle.std.specs.Char.{is_ascii_digit}
-use Rattle.std.specs.List.{AllByRecursion}
 use Rattle.owl_characters.specs.Iri.{AllAre, IsIri, is_among, is_iri_character}
 use Rattle.owl_characters.specs.Names.{IsLabel, IsLanguageTag, IsNameFrom, IsPrefixName, IsRunOf, SpellsLocal, is_start}
-use Rattle.owl_lexer.specs.declared.placed.Placed.{Placed}
 use Rattle.owl_tokens.specs.declared.token.Sign.{Sign as Mark}
 use Rattle.owl_tokens.specs.declared.token.Sign.TheVariants.{Open, Close, Equals, Carets, OpenBrace, CloseBrace, OpenBracket, CloseBracket, Comma, Less, AtMost, Greater, AtLeast}
 use Rattle.owl_tokens.specs.declared.token.Token.{Token}
@@ -59,6 +57,3 @@ IsToken (Word word) = IsNameFrom is_start word
 IsToken (Int digits) = IsRunOf is_ascii_digit digits
 IsToken (Dec number) = ⊥
 IsToken (Sign mark) = Unit {0}
-
-abbrev pub AreTokens : List (Placed Token) → Type 0
-AreTokens placed = AllByRecursion (λ p. IsToken p.token) placed
