@@ -1,0 +1,4 @@
+pub mod Imports
+pub mod ImportsLaws
+pub mod Refusals
+pub mod Searches
