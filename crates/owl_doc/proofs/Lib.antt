@@ -1,9 +1,12 @@
 pub mod Adding
 pub mod Begun
 pub mod Collections
+pub mod Declaring
 pub mod Finished
+pub mod FirstUndeclared
 pub mod MarkedTrees
 pub mod Marking
 pub mod SameDocuments
 pub mod SameHeads
 pub mod SameTrees
+pub mod WorkedEntities

@@ -1,6 +1,9 @@
 pub mod Heads
+pub mod Copies
 pub mod Documents
 pub mod Counts
+pub mod Entities
+pub mod EntityLaws
 pub mod Rules
 pub mod Collections
 pub mod Kept

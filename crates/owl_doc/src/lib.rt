@@ -3,19 +3,26 @@
 #![tactic(auto)]
 
 mod builder;
+mod closure;
 mod collected;
 mod counts;
+mod declarations;
 mod document;
 mod fault;
 mod head;
 mod item;
+mod kinds;
 mod rule;
 mod same;
+mod typing;
 
 pub use builder::Builder;
+pub use closure::Closure;
 pub use counts::Counts;
+pub use declarations::declared;
 pub use document::Doc;
 pub use fault::AddFault;
 pub use head::Head;
 pub use item::{Breach, Cant, Item, Why};
 pub use rule::Rule;
+pub use typing::undeclared;

@@ -16,7 +16,7 @@ use Rattle.owl_characters.specs.OrderLaws.{texts_total}
 use Rattle.owl_kind.specs.declared.kind.Kind.{Kind}
 use Rattle.owl_kind.specs.declared.kind.Kind.TheVariants.{Class, Datatype, ObjectProperty, DataProperty, AnnotationProperty, Individual}
 use Rattle.owl_kind.specs.declared.marks.Marks.{Marks}
-use Rattle.owl_kind.specs.Kinds.{Declared, HasKind, IsDeclared, is_built_in}
+use Rattle.owl_kind.specs.Kinds.{Entity, HasKind, IsDeclared, is_built_in}
 use Rattle.owl_kind.specs.Marks.{Entry, HasMark, IsTable, all_kinds, declared_as, declared_by, is_marked, is_of, marked, no_marks}
 use Rattle.owl_list.specs.AscendingLaws.{in_head, in_none}
 use Rattle.owl_kind.proofs.Found.{from_joined, joined_from, only}
@@ -36,17 +36,17 @@ one_of_all Individual = (5, omega arith, refl)
 -- one kind of an entry
 declared_is : (e : Entry) (k kind : Kind) (iri : List ℕ) → Contains (declared_as e k) (record { kind = kind; iri = iri }) → (is_marked e.1 k ≡ true) × (k ≡ kind) × (e.0 ≡ iri)
 declared_is e k kind iri h =
-    let d : Declared = record { kind = kind; iri = iri } in
+    let d : Entity = record { kind = kind; iri = iri } in
     elim (cases_Bool (is_marked e.1 k)) [
       | inl t ↦
           let same : record { kind = k; iri = e.0 } ≡ d = only _ d (subst (λ ds. Contains ds d) (cond-true (is_marked e.1 k) _ _ t) h) in
-          (t, ap (λ (x : Declared). x.kind) same, ap (λ (x : Declared). x.iri) same)
+          (t, ap (λ (x : Entity). x.kind) same, ap (λ (x : Entity). x.iri) same)
       | inr f ↦ absurd (in_none d (subst (λ ds. Contains ds d) (cond-false (is_marked e.1 k) _ _ f) h))
     ]
 
 is_declared_as : (e : Entry) (kind : Kind) → is_marked e.1 kind ≡ true → Contains (declared_as e kind) (record { kind = kind; iri = e.0 })
 is_declared_as e kind t =
-    let d : Declared = record { kind = kind; iri = e.0 } in
+    let d : Entity = record { kind = kind; iri = e.0 } in
     subst (λ ds. Contains ds d) (sym (cond-true (is_marked e.1 kind) (d ∷ []) [] t)) (in_head d [])
 
 pub marks_of_declared : (es : List Entry) (kind : Kind) (iri : List ℕ) → IsDeclared (declared_by es) kind iri → (marks : Marks) × Contains es (iri, marks) × (is_marked marks kind ≡ true)
@@ -61,7 +61,7 @@ marks_of_declared es kind iri h =
 pub declared_of_marks : (es : List Entry) (kind : Kind) (e : Entry) → Contains es e → is_marked e.1 kind ≡ true → IsDeclared (declared_by es) kind e.0
 unfolding declared_by
 declared_of_marks es kind e h t =
-    let d : Declared = record { kind = kind; iri = e.0 } in
+    let d : Entity = record { kind = kind; iri = e.0 } in
     joined_from (λ e. flat_map (declared_as e) all_kinds) es d e h
     (joined_from (declared_as e) all_kinds d kind (one_of_all kind) (is_declared_as e kind t))
 

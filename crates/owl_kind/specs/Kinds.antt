@@ -22,23 +22,23 @@ is_built_in DataProperty iri = has (map owl (codes "topDataProperty" ∷ codes "
 is_built_in AnnotationProperty iri = has annotation_properties iri
 is_built_in Individual iri = false
 
--- an IRI and a kind as which it is declared
-pub record Declared : Type 0 where
+-- an entity: an IRI, as what it names (section 5)
+pub record Entity : Type 0 where
   pub kind : Kind
   pub iri : List ℕ
 
-abbrev pub IsDeclared : List Declared → Kind → List ℕ → Type 0
+abbrev pub IsDeclared : List Entity → Kind → List ℕ → Type 0
 IsDeclared kinds kind iri = Contains kinds (record { kind = kind; iri = iri })
 
 -- declared as this kind, or built in
-abbrev pub HasKind : List Declared → Kind → List ℕ → Type 0
+abbrev pub HasKind : List Entity → Kind → List ℕ → Type 0
 HasKind kinds kind iri = IsDeclared kinds kind iri ⊎ IsTrue (is_built_in kind iri)
 
-abbrev pub HasBoth : List Declared → Kind → Kind → List ℕ → Type 0
+abbrev pub HasBoth : List Entity → Kind → Kind → List ℕ → Type 0
 HasBoth kinds a b iri = HasKind kinds a iri × HasKind kinds b iri
 
 -- two kinds that no IRI may share: two kinds of properties, or class and datatype (section 5.8.1)
-abbrev pub SharesKinds : List Declared → List ℕ → Type 0
+abbrev pub SharesKinds : List Entity → List ℕ → Type 0
 SharesKinds kinds iri =
     HasBoth kinds Class Datatype iri
     ⊎ (HasBoth kinds ObjectProperty DataProperty iri
@@ -46,12 +46,12 @@ SharesKinds kinds iri =
     ⊎ HasBoth kinds DataProperty AnnotationProperty iri))
 
 -- a declared IRI with two such kinds
-pub record HasClash (kinds : List Declared) (iri : List ℕ) : Type 0 where
+pub record HasClash (kinds : List Entity) (iri : List ℕ) : Type 0 where
   pub kind : Kind
   pub declared : IsDeclared kinds kind iri
   pub clash : SharesKinds kinds iri
 
 -- of all that have a clash it comes first, in order of bytes
-pub record IsFirstClash (kinds : List Declared) (iri : List ℕ) : Type 0 where
+pub record IsFirstClash (kinds : List Entity) (iri : List ℕ) : Type 0 where
   pub clash : HasClash kinds iri
   pub first : (other : List ℕ) → HasClash kinds other → text_cmp other iri ≡ Less → ⊥

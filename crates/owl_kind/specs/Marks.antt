@@ -6,7 +6,7 @@ use Rattle.owl_characters.specs.Order.{text_cmp}
 use Rattle.owl_kind.specs.declared.kind.Kind.{Kind}
 use Rattle.owl_kind.specs.declared.kind.Kind.TheVariants.{Class, Datatype, ObjectProperty, DataProperty, AnnotationProperty, Individual}
 use Rattle.owl_kind.specs.declared.marks.Marks.{Marks}
-use Rattle.owl_kind.specs.Kinds.{Declared, is_built_in}
+use Rattle.owl_kind.specs.Kinds.{Entity, is_built_in}
 
 abbrev pub no_marks : Marks
 no_marks = record {
@@ -43,11 +43,11 @@ abbrev pub all_kinds : List Kind
 all_kinds = Class ∷ Datatype ∷ ObjectProperty ∷ DataProperty ∷ AnnotationProperty ∷ Individual ∷ []
 
 -- the IRI as this kind, where it is marked so
-abbrev pub declared_as : Entry → Kind → List Declared
+abbrev pub declared_as : Entry → Kind → List Entity
 declared_as entry kind = cond (is_marked entry.1 kind) (record { kind = kind; iri = entry.0 } ∷ []) []
 
 -- what the entries declare
-unfoldable pub declared_by : List Entry → List Declared
+unfoldable pub declared_by : List Entry → List Entity
 declared_by entries = flat_map (λ entry. flat_map (declared_as entry) all_kinds) entries
 
 abbrev pub HasMark : Marks → Type 0

@@ -18,18 +18,19 @@ use std::collections::BTreeMap;
 use std::marker::Model;
 
 /// What IRIs are declared as (Structural Specification, section 5.8), which
-/// contracts see as a list of pairs of a kind and an IRI.
+/// contracts see as a list of entities.
 #[derive(Debug, Drop)]
 pub struct Kinds {
+    alloc: Global,
     table: BTreeMap<Iri, Marks>,
 }
 
 impl Model for Kinds {
     ghost use Rattle.std.specs.Prelude.{List};
-    ghost use Rattle.owl_kind.specs.Kinds.{Declared};
+    ghost use Rattle.owl_kind.specs.Kinds.{Entity};
     ghost use Rattle.owl_kind.specs.Marks.{IsTable, declared_by};
 
-    ghost Value = { List Declared };
+    ghost Value = { List Entity };
 
     ghost view = { λ k. declared_by k.table.entries };
 
@@ -42,8 +43,14 @@ impl Kinds {
         ensures { (kind : Kind) (iri : List ℕ) → IsDeclared result kind iri → ⊥ }
     {
         Kinds {
+            alloc,
             table: BTreeMap::new(alloc),
         }
+    }
+
+    /// The allocator that it was made with.
+    pub fn allocator(&self) -> Global {
+        self.alloc
     }
 
     /// Declares the IRI as this kind, besides what it is declared as. At want
