@@ -9,6 +9,8 @@ mod axioms;
 #[cfg(test)]
 mod builder;
 #[cfg(test)]
+mod kinds;
+#[cfg(test)]
 mod limits;
 #[cfg(test)]
 mod numbers;
