@@ -1,1 +1,2 @@
+mod Fed
 mod Finished

@@ -48,15 +48,15 @@ impl Reader {
         })
     }
 
-    /// Takes the next bytes.
+    /// Takes the next bytes, and drops them where it has refused.
     ///
     /// A refusal other than `Memory` is the first defect of all bytes that were
     /// fed, with these, whatever follows. A reader that has refused answers the
     /// same refusal from then on. A defect at a token that white space follows
     /// is told at once. An empty piece takes no memory.
     pub fn feed(&mut self, piece: &[u8]) -> Result<(), ReadFault>
-        ensures reads { OnOk result ((bytes : List ℕ) → HasRead self.old bytes
-            → HasRead self.new (bytes ++ piece.now)) }
+        ensures reads { (bytes : List ℕ) → HasRead self.old bytes
+            → HasRead self.new (bytes ++ piece.now) }
         ensures refuses { IfErr result (λ fault. fault ≢ ReadFault.Memory → (bytes : List ℕ)
             → HasRead self.old bytes → Refuses (bytes ++ piece.now) fault) }
         ensures early { OnOk result (TellsEarly self.new) }
