@@ -1,3 +1,4 @@
-pub mod Outcomes
-pub mod Lines
 pub mod Answering
+pub mod Concluding
+pub mod Lines
+pub mod Wanting

@@ -1,45 +1,83 @@
--- The lines of the note.
-use Rattle.std.proofs.Common.{◌≡◌, ℕ, Bool, true, false, List, [], ◌∷◌, length, nat_le, if◌then◌else◌, refl}
-use Rattle.owl_characters.specs.Limit.{most_bytes}
+-- What is concluded, and what is told of troubles, is proper, and has its line.
+use Rattle.std.proofs.Common.{◌≡◌, ◌≢◌, ℕ, zero, suc, Some, List, [], ◌∷◌, slice_get, inl, inr, refl, sym, subst}
+use Rattle.owl_reader.specs.declared.fault.ReadFault.{ReadFault}
 use Rattle.owl_reader.specs.declared.fault.ReadFault.TheVariants as read
-use Rattle.owl_command.specs.Commands.{IsAmong, Request, names_of}
-use Rattle.owl_answer.specs.Outcome.{LineFor, Outcome, SuccessLine, of_defect, of_imports, of_no_memory, of_output, of_read_fault, of_refusal, of_success, of_write_fault, too_long_output}
-use Rattle.owl_answer.specs.Answers.{IsProper, settled, trouble_outcome}
-use Rattle.owl_answer.specs.declared.trouble.Trouble.{Trouble}
-use Rattle.owl_answer.specs.declared.trouble.Trouble.TheVariants as t
-use Rattle.owl_command.specs.declared.status.Status.{Status}
+use Rattle.owl_command.specs.Commands.{IsAmong, Request, compares, names_of, shows, translates}
+use Rattle.owl_command.specs.declared.command.Target.TheVariants.{Fss}
+use Rattle.owl_documents.specs.Documents.{Said}
+use Rattle.owl_documents.specs.declared.trouble.Refusal.{Refusal}
+use Rattle.owl_documents.specs.declared.trouble.Refusal.TheVariants.{DocumentBytes, AllBytes, Unreadable}
+use Rattle.owl_answer.specs.Outcome.{Concludes, IsComparison, IsLimited, IsSuccess, IsWanted, LineFor, Outcome, SuccessLine, agree, agreement, differ, difference, fits, has_imports, misses_import, missing_import, of_bytes, of_import, of_output, of_refusal, of_success, passes, refusal_outcome, shown, too_long_output, translation}
+use Rattle.owl_answer.specs.Answers.{IsProper}
 
--- a cause that tells more
-pub line_more : (request : Request) (IsCause IsMore : List ℕ → Type 0) (status : Status) (line : List ℕ) → ((name : List ℕ) → IsCause name → IsMore name) → LineFor request IsCause status line → LineFor request IsMore status line
-line_more request IsCause IsMore status line f (of_success s) = of_success s
-line_more request IsCause IsMore status line f (of_refusal name among r) = of_refusal name among r
-line_more request IsCause IsMore status line f (of_read_fault name h e l) = of_read_fault name (f name h) e l
-line_more request IsCause IsMore status line f (of_write_fault e l) = of_write_fault e l
-line_more request IsCause IsMore status line f (of_no_memory e l) = of_no_memory e l
+pub at_among : (names : List (List ℕ)) (place : ℕ) (name : List ℕ) → slice_get names place ≡ Some name → IsAmong names name
+at_among [] place name e = absurd (cc)
+at_among (first ∷ names) zero name e = inl cc
+at_among (first ∷ names) (suc place) name e = inr (at_among names place name e)
 
-module _ (request : Request) (IsCause : List ℕ → Type 0) (name : List ℕ) (among : IsAmong (names_of request) name) where
-  limited_line : (wanted : Outcome) (fits : Bool) → SuccessLine request wanted.status wanted.line → let told : Outcome = if fits then wanted else too_long_output in LineFor request IsCause told.status told.line
-  limited_line wanted true s = of_success s
-  limited_line wanted false s = of_refusal name among (of_output refl refl)
+-- what is wanted is a success
+record IsDone (request : Request) (outcome : Outcome) : Type 0 where
+  proper : IsProper outcome
+  line : SuccessLine request outcome.status outcome.line
 
-  pub settled_line : (wanted : Outcome) (imports : List (List ℕ)) → SuccessLine request wanted.status wanted.line → LineFor request IsCause (settled name imports wanted).status (settled name imports wanted).line
-  settled_line wanted [] s = limited_line wanted (nat_le (length wanted.text) most_bytes) s
-  settled_line wanted (iri ∷ iris) s = of_refusal name among (of_imports refl refl)
+wanted_done : (request : Request) (documents : List Said) (outcome : Outcome) → IsWanted request documents outcome → IsDone request outcome
+wanted_done (translates Fss partial names) [] outcome w = absurd w
+wanted_done (translates Fss partial names) (d ∷ ds) outcome w =
+    subst (IsDone (translates Fss partial names)) (sym w) (record { proper = record { found = tt; no_text = tt }; line = (_, _, refl) })
+wanted_done (shows partial names) [] outcome w = absurd w
+wanted_done (shows partial names) (d ∷ ds) outcome w =
+    subst (IsDone (shows partial names)) (sym w) (record { proper = record { found = tt; no_text = tt }; line = refl })
+wanted_done (compares first second) [] outcome w = absurd w
+wanted_done (compares first second) (d ∷ []) outcome w = absurd w
+wanted_done (compares first second) (d ∷ x ∷ y ∷ ds) outcome w = absurd w
+wanted_done (compares first second) (d ∷ x ∷ []) outcome (agree h e) =
+    subst (IsDone (compares first second)) (sym e) (record { proper = record { found = tt; no_text = tt }; line = refl })
+wanted_done (compares first second) (d ∷ x ∷ []) outcome (differ h e) =
+    subst (IsDone (compares first second)) (sym e) (record { proper = record { found = tt; no_text = tt }; line = refl })
 
-  pub trouble_line : (trouble : Trouble) → (trouble ≡ t.ReadFailed → IsCause name) → LineFor request IsCause (trouble_outcome name trouble).status (trouble_outcome name trouble).line
-  trouble_line t.ReadFailed f = of_read_fault name (f refl) refl refl
-  trouble_line t.TooLong f = of_refusal name among (of_defect read.TooLong (λ e. cc) refl refl)
-  trouble_line (t.Defect item at reason) f = of_refusal name among (of_defect (read.Refused item at reason) (λ e. cc) refl refl)
-  trouble_line t.TooDeep f = of_refusal name among (of_defect read.TooDeep (λ e. cc) refl refl)
-  trouble_line t.TooHeavy f = of_refusal name among (of_defect read.TooHeavy (λ e. cc) refl refl)
-  trouble_line t.NumberTooLarge f = of_refusal name among (of_defect read.NumberTooLarge (λ e. cc) refl refl)
-  trouble_line t.Memory f = of_no_memory refl refl
+-- what every conclusion is
+pub record IsTold (request : Request) (outcome : Outcome) : Type 1 where
+  pub proper : IsProper outcome
+  pub line : (IsCause : List ℕ → Type 0) → LineFor request IsCause outcome.status outcome.line
 
--- what is answered is proper
-limited_proper : (wanted : Outcome) (fits : Bool) → IsProper wanted → IsProper (if fits then wanted else too_long_output)
-limited_proper wanted true h = h
-limited_proper wanted false h = record { found = tt; no_text = refl }
+missing_told : (request : Request) (name iri : List ℕ) → IsAmong (names_of request) name → IsTold request (missing_import name iri)
+missing_told request name iri among = record {
+  proper = record { found = tt; no_text = refl };
+  line = λ IsCause. of_refusal name among (of_import iri refl refl);
+}
 
-pub settled_proper : (name : List ℕ) (wanted : Outcome) (imports : List (List ℕ)) → IsProper wanted → IsProper (settled name imports wanted)
-settled_proper name wanted [] h = limited_proper wanted (nat_le (length wanted.text) most_bytes) h
-settled_proper name wanted (iri ∷ iris) h = record { found = tt; no_text = refl }
+pub concluded_told : (request : Request) (documents : List Said) (outcome : Outcome) → Concludes request documents outcome → IsTold request outcome
+concluded_told request documents outcome (misses_import asked place iri name m at e) =
+    subst (IsTold request) (sym e) (missing_told request name iri (at_among (names_of request) place name at))
+concluded_told request documents outcome (has_imports h (fits w l)) =
+    let done = wanted_done request documents outcome w in
+    record { proper = done.proper; line = λ IsCause. of_success done.line }
+concluded_told request documents outcome (has_imports h (passes wanted w l e)) =
+    subst (IsTold request) (sym e) (record { proper = record { found = tt; no_text = refl }; line = λ IsCause. of_output refl refl })
+
+-- a refusal is told as one
+refused_proper : (name : List ℕ) (refusal : Refusal) → refusal ≢ Unreadable read.Memory → IsProper (refusal_outcome name refusal)
+refused_proper name DocumentBytes n = record { found = tt; no_text = refl }
+refused_proper name AllBytes n = record { found = tt; no_text = refl }
+refused_proper name (Unreadable (read.Refused item at reason)) n = record { found = tt; no_text = refl }
+refused_proper name (Unreadable read.TooLong) n = record { found = tt; no_text = refl }
+refused_proper name (Unreadable read.TooDeep) n = record { found = tt; no_text = refl }
+refused_proper name (Unreadable read.TooHeavy) n = record { found = tt; no_text = refl }
+refused_proper name (Unreadable read.NumberTooLarge) n = record { found = tt; no_text = refl }
+refused_proper name (Unreadable read.Memory) n = absurd (n refl)
+
+pub refused_told : (request : Request) (name : List ℕ) (refusal : Refusal) → IsAmong (names_of request) name → refusal ≢ Unreadable read.Memory → IsTold request (refusal_outcome name refusal)
+refused_told request name refusal among n = record {
+  proper = refused_proper name refusal n;
+  line = λ IsCause. of_refusal name among (of_bytes refusal n refl refl);
+}
+
+pub refused_fails : (name : List ℕ) (refusal : Refusal) → IsSuccess (refusal_outcome name refusal).status → ⊥
+refused_fails name DocumentBytes h = h
+refused_fails name AllBytes h = h
+refused_fails name (Unreadable (read.Refused item at reason)) h = h
+refused_fails name (Unreadable read.TooLong) h = h
+refused_fails name (Unreadable read.TooDeep) h = h
+refused_fails name (Unreadable read.TooHeavy) h = h
+refused_fails name (Unreadable read.NumberTooLarge) h = h
+refused_fails name (Unreadable read.Memory) h = h

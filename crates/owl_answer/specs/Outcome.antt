@@ -1,25 +1,26 @@
 -- What a run answers, for its words and the contents of its documents.
-use Rattle.std.specs.Prelude.{◌≡◌, ◌≢◌, ◌<◌, ◌≤◌, ◌+◌, ◌⊎◌, ℕ, Option, Some, List, [], ◌∷◌, ◌++◌, length, take, codes}
+use Rattle.std.specs.Prelude.{◌≡◌, ◌≢◌, ◌<◌, ◌≤◌, ◌⊎◌, ℕ, Some, List, [], ◌∷◌, ◌++◌, length, map, slice_get, take, codes}
 use Rattle.std.specs.Fmt.{decimal}
 use Rattle.std.specs.Str.{encode_utf8_all}
 use Rattle.owl_characters.specs.Limit.{most_bytes}
-use Rattle.owl_port.specs.Outside.{before}
-use Rattle.owl_atom.specs.declared.prefixes.Prefix.{Prefix}
-use Rattle.owl_tree.specs.Ontologies.{IsSameOntology, Ontology, canonical_ontology}
+use Rattle.owl_tree.specs.Ontologies.{Head, IsSameOntology, canonical_ontology}
 use Rattle.owl_doc.specs.Counts.{axiom_count}
+use Rattle.owl_close.specs.Imports.{IsFirstMissing, MissesNone}
 use Rattle.fss_terms.specs.Functional.{ReadsFunctional}
-use Rattle.fss_defects.specs.FirstDefects.{IsFirstDefect}
 use Rattle.owl_reader.specs.declared.fault.ReadFault.{ReadFault}
 use Rattle.owl_reader.specs.declared.fault.ReadFault.TheVariants as read
 use Rattle.owl_reader.specs.declared.fault.Reason.{Reason}
 use Rattle.owl_reader.specs.declared.fault.Reason.TheVariants.{BadUtf8, BadToken, NotHere, UnknownPrefix, PrefixTwice, PrefixFixed, BadLiteral, EmptyKey}
 use Rattle.fss_write.specs.Text.{declared_prefixes, text_of}
-use Rattle.owl_command.specs.Commands.{Asks, HasNoCommand, IsAmong, Request, translates, shows, compares, names_of}
-use Rattle.owl_answer.specs.Summary.{summary_text}
+use Rattle.owl_command.specs.Commands.{AsksImports, Asks, HasNoCommand, IsAmong, Request, translates, shows, compares, names_of}
 use Rattle.owl_command.specs.declared.command.Target.{Target as Syntax}
 use Rattle.owl_command.specs.declared.command.Target.TheVariants.{Fss}
 use Rattle.owl_command.specs.declared.status.Status.{Status}
 use Rattle.owl_command.specs.declared.status.Status.TheVariants.{Done, No, Words, Document as NoDocument, Target, Limit, ReadFailed, WriteFailed, Memory}
+use Rattle.owl_documents.specs.Documents.{AreRead, Contents, IsFirstRefused, Said}
+use Rattle.owl_documents.specs.declared.trouble.Refusal.{Refusal}
+use Rattle.owl_documents.specs.declared.trouble.Refusal.TheVariants.{DocumentBytes, AllBytes, Unreadable}
+use Rattle.owl_answer.specs.Summary.{summary_text}
 
 -- the status, the text on the output, and the line of the note
 pub record Outcome : Type 0 where
@@ -31,17 +32,30 @@ pub record Outcome : Type 0 where
 abbrev pub refused : Status → List ℕ → Outcome
 refused status line = record { status = status; text = []; line = line }
 
-abbrev pub done_line : ℕ → List ℕ
-done_line axioms = codes "translated; axioms " ++ (decimal axioms ++ codes "; absorbed 0\n")
+-- The normal form that a syntax has for what a document says, in its own prefixes and the declared ones. Functional-Style
+-- Syntax can say all as it is.
+abbrev pub normal_form : Syntax → Said → Said
+normal_form Fss said = record { prefixes = declared_prefixes said.prefixes; ontology = said.ontology }
 
--- A translation writes its text, and says how many axioms it has.
-abbrev pub translation : Syntax → List Prefix → Ontology → Outcome
-translation Fss prefixes o =
-    record { status = Done; text = encode_utf8_all (text_of prefixes (canonical_ontology o)); line = done_line (axiom_count o) }
+-- how many axioms the normal form says in others
+abbrev pub absorbed_count : Syntax → Said → ℕ
+absorbed_count Fss said = 0
 
--- what is shown of an ontology
-abbrev pub shown : List Prefix → Ontology → Outcome
-shown prefixes o = record { status = Done; text = summary_text o; line = codes "shown\n" }
+abbrev pub done_line : ℕ → ℕ → List ℕ
+done_line axioms absorbed = codes "translated; axioms " ++ (decimal axioms ++ (codes "; absorbed " ++ (decimal absorbed ++ codes "\n")))
+
+-- the text of what a document says
+abbrev pub text_in : Syntax → Said → List ℕ
+text_in Fss said = encode_utf8_all (text_of said.prefixes (canonical_ontology said.ontology))
+
+-- A translation writes its text, and says how many axioms its normal form has.
+abbrev pub translation : Syntax → Said → Outcome
+translation target said =
+    record { status = Done; text = text_in target said; line = done_line (axiom_count (normal_form target said).ontology) (absorbed_count target said) }
+
+-- what is shown of a document
+abbrev pub shown : Said → Outcome
+shown said = record { status = Done; text = summary_text said.ontology; line = codes "shown\n" }
 
 abbrev pub agreement : Outcome
 agreement = record { status = Done; text = codes "same\n"; line = codes "same\n" }
@@ -53,15 +67,12 @@ difference = record { status = No; text = codes "different\n"; line = codes "dif
 abbrev pub passed_limit : List ℕ → List ℕ → Outcome
 passed_limit word name = refused Limit (codes "limit: " ++ (word ++ (codes ": " ++ (name ++ codes "\n"))))
 
-abbrev pub too_long_document : List ℕ → Outcome
-too_long_document name = passed_limit (codes "DocumentBytes") name
-
 abbrev pub too_long_output : Outcome
 too_long_output = refused Limit (codes "limit: OutputBytes: output\n")
 
--- imports are not read yet
-abbrev pub not_built : List ℕ → Outcome
-not_built name = refused NoDocument (name ++ codes ": NotBuilt\n")
+-- an import that names no document
+abbrev pub missing_import : List ℕ → List ℕ → Outcome
+missing_import name iri = refused NoDocument (name ++ (codes ": MissingImport <" ++ (encode_utf8_all iri ++ codes ">\n")))
 
 abbrev pub reason_word : Reason → List ℕ
 reason_word BadUtf8 = codes "BadUtf8"
@@ -79,48 +90,57 @@ defect name item at reason =
     refused NoDocument (name ++ (codes ": item at " ++ (decimal item ++ (codes ": " ++ (reason_word reason ++ (codes " at " ++ (decimal at ++ codes "\n")))))))
 
 -- How a document is refused that has this defect. Want of memory is no defect of a document.
-abbrev pub refusal_outcome : List ℕ → ReadFault → Outcome
-refusal_outcome name (read.Refused item at reason) = defect name item at reason
-refusal_outcome name read.TooLong = too_long_document name
-refusal_outcome name read.TooDeep = passed_limit (codes "Depth") name
-refusal_outcome name read.TooHeavy = passed_limit (codes "Weight") name
-refusal_outcome name read.NumberTooLarge = passed_limit (codes "Cardinality") name
-refusal_outcome name read.Memory = refused Memory (codes "memory\n")
+abbrev pub defect_outcome : List ℕ → ReadFault → Outcome
+defect_outcome name (read.Refused item at reason) = defect name item at reason
+defect_outcome name read.TooLong = passed_limit (codes "DocumentBytes") name
+defect_outcome name read.TooDeep = passed_limit (codes "Depth") name
+defect_outcome name read.TooHeavy = passed_limit (codes "Weight") name
+defect_outcome name read.NumberTooLarge = passed_limit (codes "Cardinality") name
+defect_outcome name read.Memory = refused Memory (codes "memory\n")
 
--- The document that is there says this ontology, and has these prefixes.
-pub record SaysOntology (there : Option (List ℕ)) (prefixes : List Prefix) (o : Ontology) : Type 0 where
-  pub bytes : List ℕ
-  pub are : there ≡ Some bytes
-  pub reads : ReadsFunctional bytes prefixes o
+-- how the document under this name is refused
+abbrev pub refusal_outcome : List ℕ → Refusal → Outcome
+refusal_outcome name DocumentBytes = passed_limit (codes "DocumentBytes") name
+refusal_outcome name AllBytes = passed_limit (codes "AllBytes") name
+refusal_outcome name (Unreadable fault) = defect_outcome name fault
 
--- What is there is not read: it has too many bytes, or it has a first defect, and is refused by it.
-pub data IsUnread (name : List ℕ) (there : Option (List ℕ)) (outcome : Outcome) : Type 0 where
-  too_long : (bytes : List ℕ) → there ≡ Some bytes → most_bytes < length bytes → outcome ≡ too_long_document name → IsUnread name there outcome
-  unreadable : (bytes : List ℕ) (refusal : ReadFault) → there ≡ Some bytes → length bytes ≤ most_bytes → IsFirstDefect bytes refusal → outcome ≡ refusal_outcome name refusal → IsUnread name there outcome
+-- how documents are called, and what they import
+abbrev pub heads_in : List Said → List Head
+heads_in = map (λ (said : Said). said.ontology.head)
 
--- What becomes of one document, where this is wanted of what it says: the first of its conditions that fails, or success.
-pub data BecomesOf (wanted : List Prefix → Ontology → Outcome) (name : List ℕ) (there : Option (List ℕ)) (outcome : Outcome) : Type 0 where
-  not_read : IsUnread name there outcome → BecomesOf wanted name there outcome
-  has_imports : (prefixes : List Prefix) (o : Ontology) → SaysOntology there prefixes o → o.head.imports ≢ [] → outcome ≡ not_built name → BecomesOf wanted name there outcome
-  passes_limit : (prefixes : List Prefix) (o : Ontology) → SaysOntology there prefixes o → o.head.imports ≡ [] → most_bytes < length (wanted prefixes o).text → outcome ≡ too_long_output → BecomesOf wanted name there outcome
-  succeeds : (prefixes : List Prefix) (o : Ontology) → SaysOntology there prefixes o → o.head.imports ≡ [] → length (wanted prefixes o).text ≤ most_bytes → outcome ≡ wanted prefixes o → BecomesOf wanted name there outcome
+-- where each import has to be there, it is
+abbrev pub HasImports : Request → List Said → Type 0
+HasImports request documents = AsksImports request → MissesNone (heads_in documents)
 
--- What becomes of two documents that are compared, the first of them looked at before the second. Imports are not asked
--- for.
-pub data BecomesOfBoth (first second : List ℕ) (there beside : Option (List ℕ)) (outcome : Outcome) : Type 0 where
-  first_not_read : IsUnread first there outcome → BecomesOfBoth first second there beside outcome
-  second_not_read : (prefixes : List Prefix) (o : Ontology) → SaysOntology there prefixes o → IsUnread second beside outcome → BecomesOfBoth first second there beside outcome
-  agree : (prefixes : List Prefix) (o : Ontology) → SaysOntology there prefixes o → (others : List Prefix) (p : Ontology) → SaysOntology beside others p → IsSameOntology o p → outcome ≡ agreement → BecomesOfBoth first second there beside outcome
-  differ : (prefixes : List Prefix) (o : Ontology) → SaysOntology there prefixes o → (others : List Prefix) (p : Ontology) → SaysOntology beside others p → (IsSameOntology o p → ⊥) → outcome ≡ difference → BecomesOfBoth first second there beside outcome
+-- Whether two documents say the same.
+pub data IsComparison (a b : Said) (outcome : Outcome) : Type 0 where
+  agree : IsSameOntology a.ontology b.ontology → outcome ≡ agreement → IsComparison a b outcome
+  differ : (IsSameOntology a.ontology b.ontology → ⊥) → outcome ≡ difference → IsComparison a b outcome
 
--- What becomes of what is asked for, with these contents.
-abbrev pub Becomes : (List ℕ → Option (List ℕ)) → Request → Outcome → Type 0
-Becomes contents (translates target name) outcome = BecomesOf (translation target) name (contents name) outcome
-Becomes contents (shows name) outcome = BecomesOf shown name (contents name) outcome
-Becomes contents (compares first second) outcome = BecomesOfBoth first second (contents first) (contents second) outcome
+-- what is wanted of documents that are read: of the first of them, or of two
+abbrev pub IsWanted : Request → List Said → Outcome → Type 0
+IsWanted (translates target partial names) (main ∷ others) outcome = outcome ≡ translation target main
+IsWanted (shows partial names) (main ∷ others) outcome = outcome ≡ shown main
+IsWanted (compares first second) (a ∷ b ∷ []) outcome = IsComparison a b outcome
+IsWanted request documents outcome = ⊥
+
+-- A text that is too long is not written.
+pub data IsLimited (IsWanted : Outcome → Type 0) (outcome : Outcome) : Type 0 where
+  fits : IsWanted outcome → length outcome.text ≤ most_bytes → IsLimited IsWanted outcome
+  passes : (wanted : Outcome) → IsWanted wanted → most_bytes < length wanted.text → outcome ≡ too_long_output → IsLimited IsWanted outcome
+
+-- What becomes of documents that are read: the first condition that fails, or success.
+pub data Concludes (request : Request) (documents : List Said) (outcome : Outcome) : Type 0 where
+  misses_import : AsksImports request → (place : ℕ) (iri name : List ℕ) → IsFirstMissing (heads_in documents) place iri → slice_get (names_of request) place ≡ Some name → outcome ≡ missing_import name iri → Concludes request documents outcome
+  has_imports : HasImports request documents → IsLimited (IsWanted request documents) outcome → Concludes request documents outcome
+
+-- What becomes of what is asked for, with these contents. Each document is read before imports are looked at.
+pub data Becomes (contents : Contents) (request : Request) (outcome : Outcome) : Type 0 where
+  not_read : (name : List ℕ) (refusal : Refusal) → IsFirstRefused contents (names_of request) name refusal → outcome ≡ refusal_outcome name refusal → Becomes contents request outcome
+  all_read : (documents : List Said) → AreRead contents (names_of request) documents → Concludes request documents outcome → Becomes contents request outcome
 
 -- What a run answers: the words have no command, or they ask for something and the contents have what is looked at.
-pub data IsOutcome (words : List (List ℕ)) (contents : List ℕ → Option (List ℕ)) (outcome : Outcome) : Type 0 where
+pub data IsOutcome (words : List (List ℕ)) (contents : Contents) (outcome : Outcome) : Type 0 where
   no_command : HasNoCommand words → outcome ≡ refused Words (codes "words\n") → IsOutcome words contents outcome
   of_request : (request : Request) → Asks words request → Becomes contents request outcome → IsOutcome words contents outcome
 
@@ -128,10 +148,6 @@ pub data IsOutcome (words : List (List ℕ)) (contents : List ℕ → Option (Li
 pub record IsTheOutcome (IsOne : Outcome → Type 0) (outcome : Outcome) : Type 0 where
   pub is : IsOne outcome
   pub only : (other : Outcome) → IsOne other → outcome ≡ other
-
--- at most so many bytes of a document are taken, from its front
-abbrev pub IsFrontTaken : Option (List ℕ) → Option (List ℕ) → Type 0
-IsFrontTaken old new = (taken : List ℕ) × (length taken ≤ most_bytes + 1) × (old ≡ before taken new)
 
 -- neither a device failed nor memory ran out
 abbrev pub IsSettled : Status → Type 0
@@ -171,22 +187,22 @@ IsQuiet Memory = Unit {0}
 
 -- the line of a success
 abbrev pub SuccessLine : Request → Status → List ℕ → Type 0
-SuccessLine (translates target name) Done line = (axioms : ℕ) × (line ≡ done_line axioms)
-SuccessLine (shows name) Done line = line ≡ codes "shown\n"
+SuccessLine (translates target partial names) Done line = (axioms absorbed : ℕ) × (line ≡ done_line axioms absorbed)
+SuccessLine (shows partial names) Done line = line ≡ codes "shown\n"
 SuccessLine (compares first second) Done line = line ≡ codes "same\n"
 SuccessLine (compares first second) No line = line ≡ codes "different\n"
 SuccessLine request status line = ⊥
 
 -- The lines that one of the documents is refused with.
 pub data IsRefusalLine (name : List ℕ) (status : Status) (line : List ℕ) : Type 0 where
-  of_defect : (refusal : ReadFault) → refusal ≢ read.Memory → status ≡ (refusal_outcome name refusal).status → line ≡ (refusal_outcome name refusal).line → IsRefusalLine name status line
-  of_imports : status ≡ NoDocument → line ≡ (not_built name).line → IsRefusalLine name status line
-  of_output : status ≡ Limit → line ≡ too_long_output.line → IsRefusalLine name status line
+  of_bytes : (refusal : Refusal) → refusal ≢ Unreadable read.Memory → status ≡ (refusal_outcome name refusal).status → line ≡ (refusal_outcome name refusal).line → IsRefusalLine name status line
+  of_import : (iri : List ℕ) → status ≡ NoDocument → line ≡ (missing_import name iri).line → IsRefusalLine name status line
 
 -- The lines of a status for what is asked for. A read fault names a document that has this cause.
 pub data LineFor (request : Request) (IsCause : List ℕ → Type 0) (status : Status) (line : List ℕ) : Type 0 where
   of_success : SuccessLine request status line → LineFor request IsCause status line
   of_refusal : (name : List ℕ) → IsAmong (names_of request) name → IsRefusalLine name status line → LineFor request IsCause status line
+  of_output : status ≡ Limit → line ≡ too_long_output.line → LineFor request IsCause status line
   of_read_fault : (name : List ℕ) → IsCause name → status ≡ ReadFailed → line ≡ codes "read: " ++ (name ++ codes "\n") → LineFor request IsCause status line
   of_write_fault : status ≡ WriteFailed → line ≡ codes "write\n" → LineFor request IsCause status line
   of_no_memory : status ≡ Memory → line ≡ codes "memory\n" → LineFor request IsCause status line
@@ -197,38 +213,25 @@ pub data IsLine (words : List (List ℕ)) (IsCause : Request → List ℕ → Ty
   of_memory : status ≡ Memory → line ≡ codes "memory\n" → IsLine words IsCause status line
   of_asked : (request : Request) → Asks words request → LineFor request (IsCause request) status line → IsLine words IsCause status line
 
--- a document that is asked for, with a fault of its own
-abbrev pub IsFaulty : (List ℕ → Type 0) → Request → List ℕ → Type 0
-IsFaulty Rises request name = IsAmong (names_of request) name × Rises name
+-- the bytes are this in a syntax
+abbrev pub ReadsIn : Syntax → List ℕ → Said → Type 0
+ReadsIn Fss text said = ReadsFunctional text said.prefixes said.ontology
 
--- what is there says something
-abbrev pub IsRead : Option (List ℕ) → Type 0
-IsRead there = (prefixes : List Prefix) × (o : Ontology) × SaysOntology there prefixes o
+-- the text of a translation reads back to the normal form of the main document
+abbrev pub IsBack : Request → List Said → List ℕ → Type 0
+IsBack (translates target partial names) (main ∷ others) text = ReadsIn target text (normal_form target main)
+IsBack (translates target partial names) [] text = ⊥
+IsBack (shows partial names) documents text = Unit {0}
+IsBack (compares first second) documents text = Unit {0}
 
--- the name is one of these, and each document before it is read
-abbrev pub IsReached : (List ℕ → Option (List ℕ)) → List (List ℕ) → List ℕ → Type 0
-IsReached contents [] name = ⊥
-IsReached contents (first ∷ others) name = (name ≡ first) ⊎ (IsRead (contents first) × IsReached contents others name)
-
--- the same, where each document before it is read
-abbrev pub IsFirstFaulty : (List ℕ → Option (List ℕ)) → (List ℕ → Type 0) → Request → List ℕ → Type 0
-IsFirstFaulty contents Rises request name = IsReached contents (names_of request) name × Rises name
-
--- The document that was to be translated says something that its text says too.
-pub record ReadsBack (there : Option (List ℕ)) (text : List ℕ) : Type 0 where
-  pub prefixes : List Prefix
-  pub ontology : Ontology
-  pub says : SaysOntology there prefixes ontology
-  pub back : ReadsFunctional text (declared_prefixes prefixes) ontology
-
--- where a translation is asked for
-abbrev pub IsReadBack : (List ℕ → Option (List ℕ)) → Request → List ℕ → Type 0
-IsReadBack contents (translates target name) text = ReadsBack (contents name) text
-IsReadBack contents (shows name) text = Unit {0}
-IsReadBack contents (compares first second) text = Unit {0}
+-- The documents are read, and the text of a translation reads back to the main one's normal form.
+pub record IsReadBack (contents : Contents) (request : Request) (text : List ℕ) : Type 0 where
+  pub documents : List Said
+  pub read : AreRead contents (names_of request) documents
+  pub back : IsBack request documents text
 
 -- The text of the answer follows what was there. A translation reads back to the same ontology.
-pub record IsWritten (words : List (List ℕ)) (contents : List ℕ → Option (List ℕ)) (status : Status) (before after : List ℕ) : Type 0 where
+pub record IsWritten (words : List (List ℕ)) (contents : Contents) (status : Status) (before after : List ℕ) : Type 0 where
   pub outcome : Outcome
   pub is : IsTheOutcome (IsOutcome words contents) outcome
   pub told : status ≡ outcome.status

@@ -2,11 +2,11 @@
 #![tactic(auto)]
 
 mod answer;
-mod document;
-mod reading;
+mod conclusion;
+mod imports;
+mod refusal;
 mod request;
 mod summary;
-mod trouble;
 
 pub use answer::Answer;
 pub use request::answer_to;

@@ -1,73 +1,93 @@
 -- Words that ask for something.
-use Rattle.std.proofs.Common.{◌≡◌, ◌≢◌, ℕ, inl, inr, List, [], ◌∷◌, codes, map, length, get_or, ap, ◌∙◌, arith, refl, sym}
+use Rattle.std.proofs.Common.{◌≡◌, ◌≢◌, ◌<◌, ◌≤◌, ◌-◌, ◌+◌, ◌↔◌, inl, inr, ℕ, suc, IsTrue, Option, None, Some, IfNone, map, get_or, take, drop, length, arith, Bool, false, true, List, [], ◌∷◌, ◌++◌, codes, refl, ap, sym, ◌∙◌, subst}
+use Rattle.std.specs.List.{AllByRecursion}
 use Rattle.std.specs.Str.{encode_utf8_all}
-use Rattle.owl_command.specs.Commands.{Asks, HasNoCommand, IsName, Request, compares, first_name, shows, translates, words_of}
+use Rattle.std.proofs.Math.Seq.{take-length}
+use Rattle.std.proofs.lemmas.List.{map-append}
+use Rattle.owl_command.specs.Commands.{AreNames, IsAmong, Asks, HasNoCommand, IsName, Request, compares, flag_words, shows, translates, words_of}
+use Rattle.owl_command.specs.CommandsLaws.{flag_is_no_name, show_is_not_same, verb}
+use Rattle.owl_command.specs.WordParts.{AreTwoNames, IsStripped, NameNone, NameWith}
 use Rattle.owl_command.specs.declared.command.Target.TheVariants.{Fss}
 
-pub asks_four : (verb flag target name : List ℕ) → (verb ≡ codes "translate") × (flag ≡ codes "--to") × (target ≡ codes "fss") → IsName name → Asks (verb ∷ flag ∷ target ∷ name ∷ []) (translates Fss name)
-asks_four verb flag target name e named = record {
-  named = (named, tt);
-  distinct = ((λ h. h), tt);
-  are = ap (λ (x : List ℕ). x ∷ flag ∷ target ∷ name ∷ []) e.0 ∙ ap (λ (x : List ℕ). codes "translate" ∷ x ∷ target ∷ name ∷ []) e.1 ∙ ap (λ (x : List ℕ). codes "translate" ∷ codes "--to" ∷ x ∷ name ∷ []) e.2;
-}
+-- the first of some items, and those behind it
+pub first_and : {X : Type 0} (text : X → List ℕ) (xs : List X) (x : X) → 0 < length xs → x ≡ get_or xs 0 x → map text xs ≡ text x ∷ map text (take (length xs - 1) (drop 1 xs))
+first_and {X} text [] x h e = absurd (omega arith)
+first_and {X} text (y ∷ ys) x h e =
+    let n : suc (length ys) - 1 ≡ length ys = omega arith in
+    ap (λ (z : X). text z ∷ map text ys) (sym e) ∙ ap (λ (zs : List X). text x ∷ map text zs) (sym (ap (λ (k : ℕ). take k ys) n ∙ take-length ys))
 
-pub asks_two : (verb name : List ℕ) → verb ≡ codes "show" → IsName name → Asks (verb ∷ name ∷ []) (shows name)
-asks_two verb name e named = record {
-  named = (named, tt);
-  distinct = ((λ h. h), tt);
-  are = ap (λ (x : List ℕ). x ∷ name ∷ []) e;
-}
+-- a name is among words, or it is the first of them
+pub among_behind : (words others : List (List ℕ)) (first name : List ℕ) (found : Bool) → words ≡ first ∷ others → (name ≢ first) → IsTrue found ↔ IsAmong others name → IsTrue found ↔ IsAmong words name
+among_behind words others first name found e n h =
+    (λ t. subst (λ (ws : List (List ℕ)). IsAmong ws name) (sym e) (inr (h.0 t)), λ m. elim (subst (λ (ws : List (List ℕ)). IsAmong ws name) e m) [ inl f ↦ absurd (n f) | inr k ↦ h.1 k ])
 
-pub asks_three : (verb first second : List ℕ) → verb ≡ codes "same" → IsName first × IsName second × (second ≢ first) → Asks (verb ∷ first ∷ second ∷ []) (compares first second)
-asks_three verb first second e h = record {
-  named = (h.0, (h.1, tt));
-  distinct = ((λ m. elim m [ inl f ↦ h.2 (sym f) | inr f ↦ f ]), ((λ m. m), tt));
-  are = ap (λ (x : List ℕ). x ∷ first ∷ second ∷ []) e;
-}
+-- one more word is a text
+pub one_more : {X : Type 0} (text : X → List ℕ) (words : List X) (place : ℕ) (word : X) (texts new : List (List ℕ)) (t : List ℕ) → map encode_utf8_all texts ≡ map text (take place words) → new ≡ texts ++ t ∷ [] → encode_utf8_all t ≡ text word → take (place + 1) words ≡ take place words ++ word ∷ [] → map encode_utf8_all new ≡ map text (take (place + 1) words)
+one_more text words place word texts new t h e f g =
+    ap (map encode_utf8_all) e ∙ map-append encode_utf8_all texts (t ∷ []) ∙ ap (λ (x : List (List ℕ)). x ++ encode_utf8_all t ∷ []) h ∙ ap (λ (x : List ℕ). map text (take place words) ++ x ∷ []) f ∙ sym (map-append text (take place words) (word ∷ [])) ∙ ap (map text) (sym g)
 
--- words of another number have no command
-pub other_words : (words : List (List ℕ)) → length words ≢ 2 → length words ≢ 3 → length words ≢ 4 → HasNoCommand words
-other_words words two three four request asks = by_request request (ap (λ (ws : List (List ℕ)). length ws) asks.are)
-  where
-    by_request : (request : Request) → length words ≡ length (words_of request) → ⊥
-    by_request (translates Fss name) e = four e
-    by_request (shows name) e = two e
-    by_request (compares first second) e = three e
+pub if_none : {X : Type 0} (found : Option X) (P : Type 0) → P → IfNone found P
+if_none None P p = p
+if_none (Some x) P p = tt
 
--- a list of one name
-pub one_item : (items : List (List ℕ)) (name : List ℕ) → map encode_utf8_all items ≡ name ∷ [] → (length items ≡ 1) × (name ≡ first_name items)
-one_item [] name e = absurd (cc)
-one_item (x ∷ []) name e = (refl, cc)
-one_item (x ∷ y ∷ zs) name e = absurd (cc)
+-- names are what stands behind the flag, where it is there
+pub stripped_names : (words others names : List (List ℕ)) (partial flag : Bool) → IsStripped words partial others → NameWith words flag names → names ≡ others
+stripped_names words others names true true s n = cc
+stripped_names words others names true false s n =
+    absurd (flag_is_no_name others (subst (AllByRecursion IsName) (sym n.are ∙ s.are) n.right.named))
+stripped_names words others names false true s n = absurd (s.whole refl names n.are)
+stripped_names words others names false false s n = sym n.are ∙ s.are
 
--- a list of so many, place by place
-pub two : {X : Type 0} (xs : List X) (a b : X) → length xs ≡ 2 → a ≡ get_or xs 0 a → b ≡ get_or xs 1 b → xs ≡ a ∷ b ∷ []
-two [] a b h p q = absurd (omega arith)
-two (w ∷ []) a b h p q = absurd (omega arith)
-two (w ∷ x ∷ []) a b h p q = cc
-two (w ∷ x ∷ v ∷ vs) a b h p q = absurd (omega arith)
+pub stripped_none : (words others : List (List ℕ)) (partial : Bool) → IsStripped words partial others → (AreNames others → ⊥) → NameNone words
+stripped_none words others partial s none flag names n =
+    none (subst AreNames (stripped_names words others names partial flag s n) n.right)
 
-pub three : {X : Type 0} (xs : List X) (a b c : X) → length xs ≡ 3 → a ≡ get_or xs 0 a → b ≡ get_or xs 1 b → c ≡ get_or xs 2 c → xs ≡ a ∷ b ∷ c ∷ []
-three [] a b c h p q r = absurd (omega arith)
-three (w ∷ []) a b c h p q r = absurd (omega arith)
-three (w ∷ x ∷ []) a b c h p q r = absurd (omega arith)
-three (w ∷ x ∷ y ∷ []) a b c h p q r = cc
-three (w ∷ x ∷ y ∷ v ∷ vs) a b c h p q r = absurd (omega arith)
+-- what the words behind the first ones name is what the words ask for
+module _ (words others : List (List ℕ)) where
+  pub asks_translation : (partial : Bool) (names : List (List ℕ)) → words ≡ codes "translate" ∷ codes "--to" ∷ codes "fss" ∷ others → NameWith others partial names → Asks words (translates Fss partial names)
+  asks_translation partial names e n = record { names = n.right; are = cc }
 
-pub four : {X : Type 0} (xs : List X) (a b c d : X) → length xs ≡ 4 → a ≡ get_or xs 0 a → b ≡ get_or xs 1 b → c ≡ get_or xs 2 c → d ≡ get_or xs 3 d → xs ≡ a ∷ b ∷ c ∷ d ∷ []
-four [] a b c d h p q r s = absurd (omega arith)
-four (w ∷ []) a b c d h p q r s = absurd (omega arith)
-four (w ∷ x ∷ []) a b c d h p q r s = absurd (omega arith)
-four (w ∷ x ∷ y ∷ []) a b c d h p q r s = absurd (omega arith)
-four (w ∷ x ∷ y ∷ z ∷ []) a b c d h p q r s = cc
-four (w ∷ x ∷ y ∷ z ∷ v ∷ vs) a b c d h p q r s = absurd (omega arith)
+  pub asks_show : (partial : Bool) (names : List (List ℕ)) → words ≡ codes "show" ∷ others → NameWith others partial names → Asks words (shows partial names)
+  asks_show partial names e n = record { names = n.right; are = cc }
 
--- the texts of words
-pub two_texts : {X : Type 0} (text : X → List ℕ) (xs : List X) (a b : X) (p q : List ℕ) → xs ≡ a ∷ b ∷ [] → p ≡ text a → q ≡ text b → map text xs ≡ p ∷ q ∷ []
-two_texts text xs a b p q e ep eq = ap (map text) e ∙ cc
+  pub no_translation : words ≡ codes "translate" ∷ codes "--to" ∷ codes "fss" ∷ others → NameNone others → HasNoCommand words
+  no_translation e none (translates Fss partial names) a = none partial names (record { right = a.names; are = cc })
+  no_translation e none (shows partial names) a = absurd (cc)
+  no_translation e none (compares first second) a = absurd (cc)
 
-pub three_texts : {X : Type 0} (text : X → List ℕ) (xs : List X) (a b c : X) (p q r : List ℕ) → xs ≡ a ∷ b ∷ c ∷ [] → p ≡ text a → q ≡ text b → r ≡ text c → map text xs ≡ p ∷ q ∷ r ∷ []
-three_texts text xs a b c p q r e ep eq er = ap (map text) e ∙ cc
+  pub no_show : words ≡ codes "show" ∷ others → NameNone others → HasNoCommand words
+  no_show e none (translates Fss partial names) a = absurd (cc)
+  no_show e none (shows partial names) a = none partial names (record { right = a.names; are = cc })
+  no_show e none (compares first second) a = absurd (show_is_not_same (ap verb (sym e ∙ a.are)))
 
-pub four_texts : {X : Type 0} (text : X → List ℕ) (xs : List X) (a b c d : X) (p q r s : List ℕ) → xs ≡ a ∷ b ∷ c ∷ d ∷ [] → p ≡ text a → q ≡ text b → r ≡ text c → s ≡ text d → map text xs ≡ p ∷ q ∷ r ∷ s ∷ []
-four_texts text xs a b c d p q r s e ep eq er es = ap (map text) e ∙ cc
+  pub no_comparison : words ≡ codes "same" ∷ others → (AreTwoNames others → ⊥) → HasNoCommand words
+  no_comparison e none (translates Fss partial names) a = absurd (cc)
+  no_comparison e none (shows partial names) a = absurd (show_is_not_same (ap verb (sym a.are ∙ e)))
+  no_comparison e none (compares first second) a =
+      let are : others ≡ first ∷ second ∷ [] = cc in
+      none (record { first = first; second = second; are = are; names = subst AreNames (sym are) a.names })
+
+  pub names_no_translation : words ≡ codes "translate" ∷ codes "--to" ∷ codes "fss" ∷ others → HasNoCommand words → NameNone others
+  names_no_translation e none partial names n = none (translates Fss partial names) (asks_translation partial names e n)
+
+  pub names_no_show : words ≡ codes "show" ∷ others → HasNoCommand words → NameNone others
+  names_no_show e none partial names n = none (shows partial names) (asks_show partial names e n)
+
+  pub names_no_comparison : words ≡ codes "same" ∷ others → HasNoCommand words → AreTwoNames others → ⊥
+  names_no_comparison e none two =
+      none (compares two.first two.second) (record { names = subst AreNames two.are two.names; are = e ∙ ap (λ (ws : List (List ℕ)). codes "same" ∷ ws) two.are })
+
+-- words that begin with none of these
+pub no_verb : (words : List (List ℕ)) → ((others : List (List ℕ)) → words ≢ codes "translate" ∷ codes "--to" ∷ codes "fss" ∷ others) → ((others : List (List ℕ)) → words ≢ codes "show" ∷ others) → ((others : List (List ℕ)) → words ≢ codes "same" ∷ others) → HasNoCommand words
+no_verb words t s c (translates Fss partial names) a = t (flag_words partial ++ names) a.are
+no_verb words t s c (shows partial names) a = s (flag_words partial ++ names) a.are
+no_verb words t s c (compares first second) a = c (first ∷ second ∷ []) a.are
+
+-- two words that are names
+pub pair_asks : {X : Type 0} (text : X → List ℕ) (words : List X) (x y : X) (first second : List ℕ) → 2 ≤ length words → length words < 3 → x ≡ get_or words 0 x → y ≡ get_or words 1 y → encode_utf8_all first ≡ text x → encode_utf8_all second ≡ text y → AreNames (map text words) → Asks (codes "same" ∷ map text words) (compares (encode_utf8_all first) (encode_utf8_all second))
+pair_asks text [] x y first second l m e f g h n = absurd (omega arith)
+pair_asks text (a ∷ []) x y first second l m e f g h n = absurd (omega arith)
+pair_asks text (a ∷ b ∷ []) x y first second l m e f g h n =
+    let are : text a ∷ text b ∷ [] ≡ encode_utf8_all first ∷ encode_utf8_all second ∷ [] = cc in
+    record { names = subst AreNames are n; are = ap (λ (ws : List (List ℕ)). codes "same" ∷ ws) are }
+pair_asks text (a ∷ b ∷ c ∷ ws) x y first second l m e f g h n = absurd (omega arith)

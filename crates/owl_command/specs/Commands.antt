@@ -1,5 +1,5 @@
 -- What the words of the command line ask for.
-use Rattle.std.specs.Prelude.{◌≡◌, ◌≢◌, ◌<◌, ◌⊎◌, ℕ, List, [], ◌∷◌, ◌++◌, length, codes}
+use Rattle.std.specs.Prelude.{◌≡◌, ◌≢◌, ◌<◌, ◌≤◌, ◌⊎◌, ℕ, Bool, false, true, List, [], ◌∷◌, ◌++◌, length, map, codes}
 use Rattle.std.specs.List.{AllByRecursion}
 use Rattle.std.specs.Str.{encode_utf8_all}
 use Rattle.owl_command.specs.declared.command.Target.{Target}
@@ -14,29 +14,6 @@ pub record IsName (name : List ℕ) : Type 0 where
   pub ends : name ≡ front ++ codes ".ofn"
   pub no_flag : (rest : List ℕ) → name ≢ codes "-" ++ rest
 
--- What words can ask for: a translation, what a document counts, or whether two documents say the same. The documents are
--- called by their names, in bytes.
-pub data Request : Type 0 where
-  translates : Target → List ℕ → Request
-  shows : List ℕ → Request
-  compares : List ℕ → List ℕ → Request
-
--- the documents, in the order in which they are read
-abbrev pub names_of : Request → List (List ℕ)
-names_of (translates target name) = name ∷ []
-names_of (shows name) = name ∷ []
-names_of (compares first second) = first ∷ second ∷ []
-
--- the word of a target
-abbrev pub target_word : Target → List ℕ
-target_word Fss = codes "fss"
-
--- the words, in bytes
-abbrev pub words_of : Request → List (List ℕ)
-words_of (translates target name) = codes "translate" ∷ codes "--to" ∷ target_word target ∷ name ∷ []
-words_of (shows name) = codes "show" ∷ name ∷ []
-words_of (compares first second) = codes "same" ∷ first ∷ second ∷ []
-
 -- the name is one of these
 abbrev pub IsAmong : List (List ℕ) → List ℕ → Type 0
 IsAmong [] name = ⊥
@@ -47,10 +24,55 @@ abbrev pub AreDistinct : List (List ℕ) → Type 0
 AreDistinct [] = Unit {0}
 AreDistinct (name ∷ others) = (IsAmong others name → ⊥) × AreDistinct others
 
--- The words ask for this, each document under a name of its own.
+-- the most documents that words name
+abbrev pub most_names : ℕ
+most_names = 64
+
+-- Documents by their names, each once. So words are far fewer than the 256 that are allowed.
+pub record AreNames (names : List (List ℕ)) : Type 0 where
+  pub some : 0 < length names
+  pub few : length names ≤ most_names
+  pub named : AllByRecursion IsName names
+  pub distinct : AreDistinct names
+
+-- What words can ask for: a translation, what a document counts, or whether two documents say the same. The first of
+-- several names is the main document's, and the others are those that it may import; imports may be missing where that is
+-- said. Names are in bytes.
+pub data Request : Type 0 where
+  translates : Target → Bool → List (List ℕ) → Request
+  shows : Bool → List (List ℕ) → Request
+  compares : List ℕ → List ℕ → Request
+
+-- the documents, in the order in which they are read
+abbrev pub names_of : Request → List (List ℕ)
+names_of (translates target partial names) = names
+names_of (shows partial names) = names
+names_of (compares first second) = first ∷ second ∷ []
+
+-- each import has to be there
+abbrev pub AsksImports : Request → Type 0
+AsksImports (translates target partial names) = partial ≡ false
+AsksImports (shows partial names) = partial ≡ false
+AsksImports (compares first second) = ⊥
+
+-- the word of a target
+abbrev pub target_word : Target → List ℕ
+target_word Fss = codes "fss"
+
+-- the word by which imports may be missing
+abbrev pub flag_words : Bool → List (List ℕ)
+flag_words false = []
+flag_words true = codes "--partial" ∷ []
+
+-- the words, in bytes
+abbrev pub words_of : Request → List (List ℕ)
+words_of (translates target partial names) = codes "translate" ∷ codes "--to" ∷ target_word target ∷ (flag_words partial ++ names)
+words_of (shows partial names) = codes "show" ∷ (flag_words partial ++ names)
+words_of (compares first second) = codes "same" ∷ first ∷ second ∷ []
+
+-- The words ask for this.
 pub record Asks (words : List (List ℕ)) (request : Request) : Type 0 where
-  pub named : AllByRecursion IsName (names_of request)
-  pub distinct : AreDistinct (names_of request)
+  pub names : AreNames (names_of request)
   pub are : words ≡ words_of request
 
 -- These words have no command.
@@ -63,23 +85,12 @@ pub record Name (words : List (List ℕ)) (name : List ℕ) : Type 0 where
   pub asks : Asks words request
   pub among : IsAmong (names_of request) name
 
-abbrev pub first_name : List (List ℕ) → List ℕ
-first_name [] = []
-first_name (name ∷ names) = encode_utf8_all name
-
 -- what a command asks for
 abbrev pub request_of : Command → Request
-request_of (Translate target names) = translates target (first_name names.items)
-request_of (Show names) = shows (first_name names.items)
+request_of (Translate target partial names) = translates target partial (map encode_utf8_all names.items)
+request_of (Show partial names) = shows partial (map encode_utf8_all names.items)
 request_of (Same first second) = compares (encode_utf8_all first) (encode_utf8_all second)
 
--- a translation and what is shown are of one document
-abbrev pub HasItsNames : Command → Type 0
-HasItsNames (Translate target names) = length names.items ≡ 1
-HasItsNames (Show names) = length names.items ≡ 1
-HasItsNames (Same first second) = Unit {0}
-
 -- The words ask for what the command does.
-pub record IsCommand (words : List (List ℕ)) (command : Command) : Type 0 where
-  pub names : HasItsNames command
-  pub asks : Asks words (request_of command)
+abbrev pub IsCommand : List (List ℕ) → Command → Type 0
+IsCommand words command = Asks words (request_of command)

@@ -1,2 +1,4 @@
 pub mod Commands
+pub mod CommandsLaws
 pub mod Status
+pub mod WordParts

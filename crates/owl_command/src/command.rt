@@ -1,12 +1,12 @@
 //! The words of the command line.
 
-ghost use Rattle.std.specs.Prelude.{◌≡◌, ◌≢◌, ◌↔◌, ◌∷◌, [], List, ℕ, map, string_bytes, IsTrue, IfOk, IsErrOf, codes};
-ghost use Rattle.std.specs.Str.{encode_utf8_all};
-ghost use Rattle.owl_command.specs.Commands.{HasNoCommand, IsCommand, IsName};
-ghost use Rattle.owl_command.specs.declared.command.Target.TheVariants.{Fss};
+ghost use Rattle.std.specs.Prelude.{◌≡◌, ◌≢◌, ◌∷◌, ◌<◌, ◌↔◌, List, ℕ, Some, length, map, slice_get, string_bytes, IsTrue, IfOk, IfSome, IfNone, IsErrOf, codes};
+ghost use Rattle.owl_command.specs.Commands.{AsksImports, HasNoCommand, IsCommand, names_of, request_of};
+ghost use Rattle.owl_command.specs.WordParts.{AreTwoNames, IsStripped, NameNone, NameWith};
 
+use crate::names::{are_names, is_word, texts_of};
 use owl_characters::{NoMemory, Text};
-use std::alloc::{AllocError, Global};
+use std::alloc::Global;
 use thiserror::Error;
 
 /// The syntax of a translation.
@@ -16,15 +16,67 @@ pub enum Target {
     Fss,
 }
 
-/// What the words ask for.
+/// What the words ask for. The first of several names is that of the main
+/// document, and the others are those of documents that it may import. Where it
+/// is `partial`, imports may be missing.
 #[derive(Debug, Drop)]
 pub enum Command {
-    /// `translate --to TARGET NAME`
-    Translate { target: Target, names: Vec<Text> },
-    /// `show NAME`
-    Show { names: Vec<Text> },
+    /// `translate --to TARGET [--partial] MAIN {IMPORT}`
+    Translate {
+        target: Target,
+        partial: bool,
+        names: Vec<Text>,
+    },
+    /// `show [--partial] MAIN {IMPORT}`
+    Show {
+        partial: bool,
+        names: Vec<Text>,
+    },
     /// `same FIRST SECOND`
-    Same { first: Text, second: Text },
+    Same {
+        first: Text,
+        second: Text,
+    },
+}
+
+impl Command {
+    /// How many documents it names.
+    pub fn count(&self) -> usize
+        ensures { result ≡ length (names_of (request_of self.now)) }
+    {
+        match self {
+            Command::Translate { names, .. } | Command::Show { names, .. } => names.len(),
+            Command::Same { .. } => 2,
+        }
+    }
+
+    /// The name of the document at this place, in the order in which they are
+    /// read.
+    pub fn name(&self, place: usize) -> &str
+        requires { place < length (names_of (request_of self.now)) }
+        ensures { slice_get (names_of (request_of self.now)) place ≡ Some result.now }
+    {
+        match self {
+            Command::Translate { names, .. } | Command::Show { names, .. } => names[place].as_str(),
+            Command::Same { first, second } => {
+                if place == 0 {
+                    first.as_str()
+                } else {
+                    second.as_str()
+                }
+            }
+        }
+    }
+
+    /// Whether each import has to be there.
+    pub fn asks_imports(&self) -> bool
+        ensures { IsTrue result ↔ AsksImports (request_of self.now) }
+    {
+        match self {
+            Command::Translate { partial, .. } | Command::Show { partial, .. } => !*partial,
+            Command::Same { .. } => false,
+        }
+    }
 }
 
 /// Why words were refused.
@@ -48,97 +100,90 @@ impl From<NoMemory> for WordsFault {
     }
 }
 
-/// Whether a word is a document's name.
-fn is_name(word: &str) -> bool
-    ensures { IsTrue result ↔ IsName word.now }
+/// What stands behind this word, where it is the first.
+fn strip<'a>(words: &'a [String], word: &str) -> Option<&'a [String]>
+    ensures some { IfSome result (λ others. map string_bytes words.now ≡ word.now ∷ map string_bytes others.now) }
+    ensures none { IfNone result ((others : List (List ℕ)) → map string_bytes words.now ≢ word.now ∷ others) }
 {
-    word.ends_with(".ofn") && 4 < word.len() && !word.starts_with('-')
-}
-
-/// Whether these words ask for a translation to Functional-Style Syntax.
-fn is_translation(verb: &str, flag: &str, target: &str) -> bool
-    ensures { IsTrue result
-        ↔ ((verb.now ≡ codes "translate") × (flag.now ≡ codes "--to") × (target.now ≡ codes "fss")) }
-{
-    verb == "translate" && flag == "--to" && target == "fss"
-}
-
-/// Whether the word is this one.
-fn is_word(word: &str, wanted: &str) -> bool
-    ensures { IsTrue result ↔ (word.now ≡ wanted.now) }
-{
-    word == wanted
-}
-
-/// Whether these are the names of two documents.
-fn are_two_names(first: &str, second: &str) -> bool
-    ensures { IsTrue result ↔ (IsName first.now × IsName second.now × (second.now ≢ first.now)) }
-{
-    is_name(first) && is_name(second) && second != first
-}
-
-/// A list of one name.
-fn one_name(alloc: Global, name: &str) -> Result<Vec<Text>, NoMemory>
-    ensures { IfOk result (λ names. map encode_utf8_all names.items ≡ name.now ∷ []) }
-{
-    let mut names = Vec::new(alloc);
-    let name = Text::of(alloc, name)?;
-    match names.push(name) {
-        Ok(()) => Ok(names),
-        Err(_) => Err(NoMemory),
+    match words {
+        [first, others @ ..] if is_word(first.as_str(), word) => Some(others),
+        _ => None,
     }
 }
 
-/// What these four words ask for.
-fn translate(
-    alloc: Global,
-    verb: &str,
-    flag: &str,
-    target: &str,
-    name: &str,
-) -> Result<Command, WordsFault>
-    ensures command { IfOk result (IsCommand (verb.now ∷ flag.now ∷ target.now ∷ name.now ∷ [])) }
-    ensures none { IsErrOf result WordsFault.Words → HasNoCommand (verb.now ∷ flag.now ∷ target.now ∷ name.now ∷ []) }
-    ensures refused { HasNoCommand (verb.now ∷ flag.now ∷ target.now ∷ name.now ∷ []) → IsErrOf result WordsFault.Words }
+/// What stands behind the words of a translation to Functional-Style Syntax.
+fn strip_translation(words: &[String]) -> Option<&[String]>
+    ensures some { IfSome result (λ others. map string_bytes words.now
+        ≡ codes "translate" ∷ codes "--to" ∷ codes "fss" ∷ map string_bytes others.now) }
+    ensures none { IfNone result ((others : List (List ℕ)) → map string_bytes words.now
+        ≢ codes "translate" ∷ codes "--to" ∷ codes "fss" ∷ others) }
 {
-    if is_translation(verb, flag, target) && is_name(name) {
-        Ok(Command::Translate {
-            target: Target::Fss,
-            names: one_name(alloc, name)?,
-        })
-    } else {
-        Err(WordsFault::Words)
+    let others = strip(strip(words, "translate")?, "--to")?;
+    strip(others, "fss")
+}
+
+/// Whether imports may be missing, and the words behind that.
+fn strip_flag(words: &[String]) -> (bool, &[String])
+    ensures { IsStripped (map string_bytes words.now) result.0 (map string_bytes result.1.now) }
+{
+    match strip(words, "--partial") {
+        Some(others) => (true, others),
+        None => (false, words),
     }
 }
 
-/// What these two words ask for.
-fn show(alloc: Global, verb: &str, name: &str) -> Result<Command, WordsFault>
-    ensures command { IfOk result (IsCommand (verb.now ∷ name.now ∷ [])) }
-    ensures none { IsErrOf result WordsFault.Words → HasNoCommand (verb.now ∷ name.now ∷ []) }
-    ensures refused { HasNoCommand (verb.now ∷ name.now ∷ []) → IsErrOf result WordsFault.Words }
+/// Whether imports may be missing, and the names.
+fn documents(words: &[String]) -> Option<(bool, &[String])>
+    ensures some { IfSome result (λ found. NameWith (map string_bytes words.now) found.0 (map string_bytes found.1.now)) }
+    ensures none { IfNone result (NameNone (map string_bytes words.now)) }
 {
-    if is_word(verb, "show") && is_name(name) {
-        Ok(Command::Show {
-            names: one_name(alloc, name)?,
-        })
+    let (partial, names) = strip_flag(words);
+    if are_names(names) {
+        Some((partial, names))
     } else {
-        Err(WordsFault::Words)
+        None
     }
 }
 
-/// What these three words ask for.
-fn same(alloc: Global, verb: &str, first: &str, second: &str) -> Result<Command, WordsFault>
-    ensures command { IfOk result (IsCommand (verb.now ∷ first.now ∷ second.now ∷ [])) }
-    ensures none { IsErrOf result WordsFault.Words → HasNoCommand (verb.now ∷ first.now ∷ second.now ∷ []) }
-    ensures refused { HasNoCommand (verb.now ∷ first.now ∷ second.now ∷ []) → IsErrOf result WordsFault.Words }
+/// What the words behind those of a translation ask for.
+fn translate(alloc: Global, words: &[String]) -> Result<Command, WordsFault>
+    ensures command { IfOk result (IsCommand (codes "translate" ∷ codes "--to" ∷ codes "fss" ∷ map string_bytes words.now)) }
+    ensures none { IsErrOf result WordsFault.Words → NameNone (map string_bytes words.now) }
+    ensures refused { NameNone (map string_bytes words.now) → IsErrOf result WordsFault.Words }
 {
-    if is_word(verb, "same") && are_two_names(first, second) {
-        Ok(Command::Same {
-            first: Text::of(alloc, first)?,
-            second: Text::of(alloc, second)?,
-        })
-    } else {
-        Err(WordsFault::Words)
+    let (partial, names) = documents(words).ok_or(WordsFault::Words)?;
+    Ok(Command::Translate {
+        target: Target::Fss,
+        partial,
+        names: texts_of(alloc, names)?,
+    })
+}
+
+/// What the words behind `show` ask for.
+fn show(alloc: Global, words: &[String]) -> Result<Command, WordsFault>
+    ensures command { IfOk result (IsCommand (codes "show" ∷ map string_bytes words.now)) }
+    ensures none { IsErrOf result WordsFault.Words → NameNone (map string_bytes words.now) }
+    ensures refused { NameNone (map string_bytes words.now) → IsErrOf result WordsFault.Words }
+{
+    let (partial, names) = documents(words).ok_or(WordsFault::Words)?;
+    Ok(Command::Show {
+        partial,
+        names: texts_of(alloc, names)?,
+    })
+}
+
+/// What the words behind `same` ask for.
+fn same(alloc: Global, words: &[String]) -> Result<Command, WordsFault>
+    ensures command { IfOk result (IsCommand (codes "same" ∷ map string_bytes words.now)) }
+    ensures none { IsErrOf result WordsFault.Words → AreTwoNames (map string_bytes words.now) → ⊥ }
+    ensures refused { (AreTwoNames (map string_bytes words.now) → ⊥) → IsErrOf result WordsFault.Words }
+{
+    match words {
+        [first, second] if are_names(words) => Ok(Command::Same {
+            first: Text::of(alloc, first.as_str())?,
+            second: Text::of(alloc, second.as_str())?,
+        }),
+        _ => Err(WordsFault::Words),
     }
 }
 
@@ -149,16 +194,13 @@ pub fn words(alloc: Global, words: &[String]) -> Result<Command, WordsFault>
     ensures none { IsErrOf result WordsFault.Words → HasNoCommand (map string_bytes words.now) }
     ensures refused { HasNoCommand (map string_bytes words.now) → IsErrOf result WordsFault.Words }
 {
-    match words {
-        [verb, flag, target, name] => translate(
-            alloc,
-            verb.as_str(),
-            flag.as_str(),
-            target.as_str(),
-            name.as_str(),
-        ),
-        [verb, name] => show(alloc, verb.as_str(), name.as_str()),
-        [verb, first, second] => same(alloc, verb.as_str(), first.as_str(), second.as_str()),
-        _ => Err(WordsFault::Words),
+    if let Some(others) = strip_translation(words) {
+        translate(alloc, others)
+    } else if let Some(others) = strip(words, "show") {
+        show(alloc, others)
+    } else if let Some(others) = strip(words, "same") {
+        same(alloc, others)
+    } else {
+        Err(WordsFault::Words)
     }
 }

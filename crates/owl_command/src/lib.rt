@@ -2,6 +2,7 @@
 #![tactic(auto)]
 
 mod command;
+mod names;
 mod status;
 
 pub use command::{Command, Target, WordsFault, words};

@@ -1,34 +1,37 @@
 -- What the line of a read fault tells.
 use Rattle.std.proofs.Common.{◌≡◌, ◌≢◌, ℕ, List, refl}
-use Rattle.owl_reader.specs.declared.fault.ReadFault.{ReadFault}
 use Rattle.owl_reader.specs.declared.fault.ReadFault.TheVariants as read
+use Rattle.owl_documents.specs.declared.trouble.Refusal.{Refusal}
+use Rattle.owl_documents.specs.declared.trouble.Refusal.TheVariants.{DocumentBytes, AllBytes, Unreadable}
 use Rattle.owl_command.specs.Commands.{Request, translates, shows, compares}
-use Rattle.owl_answer.specs.Outcome.{IsRefusalLine, LineFor, SuccessLine, of_defect, of_imports, of_no_memory, of_output, of_read_fault, of_refusal, of_success, of_write_fault, refusal_outcome}
+use Rattle.owl_answer.specs.Outcome.{IsRefusalLine, LineFor, SuccessLine, of_bytes, of_import, of_no_memory, of_output, of_read_fault, of_refusal, of_success, of_write_fault, refusal_outcome}
 use Rattle.owl_command.specs.declared.command.Target.TheVariants.{Fss}
 use Rattle.owl_command.specs.declared.status.Status.TheVariants.{ReadFailed}
 
 -- the line of a read fault names a document with its cause
 no_success : (request : Request) (line : List ℕ) → SuccessLine request ReadFailed line → ⊥
-no_success (translates Fss name) line s = s
-no_success (shows name) line s = s
+no_success (translates Fss partial names) line s = s
+no_success (shows partial names) line s = s
 no_success (compares first second) line s = s
 
-no_refusal : (name : List ℕ) (refusal : ReadFault) → refusal ≢ read.Memory → ReadFailed ≡ (refusal_outcome name refusal).status → ⊥
-no_refusal name (read.Refused item at reason) n e = cc
-no_refusal name read.TooLong n e = cc
-no_refusal name read.TooDeep n e = cc
-no_refusal name read.TooHeavy n e = cc
-no_refusal name read.NumberTooLarge n e = cc
-no_refusal name read.Memory n e = n refl
+no_refusal : (name : List ℕ) (refusal : Refusal) → refusal ≢ Unreadable read.Memory → ReadFailed ≡ (refusal_outcome name refusal).status → ⊥
+no_refusal name DocumentBytes n e = cc
+no_refusal name AllBytes n e = cc
+no_refusal name (Unreadable (read.Refused item at reason)) n e = cc
+no_refusal name (Unreadable read.TooLong) n e = cc
+no_refusal name (Unreadable read.TooDeep) n e = cc
+no_refusal name (Unreadable read.TooHeavy) n e = cc
+no_refusal name (Unreadable read.NumberTooLarge) n e = cc
+no_refusal name (Unreadable read.Memory) n e = n refl
 
 no_refusal_line : (name : List ℕ) (line : List ℕ) → IsRefusalLine name ReadFailed line → ⊥
-no_refusal_line name line (of_defect refusal n e l) = no_refusal name refusal n e
-no_refusal_line name line (of_imports e l) = cc
-no_refusal_line name line (of_output e l) = cc
+no_refusal_line name line (of_bytes refusal n e l) = no_refusal name refusal n e
+no_refusal_line name line (of_import iri e l) = cc
 
 pub fault_in : (request : Request) (IsCause : List ℕ → Type 0) (line : List ℕ) → LineFor request IsCause ReadFailed line → (name : List ℕ) × IsCause name
 fault_in request IsCause line (of_success s) = absurd (no_success request line s)
 fault_in request IsCause line (of_refusal name among r) = absurd (no_refusal_line name line r)
+fault_in request IsCause line (of_output e l) = absurd (cc)
 fault_in request IsCause line (of_read_fault name h e l) = (name, h)
 fault_in request IsCause line (of_write_fault e l) = absurd (cc)
 fault_in request IsCause line (of_no_memory e l) = absurd (cc)

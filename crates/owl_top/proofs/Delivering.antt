@@ -4,12 +4,15 @@ use Rattle.std.specs.List.{AllByRecursion}
 use Rattle.std.proofs.lemmas.List.{append-nil}
 use Rattle.std.proofs.Math.Seq.{take-length}
 use Rattle.owl_command.specs.Commands.{Asks, HasNoCommand, IsAmong, Name, Request, names_of}
-use Rattle.owl_answer.specs.Outcome.{Becomes, IsFaulty, IsFirstFaulty, IsFrontNoted, IsFrontOfNote, IsFrontTaken, IsFrontWritten, IsLine, IsNoted, IsNotedAlone, IsOutcome, IsQuiet, IsSettled, IsSuccess, IsTheOutcome, IsWritten, LineFor, Outcome, of_asked, of_memory, of_words, of_write_fault, refused}
-use Rattle.owl_answer.specs.Answers.{HasNoText, IsAnswered, IsFound, IsTaken, IsWrittenFor, Rises, Shelves, delivered_line}
+use Rattle.owl_documents.specs.Documents.{Contents}
+use Rattle.owl_documents.specs.Shelves.{IsFaulty, IsFirstFaulty, IsFrontTaken, IsTaken, Rises, Shelves}
+use Rattle.owl_answer.specs.Outcome.{Becomes, IsFrontNoted, IsFrontOfNote, IsFrontWritten, IsLine, IsNoted, IsNotedAlone, IsOutcome, IsQuiet, IsSettled, IsSuccess, IsTheOutcome, IsWritten, LineFor, Outcome, of_asked, of_memory, of_words, of_write_fault, refused}
+use Rattle.owl_answer.specs.Answers.{HasNoText, IsAnswered, IsFound, IsWrittenFor, delivered_line}
 use Rattle.owl_command.specs.declared.status.Status.{Status}
 use Rattle.owl_command.specs.declared.status.Status.TheVariants.{Done, No, Words, Document as NoDocument, Target, Limit, ReadFailed, WriteFailed, Memory}
 use Rattle.owl_top.proofs.Causes.{fault_in}
-use Rattle.owl_top.proofs.Requests.{no_command_the, outcome_the, same_request}
+use Rattle.owl_command.specs.CommandsLaws.{asks_once}
+use Rattle.owl_top.proofs.Requests.{no_command_the, outcome_the}
 
 -- what was put is a front of what was to be put, also where it is all
 pub front_of : {T E : Type 0} (r : Result T E) (before after line : List ℕ) → OnOk r (after ≡ before ++ line) → OnErr r ((n : ℕ) × (n < length line) × (after ≡ before ++ take n line)) → (n : ℕ) × (after ≡ before ++ take n line)
@@ -191,7 +194,7 @@ module _ (words : List (List ℕ)) (request : Request) (asks : Asks words reques
 
   among_asked : (name : List ℕ) → Name words name → IsAmong (names_of request) name
   among_asked name n =
-      subst (λ (r : Request). IsAmong (names_of r) name) (same_request words n.request request n.asks asks) n.among
+      subst (λ (r : Request). IsAmong (names_of r) name) (asks_once words n.request request n.asks asks) n.among
 
   pub asked_ended : (new : List ℕ → Option (List ℕ)) → AllByRecursion (λ name. new name ≡ Some []) (names_of request) → (name : List ℕ) → Name words name → new name ≡ Some []
   asked_ended new all name n = all_among (λ (x : List ℕ). new x ≡ Some []) (names_of request) name all (among_asked name n)

@@ -3,9 +3,10 @@
 ghost use Rattle.std.specs.Prelude.{◌≡◌, ◌≢◌, ◌++◌, ◌↔◌, ◌⊎◌, ℕ, List, Some, [], map, take, string_bytes, IsTrue, IfOk};
 ghost use Rattle.std.specs.List.{AllByRecursion};
 ghost use Rattle.owl_port.specs.Outside.{Rose};
-ghost use Rattle.owl_command.specs.Commands.{AreDistinct, Asks, HasItsNames, HasNoCommand, Name, Request, names_of, request_of};
-ghost use Rattle.owl_answer.specs.Outcome.{Becomes, IsFaulty, IsFirstFaulty, IsFrontNoted, IsFrontOfNote, IsFrontTaken, IsFrontWritten, IsLine, IsNoted, IsNotedAlone, IsOutcome, IsQuiet, IsReadBack, IsSettled, IsSuccess, IsTheOutcome, IsWritten, LineFor, Outcome};
-ghost use Rattle.owl_answer.specs.Answers.{IsProper, IsTaken, IsWrittenFor, delivered_line, outcome_of};
+ghost use Rattle.owl_command.specs.Commands.{AreNames, Asks, HasNoCommand, Name, Request, names_of, request_of};
+ghost use Rattle.owl_documents.specs.Shelves.{IsFaulty, IsFirstFaulty, IsFrontTaken, IsTaken};
+ghost use Rattle.owl_answer.specs.Outcome.{Becomes, IsFrontNoted, IsFrontOfNote, IsFrontWritten, IsLine, IsNoted, IsNotedAlone, IsOutcome, IsQuiet, IsReadBack, IsSettled, IsSuccess, IsTheOutcome, IsWritten, LineFor, Outcome};
+ghost use Rattle.owl_answer.specs.Answers.{IsProper, IsWrittenFor, delivered_line, outcome_of};
 
 use owl_answer::{Answer, answer_to};
 use owl_characters::NoMemory;
@@ -57,8 +58,7 @@ fn obey<S: Shelf, O: Sink, N: Sink>(
     out: &mut O,
     note: &mut N,
 ) -> Status
-    requires names { HasItsNames command.now }
-    requires distinct { AreDistinct (names_of (request_of command.now)) }
+    requires { AreNames (names_of (request_of command.now)) }
     ensures some { result ≢ Status.Words }
     ensures outcome { IsTrue (S.tells shelf.old) → IsSettled result →
         (outcome : Outcome) × IsTheOutcome (Becomes (S.left shelf.old) (request_of command.now)) outcome × (result ≡ outcome.status) }
@@ -100,10 +100,12 @@ fn obey<S: Shelf, O: Sink, N: Sink>(
 /// All that the program does for the words behind its name: it reads documents from the shelf, and writes its text to
 /// `out` and one line to `note`.
 ///
-/// The line of a status is `translated; axioms A; absorbed 0`, `shown` or `same` for `Done`, `different` for `No`, `words`
-/// for `Words`, `NAME: item at ITEM: REASON at AT` or `NAME: NotBuilt` for `Document`, `limit: COUNT: NAME` or
+/// The line of a status is `translated; axioms A; absorbed K`, `shown` or `same` for `Done`, `different` for `No`, `words`
+/// for `Words`, `NAME: item at ITEM: REASON at AT` or `NAME: MissingImport <IRI>` for `Document`, `limit: COUNT: NAME` or
 /// `limit: OutputBytes: output` for `Limit`, `read: NAME` for `ReadFailed`, `write` for `WriteFailed` and `memory` for
-/// `Memory`. A document that can't be read is refused by its first defect. A fault of `note` changes no status.
+/// `Memory`. Each document that the words name is read, in their order, and the first that can't be is refused by its first
+/// defect; then imports are looked at, of the main document and of those that it reaches. A fault of `note` changes no
+/// status.
 pub fn run<S: Shelf, O: Sink, N: Sink>(
     alloc: Global,
     words: &[String],

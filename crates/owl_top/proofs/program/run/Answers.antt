@@ -1,45 +1,50 @@
 use Rattle.std.proofs.Common.{Err, inl, map, string_bytes, codes, refl, ap}
 use Rattle.owl_port.specs.Outside.{Rose}
 use Rattle.owl_command.specs.Commands.{HasNoCommand, request_of}
-use Rattle.owl_answer.specs.Outcome.{IsFaulty, IsFirstFaulty, refused}
+use Rattle.owl_documents.specs.Shelves.{IsFaulty, IsFirstFaulty}
+use Rattle.owl_answer.specs.Outcome.{refused}
 use Rattle.owl_command.specs.declared.status.Status.TheVariants.{Words}
-use Rattle.owl_top.proofs.Delivering.{asked_fault, asked_front, asked_note, asked_note_alone, asked_note_front, asked_note_front_alone, asked_outcome, asked_written, completes_by, no_command_front, no_command_note}
+use Rattle.owl_top.proofs.Delivering.{asked_ended, asked_fault, asked_front, asked_note, asked_note_alone, asked_note_front, asked_note_front_alone, asked_outcome, asked_written, completes_by, no_command_front, no_command_note}
 use Rattle.owl_top.proofs.Requests.{no_command_the}
 use Rattle.owl_top.proofs.program.run.Goals as goal
 
 pub returns-in-Ok-clause-outcome : goal.returns-in-Ok-clause-outcome
 returns-in-Ok-clause-outcome g c = λ shelf settled.
-    asked_outcome (map string_bytes c.args.words.now) (request_of c.in-Ok.command) c.in-Ok.ensures.command.asks (g.S.Shelf.left c.args.shelf.now) c.obey.result (c.obey.ensures.outcome shelf settled)
+    asked_outcome (map string_bytes c.args.words.now) (request_of c.in-Ok.command) c.in-Ok.ensures.command (g.S.Shelf.left c.args.shelf.now) c.obey.result (c.obey.ensures.outcome shelf settled)
 
 pub returns-in-Ok-clause-written : goal.returns-in-Ok-clause-written
 returns-in-Ok-clause-written g c = λ shelf out success.
-    asked_written (map string_bytes c.args.words.now) (request_of c.in-Ok.command) c.in-Ok.ensures.command.asks (g.S.Shelf.left c.args.shelf.now) c.obey.result _ _ (c.obey.ensures.written shelf out success)
+    asked_written (map string_bytes c.args.words.now) (request_of c.in-Ok.command) c.in-Ok.ensures.command (g.S.Shelf.left c.args.shelf.now) c.obey.result _ _ (c.obey.ensures.written shelf out success)
+
+pub returns-in-Ok-clause-ended : goal.returns-in-Ok-clause-ended
+returns-in-Ok-clause-ended g c = λ shelf success.
+    asked_ended (map string_bytes c.args.words.now) (request_of c.in-Ok.command) c.in-Ok.ensures.command (g.S.Shelf.left c.args.shelf.now) (g.S.Shelf.left c.obey.new.shelf) (c.obey.ensures.ended shelf success)
 
 pub returns-in-Ok-clause-front : goal.returns-in-Ok-clause-front
 returns-in-Ok-clause-front g c = λ shelf out failed.
-    asked_front (map string_bytes c.args.words.now) (request_of c.in-Ok.command) c.in-Ok.ensures.command.asks (g.S.Shelf.left c.args.shelf.now) _ _ (c.obey.ensures.front shelf out failed)
+    asked_front (map string_bytes c.args.words.now) (request_of c.in-Ok.command) c.in-Ok.ensures.command (g.S.Shelf.left c.args.shelf.now) _ _ (c.obey.ensures.front shelf out failed)
 
 pub returns-in-Ok-clause-note : goal.returns-in-Ok-clause-note
 returns-in-Ok-clause-note g c = λ shelf note quiet.
-    asked_note (map string_bytes c.args.words.now) (request_of c.in-Ok.command) c.in-Ok.ensures.command.asks (g.S.Shelf.left c.args.shelf.now) (IsFirstFaulty (g.S.Shelf.left c.args.shelf.now) (λ other. Rose (g.S.Shelf.faults c.args.shelf.now other) (g.S.Shelf.faults c.obey.new.shelf other))) c.obey.result _ _ (c.obey.ensures.note shelf note quiet)
+    asked_note (map string_bytes c.args.words.now) (request_of c.in-Ok.command) c.in-Ok.ensures.command (g.S.Shelf.left c.args.shelf.now) (IsFirstFaulty (g.S.Shelf.left c.args.shelf.now) (λ other. Rose (g.S.Shelf.faults c.args.shelf.now other) (g.S.Shelf.faults c.obey.new.shelf other))) c.obey.result _ _ (c.obey.ensures.note shelf note quiet)
 
 pub returns-in-Ok-clause-note_alone : goal.returns-in-Ok-clause-note_alone
 returns-in-Ok-clause-note_alone g c = λ note quiet.
-    asked_note_alone (map string_bytes c.args.words.now) (request_of c.in-Ok.command) c.in-Ok.ensures.command.asks (g.S.Shelf.left c.args.shelf.now) (IsFaulty (λ other. Rose (g.S.Shelf.faults c.args.shelf.now other) (g.S.Shelf.faults c.obey.new.shelf other))) c.obey.result _ _ (c.obey.ensures.note_alone note quiet)
+    asked_note_alone (map string_bytes c.args.words.now) (request_of c.in-Ok.command) c.in-Ok.ensures.command (g.S.Shelf.left c.args.shelf.now) (IsFaulty (λ other. Rose (g.S.Shelf.faults c.args.shelf.now other) (g.S.Shelf.faults c.obey.new.shelf other))) c.obey.result _ _ (c.obey.ensures.note_alone note quiet)
 
 pub returns-in-Ok-clause-note_front : goal.returns-in-Ok-clause-note_front
 returns-in-Ok-clause-note_front g c = λ shelf note.
-    asked_note_front (map string_bytes c.args.words.now) (request_of c.in-Ok.command) c.in-Ok.ensures.command.asks (g.S.Shelf.left c.args.shelf.now) (IsFirstFaulty (g.S.Shelf.left c.args.shelf.now) (λ other. Rose (g.S.Shelf.faults c.args.shelf.now other) (g.S.Shelf.faults c.obey.new.shelf other))) c.obey.result _ _ (c.obey.ensures.note_front shelf note)
+    asked_note_front (map string_bytes c.args.words.now) (request_of c.in-Ok.command) c.in-Ok.ensures.command (g.S.Shelf.left c.args.shelf.now) (IsFirstFaulty (g.S.Shelf.left c.args.shelf.now) (λ other. Rose (g.S.Shelf.faults c.args.shelf.now other) (g.S.Shelf.faults c.obey.new.shelf other))) c.obey.result _ _ (c.obey.ensures.note_front shelf note)
 
 pub returns-in-Ok-clause-note_front_alone : goal.returns-in-Ok-clause-note_front_alone
 returns-in-Ok-clause-note_front_alone g c = λ note.
-    asked_note_front_alone (map string_bytes c.args.words.now) (request_of c.in-Ok.command) c.in-Ok.ensures.command.asks (g.S.Shelf.left c.args.shelf.now) (IsFaulty (λ other. Rose (g.S.Shelf.faults c.args.shelf.now other) (g.S.Shelf.faults c.obey.new.shelf other))) c.obey.result _ _ (c.obey.ensures.note_front_alone note)
+    asked_note_front_alone (map string_bytes c.args.words.now) (request_of c.in-Ok.command) c.in-Ok.ensures.command (g.S.Shelf.left c.args.shelf.now) (IsFaulty (λ other. Rose (g.S.Shelf.faults c.args.shelf.now other) (g.S.Shelf.faults c.obey.new.shelf other))) c.obey.result _ _ (c.obey.ensures.note_front_alone note)
 
 pub returns-in-Ok-clause-completes : goal.returns-in-Ok-clause-completes
 returns-in-Ok-clause-completes g c = λ shelf reads writes.
     let ws = map string_bytes c.args.words.now in
     let contents = g.S.Shelf.left c.args.shelf.now in
-    completes_by _ c.obey.result (λ settled. asked_outcome ws (request_of c.in-Ok.command) c.in-Ok.ensures.command.asks contents c.obey.result (c.obey.ensures.outcome shelf settled)) (λ e. let h = asked_fault ws (request_of c.in-Ok.command) c.in-Ok.ensures.command.asks contents (λ other. Rose (g.S.Shelf.faults c.args.shelf.now other) (g.S.Shelf.faults c.obey.new.shelf other)) (c.obey.ensures.read_fault e) in reads h.0 h.1 h.2) (λ e. writes (c.obey.ensures.write_fault e))
+    completes_by _ c.obey.result (λ settled. asked_outcome ws (request_of c.in-Ok.command) c.in-Ok.ensures.command contents c.obey.result (c.obey.ensures.outcome shelf settled)) (λ e. let h = asked_fault ws (request_of c.in-Ok.command) c.in-Ok.ensures.command contents (λ other. Rose (g.S.Shelf.faults c.args.shelf.now other) (g.S.Shelf.faults c.obey.new.shelf other)) (c.obey.ensures.read_fault e) in reads h.0 h.1 h.2) (λ e. writes (c.obey.ensures.write_fault e))
 
 pub returns-in-Err-Words-clause-outcome : goal.returns-in-Err-Words-clause-outcome
 returns-in-Err-Words-clause-outcome g c = λ _ _.

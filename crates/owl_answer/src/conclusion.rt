@@ -1,0 +1,108 @@
+//! What is answered for documents that are read.
+
+ghost use Rattle.std.specs.Prelude.{◌≡◌, ◌<◌, IfOk, length, map, string_bytes};
+ghost use Rattle.std.specs.Str.{encode_utf8_all};
+ghost use Rattle.owl_doc.specs.Documents.{ontology_of};
+ghost use Rattle.owl_command.specs.Commands.{names_of, request_of};
+ghost use Rattle.owl_command.specs.declared.command.Target.TheVariants.{Fss};
+ghost use Rattle.owl_documents.specs.Documents.{said_of};
+ghost use Rattle.fss_write.specs.Text.{text_of};
+ghost use Rattle.owl_answer.specs.Outcome.{IsBack, IsComparison, IsLimited, IsSuccess, IsWanted, ReadsIn, done_line, normal_form, shown, translation};
+ghost use Rattle.owl_answer.specs.Answers.{IsConclusion, outcome_of};
+
+use crate::answer::{Answer, said, told, too_long_output};
+use crate::imports::first_missing;
+use crate::refusal::refuse_import;
+use crate::summary::summary;
+use fss_write::{WriteFault, write};
+use owl_characters::{MOST_BYTES, NoMemory, Text};
+use owl_command::{Command, Status};
+use owl_doc::Doc;
+use std::alloc::{AllocError, Global};
+
+/// The answer with the text of a document.
+fn translated(alloc: Global, doc: &Doc, text: Text) -> Result<Answer, NoMemory>
+    requires { text ≡ text_of doc.now.prefixes (ontology_of doc.now) }
+    ensures outcome { IfOk result (λ answer. outcome_of answer ≡ translation Fss (said_of doc.now)) }
+    ensures text { IfOk result (λ answer. answer.text ≡ text) }
+{
+    let line = done_line(alloc, doc.axioms().len() as u64, 0)?;
+    Ok(Answer {
+        status: Status::Done,
+        text,
+        line,
+    })
+}
+
+/// How many axioms were written, and how many are said in others.
+fn done_line(alloc: Global, axioms: u64, absorbed: u64) -> Result<String, AllocError>
+    ensures { IfOk result (λ line. string_bytes line ≡ done_line axioms absorbed) }
+{
+    format!(in alloc; "translated; axioms {axioms}; absorbed {absorbed}\n")
+}
+
+/// The translation of a document to Functional-Style Syntax.
+fn translate(alloc: Global, doc: &Doc) -> Result<Answer, NoMemory>
+    ensures outcome { IfOk result (λ answer. IsLimited (λ wanted. wanted ≡ translation Fss (said_of doc.now)) (outcome_of answer)) }
+    ensures back { IfOk result (λ answer. IsSuccess answer.status → ReadsIn Fss (encode_utf8_all answer.text) (normal_form Fss (said_of doc.now))) }
+{
+    // What is known of every document.
+    doc.notes();
+    match write(alloc, doc) {
+        Ok(text) => translated(alloc, doc, text),
+        Err(WriteFault::TooLong) => too_long_output(alloc),
+        Err(WriteFault::Memory) => Err(NoMemory),
+    }
+}
+
+/// What a document counts.
+fn show(alloc: Global, doc: &Doc) -> Result<Answer, NoMemory>
+    ensures { IfOk result (λ answer. IsLimited (λ wanted. wanted ≡ shown (said_of doc.now)) (outcome_of answer)) }
+{
+    let text = summary(alloc, doc)?;
+    if MOST_BYTES < text.as_str().len() as u64 {
+        too_long_output(alloc)
+    } else {
+        told(alloc, Status::Done, text, "shown\n")
+    }
+}
+
+/// Whether two documents say the same.
+fn compare(alloc: Global, doc: &Doc, other: &Doc) -> Result<Answer, NoMemory>
+    ensures { IfOk result (λ answer. IsLimited (IsComparison (said_of doc.now) (said_of other.now)) (outcome_of answer)) }
+{
+    if doc.same(other) {
+        said(alloc, Status::Done, "same\n")
+    } else {
+        said(alloc, Status::No, "different\n")
+    }
+}
+
+/// What is wanted of documents whose imports are there.
+fn answer_wanted(alloc: Global, command: &Command, docs: &[Doc]) -> Result<Answer, NoMemory>
+    requires some { 0 < length docs.now }
+    requires each { length docs.now ≡ length (names_of (request_of command.now)) }
+    ensures wanted { IfOk result (λ answer.
+        IsLimited (IsWanted (request_of command.now) (map said_of docs.now)) (outcome_of answer)) }
+    ensures back { IfOk result (λ answer. IsSuccess answer.status →
+        IsBack (request_of command.now) (map said_of docs.now) (encode_utf8_all answer.text)) }
+{
+    match command {
+        Command::Translate { .. } => translate(alloc, &docs[0]),
+        Command::Show { .. } => show(alloc, &docs[0]),
+        Command::Same { .. } => compare(alloc, &docs[0], &docs[1]),
+    }
+}
+
+/// What is answered for the documents that a command names, all of which are
+/// read.
+pub fn conclude(alloc: Global, command: &Command, docs: &[Doc]) -> Result<Answer, NoMemory>
+    requires some { 0 < length docs.now }
+    requires each { length docs.now ≡ length (names_of (request_of command.now)) }
+    ensures { IfOk result (λ answer. IsConclusion (request_of command.now) (map said_of docs.now) (outcome_of answer)) }
+{
+    match first_missing(alloc, command, docs)? {
+        Some(missing) => refuse_import(alloc, command.name(missing.document), &missing.iri),
+        None => answer_wanted(alloc, command, docs),
+    }
+}

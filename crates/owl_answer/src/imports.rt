@@ -1,0 +1,57 @@
+//! Imports that name no document.
+
+ghost use Rattle.std.specs.Prelude.{◌≡◌, ◌<◌, IfOk, IfSome, IfNone, length, map};
+ghost use Rattle.owl_close.specs.Imports.{heads_of};
+ghost use Rattle.owl_command.specs.Commands.{request_of};
+ghost use Rattle.owl_documents.specs.Documents.{said_of};
+ghost use Rattle.owl_answer.specs.Outcome.{HasImports, heads_in};
+ghost use Rattle.owl_answer.specs.Answers.{IsMissingFor};
+
+use owl_atom::Iri;
+use owl_characters::NoMemory;
+use owl_close::{CloseFault, closure};
+use owl_command::Command;
+use owl_doc::{Doc, Head};
+use std::alloc::{AllocError, Global};
+
+/// An import that names no document, and the place of the document that has it.
+#[derive(Drop)]
+pub struct Missing {
+    pub document: usize,
+    pub iri: Iri,
+}
+
+/// The heads of the documents.
+fn heads(alloc: Global, docs: &[Doc]) -> Result<Vec<Head>, NoMemory>
+    ensures { IfOk result (λ heads. heads_of heads.items ≡ heads_in (map said_of docs.now)) }
+{
+    let mut heads = Vec::with_capacity(alloc, docs.len())?;
+    'docs: for doc in docs {
+        heads
+            .push(doc.head().copy(alloc)?)
+            .map_err(AllocError::from)?;
+    }
+    Ok(heads)
+}
+
+/// The first import that names no document, where the command asks for each to
+/// be there.
+pub fn first_missing(
+    alloc: Global,
+    command: &Command,
+    docs: &[Doc],
+) -> Result<Option<Missing>, NoMemory>
+    requires { 0 < length docs.now }
+    ensures some { IfOk result (λ found. IfSome found (IsMissingFor (request_of command.now) (heads_in (map said_of docs.now)))) }
+    ensures none { IfOk result (λ found. IfNone found (HasImports (request_of command.now) (map said_of docs.now))) }
+{
+    if !command.asks_imports() {
+        return Ok(None);
+    }
+    let heads = heads(alloc, docs)?;
+    match closure(alloc, &heads, false) {
+        Ok(_) => Ok(None),
+        Err(CloseFault::MissingImport { document, iri }) => Ok(Some(Missing { document, iri })),
+        Err(CloseFault::Memory) => Err(NoMemory),
+    }
+}

@@ -1,0 +1,123 @@
+//! What is answered where a document is not read.
+
+ghost use Rattle.std.specs.Prelude.{◌≡◌, ◌≢◌, ◌++◌, string_bytes, codes, decimal, IfOk};
+ghost use Rattle.owl_answer.specs.Outcome.{defect_outcome, missing_import, reason_word, refusal_outcome};
+ghost use Rattle.owl_answer.specs.Answers.{outcome_of, trouble_outcome};
+
+use crate::answer::{Answer, refused};
+use fss_read::{ReadFault, Reason};
+use owl_atom::Iri;
+use owl_characters::NoMemory;
+use owl_command::Status;
+use owl_documents::{Refusal, Trouble};
+use std::alloc::{AllocError, Global};
+
+/// The word that a reason is told by.
+fn word(reason: Reason) -> &'static str
+    ensures { result.now ≡ reason_word reason }
+{
+    match reason {
+        Reason::BadUtf8 => "BadUtf8",
+        Reason::BadToken => "BadToken",
+        Reason::NotHere => "NotHere",
+        Reason::UnknownPrefix => "UnknownPrefix",
+        Reason::PrefixTwice => "PrefixTwice",
+        Reason::PrefixFixed => "PrefixFixed",
+        Reason::BadLiteral => "BadLiteral",
+        Reason::EmptyKey => "EmptyKey",
+    }
+}
+
+/// Where an item begins, and what is wrong with it at which place.
+fn defect_line(
+    alloc: Global,
+    name: &str,
+    item_at: u64,
+    at: u64,
+    reason: Reason,
+) -> Result<String, AllocError>
+    ensures { IfOk result (λ line. string_bytes line
+        ≡ name.now ++ (codes ": item at " ++ (decimal item_at ++ (codes ": " ++ (reason_word reason ++ (codes " at " ++ (decimal at ++ codes "\n"))))))) }
+{
+    let word = word(reason);
+    format!(in alloc; "{name}: item at {item_at}: {word} at {at}\n")
+}
+
+/// Which limit was passed, and where.
+fn limit_line(alloc: Global, count: &str, name: &str) -> Result<String, AllocError>
+    ensures { IfOk result (λ line. string_bytes line ≡ codes "limit: " ++ (count.now ++ (codes ": " ++ (name.now ++ codes "\n")))) }
+{
+    format!(in alloc; "limit: {count}: {name}\n")
+}
+
+/// What is answered where the document of this name has this defect.
+fn refuse_defect(alloc: Global, name: &str, fault: ReadFault) -> Result<Answer, NoMemory>
+    ensures { IfOk result (λ answer. outcome_of answer ≡ defect_outcome name.now fault) }
+{
+    let line = match fault {
+        ReadFault::Refused {
+            item_at,
+            at,
+            reason,
+        } => {
+            let line = defect_line(alloc, name, item_at, at, reason);
+            return refused(alloc, Status::Document, line);
+        }
+        ReadFault::TooLong => limit_line(alloc, "DocumentBytes", name),
+        ReadFault::TooDeep => limit_line(alloc, "Depth", name),
+        ReadFault::TooHeavy => limit_line(alloc, "Weight", name),
+        ReadFault::NumberTooLarge => limit_line(alloc, "Cardinality", name),
+        ReadFault::Memory => return Err(NoMemory),
+    };
+    refused(alloc, Status::Limit, line)
+}
+
+/// What is answered where the document of this name is refused.
+fn refuse(alloc: Global, name: &str, refusal: Refusal) -> Result<Answer, NoMemory>
+    ensures { IfOk result (λ answer. outcome_of answer ≡ refusal_outcome name.now refusal) }
+{
+    match refusal {
+        Refusal::DocumentBytes => refused(
+            alloc,
+            Status::Limit,
+            limit_line(alloc, "DocumentBytes", name),
+        ),
+        Refusal::AllBytes => refused(alloc, Status::Limit, limit_line(alloc, "AllBytes", name)),
+        Refusal::Unreadable(fault) => refuse_defect(alloc, name, fault),
+    }
+}
+
+/// What is answered where there is this trouble with the document of this name.
+pub fn answer_trouble(alloc: Global, name: &str, trouble: Trouble) -> Result<Answer, NoMemory>
+    ensures outcome { IfOk result (λ answer. outcome_of answer ≡ trouble_outcome name.now trouble) }
+    ensures memory { IfOk result (λ _. trouble ≢ Trouble.Memory) }
+{
+    match trouble {
+        Trouble::ReadFailed => refused(
+            alloc,
+            Status::ReadFailed,
+            format!(in alloc; "read: {name}\n"),
+        ),
+        Trouble::Refused(refusal) => refuse(alloc, name, refusal),
+        Trouble::Memory => Err(NoMemory),
+    }
+}
+
+/// The line of an import that names no document.
+fn import_line(alloc: Global, name: &str, iri: &str) -> Result<String, AllocError>
+    ensures { IfOk result (λ line. string_bytes line
+        ≡ name.now ++ (codes ": MissingImport <" ++ (iri.now ++ codes ">\n"))) }
+{
+    format!(in alloc; "{name}: MissingImport <{iri}>\n")
+}
+
+/// What is answered where the document of this name has an import that names none.
+pub fn refuse_import(alloc: Global, name: &str, iri: &Iri) -> Result<Answer, NoMemory>
+    ensures { IfOk result (λ answer. outcome_of answer ≡ missing_import name.now iri.now) }
+{
+    refused(
+        alloc,
+        Status::Document,
+        import_line(alloc, name, iri.text()),
+    )
+}

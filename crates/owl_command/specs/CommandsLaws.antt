@@ -1,0 +1,49 @@
+-- Words ask for one thing.
+use Rattle.std.proofs.Common.{◌≡◌, ℕ, Bool, false, true, List, [], ◌∷◌, ◌++◌, codes, nat_eq, refl, ap, sym, ◌∙◌, subst}
+use Rattle.std.specs.List.{AllByRecursion}
+use Rattle.owl_command.specs.Commands.{Asks, IsName, Request, compares, flag_words, names_of, shows, translates, words_of}
+use Rattle.owl_command.specs.declared.command.Target.TheVariants.{Fss}
+
+abbrev pub verb : List (List ℕ) → List ℕ
+verb [] = []
+verb (word ∷ words) = word
+
+-- whether the second letter is that of `show`
+abbrev is_show : List ℕ → Bool
+is_show [] = false
+is_show (c ∷ []) = false
+is_show (c ∷ d ∷ cs) = nat_eq d 104
+
+pub show_is_not_same : codes "show" ≡ codes "same" → ⊥
+show_is_not_same e = let h : true ≡ false = ap is_show e in absurd (cc)
+
+-- the flag is no name
+pub flag_is_no_name : (others : List (List ℕ)) → AllByRecursion IsName (codes "--partial" ∷ others) → ⊥
+flag_is_no_name others named = named.0.no_flag (codes "-partial") refl
+
+-- so it stands in front of names in one way
+pub flags_once : (one other : Bool) (names others : List (List ℕ)) → AllByRecursion IsName names → AllByRecursion IsName others → flag_words one ++ names ≡ flag_words other ++ others → (one ≡ other) × (names ≡ others)
+flags_once true true names others h k e = (refl, cc)
+flags_once true false names others h k e = absurd (flag_is_no_name names (subst (AllByRecursion IsName) (sym e) k))
+flags_once false true names others h k e = absurd (flag_is_no_name others (subst (AllByRecursion IsName) e h))
+flags_once false false names others h k e = (refl, e)
+
+pub asks_once : (words : List (List ℕ)) (one other : Request) → Asks words one → Asks words other → one ≡ other
+asks_once words one other h k = by_words one other h.names.named k.names.named (sym h.are ∙ k.are)
+  where
+    by_words : (one other : Request) → AllByRecursion IsName (names_of one) → AllByRecursion IsName (names_of other) → words_of one ≡ words_of other → one ≡ other
+    by_words (translates Fss p names) (translates Fss q others) h k e =
+        let behind : flag_words p ++ names ≡ flag_words q ++ others = cc in
+        let once = flags_once p q names others h k behind in
+        cc
+    by_words (translates Fss p names) (shows q others) h k e = absurd (cc)
+    by_words (translates Fss p names) (compares first second) h k e = absurd (cc)
+    by_words (shows p names) (translates Fss q others) h k e = absurd (cc)
+    by_words (shows p names) (shows q others) h k e =
+        let behind : flag_words p ++ names ≡ flag_words q ++ others = cc in
+        let once = flags_once p q names others h k behind in
+        cc
+    by_words (shows p names) (compares first second) h k e = absurd (show_is_not_same (ap verb e))
+    by_words (compares first second) (translates Fss q others) h k e = absurd (cc)
+    by_words (compares first second) (shows q others) h k e = absurd (show_is_not_same (ap verb (sym e)))
+    by_words (compares first second) (compares third fourth) h k e = cc

@@ -1,0 +1,4 @@
+pub mod Following
+pub mod OneWay
+pub mod Refusing
+pub mod Taking

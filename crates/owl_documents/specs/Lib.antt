@@ -1,0 +1,4 @@
+pub mod Documents
+pub mod OneWay
+pub mod Reading
+pub mod Shelves

@@ -1,0 +1,72 @@
+-- What comes of reading documents from a shelf.
+use Rattle.std.specs.Prelude.{◌≡◌, ◌≢◌, ◌<◌, ℕ, IsTrue, List, Option, Some, length, slice_get}
+use Rattle.owl_reader.specs.Readings.{Reading}
+use Rattle.owl_reader.specs.declared.fault.ReadFault.{ReadFault}
+use Rattle.owl_reader.specs.declared.fault.ReadFault.TheVariants as read
+use Rattle.fss_acts.specs.declared.assembler.Assembler.{Assembler}
+use Rattle.fss_read.specs.Reading.{HasRead}
+use Rattle.owl_command.specs.Commands.{Request, names_of}
+use Rattle.owl_port.specs.declared.whole.ReadFault as port
+use Rattle.owl_port.specs.declared.whole.ReadFault.TheVariants as pf
+use Rattle.owl_documents.specs.Documents.{AreFew, Contents, IsFirstRefused, IsRead, IsRefused, IsRefusedAt, said_of}
+use Rattle.owl_documents.specs.Shelves.{IsFaulty, IsFirstFaulty, Rises, Shelves}
+use Rattle.owl_documents.specs.declared.reading.Read.{Read}
+use Rattle.owl_documents.specs.declared.trouble.Refusal.{Refusal}
+use Rattle.owl_documents.specs.declared.trouble.Refusal.TheVariants.{DocumentBytes, AllBytes, Unreadable}
+use Rattle.owl_documents.specs.declared.trouble.Stop.{Stop}
+use Rattle.owl_documents.specs.declared.trouble.Trouble.{Trouble}
+use Rattle.owl_documents.specs.declared.trouble.Trouble.TheVariants.{ReadFailed, Refused, Memory}
+
+abbrev pub trouble_of : ReadFault → Trouble
+trouble_of read.Memory = Memory
+trouble_of (read.Refused item at reason) = Refused (Unreadable (read.Refused item at reason))
+trouble_of read.TooLong = Refused (Unreadable read.TooLong)
+trouble_of read.TooDeep = Refused (Unreadable read.TooDeep)
+trouble_of read.TooHeavy = Refused (Unreadable read.TooHeavy)
+trouble_of read.NumberTooLarge = Refused (Unreadable read.NumberTooLarge)
+
+-- a reader was fed all that is there, so many bytes
+pub record IsFed (there : Option (List ℕ)) (reader : Reading Assembler) (size : ℕ) : Type 0 where
+  pub bytes : List ℕ
+  pub are : there ≡ Some bytes
+  pub count : size ≡ length bytes
+  pub read : HasRead reader bytes
+
+-- more than so many bytes are there
+pub record IsLonger (there : Option (List ℕ)) (room : ℕ) : Type 0 where
+  pub bytes : List ℕ
+  pub are : there ≡ Some bytes
+  pub more : room < length bytes
+
+-- a refusal by the number of bytes
+abbrev pub IsLimit : Refusal → Type 0
+IsLimit DocumentBytes = Unit {0}
+IsLimit AllBytes = Unit {0}
+IsLimit (Unreadable fault) = ⊥
+
+-- Why a document is not fed whole, behind so many bytes of others.
+pub data IsTroubleOfShelf (before : ℕ) (fault : port.ReadFault) (trouble : Trouble) : Type 0 where
+  failed : fault ≡ pf.Failed → trouble ≡ ReadFailed → IsTroubleOfShelf before fault trouble
+  too_long : (refusal : Refusal) → fault ≡ pf.TooLong → IsLimit refusal → ((name bytes : List ℕ) → (AreFew before (length bytes) → ⊥) → IsRefused before name bytes refusal) → trouble ≡ Refused refusal → IsTroubleOfShelf before fault trouble
+  no_memory : trouble ≡ Memory → IsTroubleOfShelf before fault trouble
+
+-- a refusal is no want of memory
+abbrev pub IsProper : Trouble → Type 0
+IsProper trouble = trouble ≢ Refused (Unreadable read.Memory)
+
+-- what a document was read as, behind so many bytes of others
+pub record IsReadAs (contents : Contents) (before : ℕ) (name : List ℕ) (read : Read) : Type 0 where
+  pub bytes : List ℕ
+  pub is : IsRead contents before name bytes (said_of read.doc)
+  pub size : read.size ≡ length bytes
+
+-- a refusal is the document's
+abbrev pub IsTroubleOf : Contents → ℕ → List ℕ → Trouble → Type 0
+IsTroubleOf contents before name trouble =
+    (refusal : Refusal) → trouble ≡ Refused refusal → IsRefusedAt contents name refusal before
+
+-- Why reading stops: the first of the documents that is refused or could not be read, or want of memory.
+pub data IsStop (request : Request) (s : Shelves) (stop : Stop) : Type 0 where
+  of_refusal : (name : List ℕ) → slice_get (names_of request) stop.document ≡ Some name → (refusal : Refusal) → stop.trouble ≡ Refused refusal → refusal ≢ Unreadable read.Memory → (IsTrue s.tells → IsFirstRefused s.old (names_of request) name refusal) → IsStop request s stop
+  of_failure : (name : List ℕ) → slice_get (names_of request) stop.document ≡ Some name → stop.trouble ≡ ReadFailed → IsFaulty (Rises s) request name → (IsTrue s.tells → IsFirstFaulty s.old (Rises s) request name) → IsStop request s stop
+  of_no_memory : stop.document < length (names_of request) → stop.trouble ≡ Memory → IsStop request s stop

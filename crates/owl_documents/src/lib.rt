@@ -1,0 +1,12 @@
+//! Reads the documents that a command names, each to its end, from any shelf.
+#![tactic(auto)]
+
+mod documents;
+mod laws;
+mod limits;
+mod reading;
+mod trouble;
+
+pub use documents::read_documents;
+pub use laws::documents_are_read_one_way;
+pub use trouble::{Refusal, Stop, Trouble};

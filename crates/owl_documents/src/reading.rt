@@ -1,0 +1,108 @@
+//! Reads one document.
+
+ghost use Rattle.std.specs.Prelude.{◌≡◌, ◌≤◌, ◌+◌, Some, Err, [], IsTrue, IfOk, IfErr, OnOk};
+ghost use Rattle.owl_characters.specs.Limit.{most_bytes};
+ghost use Rattle.owl_port.specs.Outside.{Rose};
+ghost use Rattle.fss_read.specs.Reading.{HasRead};
+ghost use Rattle.owl_documents.specs.Documents.{most_bytes_of_all};
+ghost use Rattle.owl_documents.specs.Reading.{IsFed, IsLonger, IsProper, IsReadAs, IsTroubleOf, IsTroubleOfShelf};
+ghost use Rattle.owl_documents.specs.Shelves.{IsTakenAlone};
+
+use crate::limits::{limit_behind, room_behind};
+use crate::trouble::Trouble;
+use fss_read::Reader;
+use owl_characters::NoMemory;
+use owl_doc::Doc;
+use owl_port::{ReadFault, Shelf};
+use std::alloc::Global;
+
+/// How many bytes are read at a time.
+const PIECE: usize = 4096;
+
+/// A document, and of how many bytes it was read.
+#[derive(Drop)]
+pub struct Read {
+    pub doc: Doc,
+    pub size: u64,
+}
+
+/// Feeds a reader that was fed nothing with all the bytes under the name, piece
+/// by piece; returns how many they are. A reader that refuses drops what comes
+/// behind, and answers its refusal when it is finished.
+///
+/// `TooLong` where there are more than `room` bytes, once `room + 1` of them were
+/// taken.
+fn feed_document<S: Shelf>(
+    reader: &mut Reader,
+    name: &str,
+    room: u64,
+    shelf: &mut S,
+) -> Result<u64, ReadFault>
+    requires empty { HasRead reader.old [] }
+    requires room { room ≤ most_bytes }
+    ensures told { S.tells shelf.new ≡ S.tells shelf.old }
+    ensures fed { IsTrue (S.tells shelf.old) → IfOk result (IsFed (S.left shelf.old name.now) reader.new) }
+    ensures within { IfOk result (λ size. size ≤ room) }
+    ensures ended { IsTrue (S.tells shelf.old) → OnOk result (S.left shelf.new name.now ≡ Some []) }
+    ensures longer { IsTrue (S.tells shelf.old) → result ≡ Err ReadFault.TooLong → IsLonger (S.left shelf.old name.now) room }
+    ensures alone { IsTakenAlone name.now
+        (record { tells = S.tells shelf.old; old = S.left shelf.old; new = S.left shelf.new; faults = S.faults shelf.old; later = S.faults shelf.new }) }
+    ensures failed { result ≡ Err ReadFault.Failed → Rose (S.faults shelf.old name.now) (S.faults shelf.new name.now) }
+{
+    let most = room as usize + 1;
+    let mut buffer = [0u8; PIECE];
+    let mut size = 0;
+    while size < most {
+        let wanted = (most - size).min(PIECE);
+        let count = shelf.read(name, &mut buffer[..wanted])?;
+        if count == 0 {
+            return Ok(size as u64);
+        }
+        // The reader keeps a refusal.
+        let _ = reader.feed(&buffer[..count]);
+        size += count;
+    }
+    Err(ReadFault::TooLong)
+}
+
+/// Why a document is not fed whole, behind so many bytes of other documents.
+fn trouble_of_shelf(fault: ReadFault, before: u64) -> Trouble
+    requires { before ≤ most_bytes_of_all }
+    ensures { IsTroubleOfShelf before fault result }
+{
+    match fault {
+        ReadFault::Failed => Trouble::ReadFailed,
+        ReadFault::TooLong => Trouble::Refused(limit_behind(before)),
+        ReadFault::Memory => Trouble::Memory,
+    }
+}
+
+/// Reads the document under this name to its end, behind so many bytes of other
+/// documents.
+pub fn read_document<S: Shelf>(
+    alloc: Global,
+    name: &str,
+    before: u64,
+    shelf: &mut S,
+) -> Result<Read, Trouble>
+    requires { before ≤ most_bytes_of_all }
+    ensures told { S.tells shelf.new ≡ S.tells shelf.old }
+    ensures read { IsTrue (S.tells shelf.old) → IfOk result (IsReadAs (S.left shelf.old) before name.now) }
+    ensures within { IfOk result (λ read. before + read.size ≤ most_bytes_of_all) }
+    ensures ended { IsTrue (S.tells shelf.old) → OnOk result (S.left shelf.new name.now ≡ Some []) }
+    ensures trouble { IsTrue (S.tells shelf.old) → IfErr result (IsTroubleOf (S.left shelf.old) before name.now) }
+    ensures proper { IfErr result IsProper }
+    ensures alone { IsTakenAlone name.now
+        (record { tells = S.tells shelf.old; old = S.left shelf.old; new = S.left shelf.new; faults = S.faults shelf.old; later = S.faults shelf.new }) }
+    ensures failed { result ≡ Err Trouble.ReadFailed → Rose (S.faults shelf.old name.now) (S.faults shelf.new name.now) }
+{
+    let Ok(mut reader) = Reader::new(alloc) else {
+        return Err(Trouble::Memory);
+    };
+    let fed = feed_document(&mut reader, name, room_behind(before), shelf);
+    let doc = reader.finish();
+    match fed {
+        Ok(size) => Ok(Read { doc: doc?, size }),
+        Err(fault) => Err(trouble_of_shelf(fault, before)),
+    }
+}
