@@ -218,11 +218,11 @@ def owl(*words):
 
 def answer():
     """What owl says of the document, and its translation if there is one."""
-    status, text, line = owl("translate", "--to", "fss", "m.ofn")
+    status, text, line = owl("translate", "--to", "fss", "--partial", "m.ofn")
     if status == 0:
         return "reads", text
     line = line.removeprefix("m.ofn: ")
-    return ("reads" if line == "NotBuilt" else line), None
+    return line, None
 
 
 def agrees(text, placed):

@@ -103,6 +103,9 @@ printf 'Prefix(:=<http://e/>) Ontology(<http://e/o> <http://e/v> SubClassOf(:B :
 printf 'Ontology(<http://e/o> SubClassOf(<http://e/A>))' >wrong.ofn
 printf 'Ontology(\377)' >bytes.ofn
 printf 'Ontology(Import(<http://e/i>))' >import.ofn
+printf 'Ontology(<http://e/i>)' >imported.ofn
+printf 'Ontology(<http://e/f> Import(<http://e/j>) Import(<http://e/i>))' >far.ofn
+printf 'Ontology(<http://e/j> Import(<http://e/k>))' >importing.ofn
 printf 'Ontology(SubClassOf(%s<http://e/A>%s <http://e/B>))' "$(times 127 'ObjectComplementOf(')" "$(times 127 ')')" >deep.ofn
 printf 'Ontology(SubClassOf(<http://e/A> ObjectMinCardinality(18446744073709551616 <http://e/p>)))' >large.ofn
 string=$(head -c 3000000 /dev/zero | tr '\0' s)
@@ -155,7 +158,9 @@ call 'imports are compared' 1 'different
 call 'no words' 2 '' 'words
 '
 call 'one word too many' 2 '' 'words
-' show m.ofn a.ofn
+' same m.ofn a.ofn b.ofn
+call 'a flag in another place' 2 '' 'words
+' translate --partial --to fss m.ofn
 call 'another suffix' 2 '' 'words
 ' show m.owl
 call 'a flag' 2 '' 'words
@@ -170,8 +175,22 @@ call 'a document ends too early' 3 '' 'wrong.ofn: item at 22: NotHere at 45
 ' translate --to fss wrong.ofn
 call 'a byte that is no UTF-8' 3 '' 'bytes.ofn: item at 9: BadUtf8 at 9
 ' show bytes.ofn
-call 'an import' 3 '' 'import.ofn: NotBuilt
+call 'an import is missing' 3 '' 'import.ofn: MissingImport <http://e/i>
 ' translate --to fss import.ofn
+call 'an import may be missing' 0 "${four}Ontology(
+Import(<http://e/i>)
+)
+" "$done_line" translate --to fss --partial import.ofn
+call 'an import is there' 0 "${four}Ontology(
+Import(<http://e/i>)
+)
+" "$done_line" translate --to fss import.ofn imported.ofn
+call 'an import of an import is missing' 3 '' 'importing.ofn: MissingImport <http://e/k>
+' show far.ofn imported.ofn importing.ofn
+call 'a document that is not imported is wrong' 3 '' 'wrong.ofn: item at 22: NotHere at 45
+' show m.ofn wrong.ofn
+call 'a document that is not imported is lost' 6 '' "read: $lost
+" show m.ofn "$lost"
 call 'the first document is told first' 3 '' 'wrong.ofn: item at 22: NotHere at 45
 ' same wrong.ofn "$lost"
 call 'the second document is wrong' 3 '' 'bytes.ofn: item at 9: BadUtf8 at 9
