@@ -164,8 +164,13 @@ class Trees:
         names = []
         while self.tokens[self.next][0] in ("iri", "name"):
             names.append(self.iri())
+        imports = []
+        while self.see() == "Import":
+            self.next += 2
+            imports.append(self.iri().encode())
+            self.take()
         items = self.rest("")
-        return names, in_order([it for it in items if it[0] == TAGS["Annotation"]]), in_order([it for it in items if it[0] >= 41])
+        return names, in_order(imports), in_order([it for it in items if it[0] == TAGS["Annotation"]]), in_order([it for it in items if it[0] >= 41])
 
 
 def in_order(trees):
@@ -215,9 +220,10 @@ class Writer:
             parts.append(parts[-1])
         return f"{name}({' '.join(filter(None, parts))})"
 
-    def document(self, names, annotations, axioms):
+    def document(self, names, imports, annotations, axioms):
         lines = [f"Prefix({name}:=<{self.prefixes[name]}>)" for name in sorted(self.prefixes, key=str.encode)]
         lines.append("Ontology(" + " ".join(f"<{it}>" for it in names))
+        lines += [f"Import(<{it.decode()}>)" for it in imports]
         lines += [self.tree(it) for it in annotations + axioms]
         return "\n".join([*lines, ")", ""])
 
