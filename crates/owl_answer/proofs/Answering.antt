@@ -1,5 +1,5 @@
 -- What is answered is what is asked.
-use Rattle.std.proofs.Common.{◌≡◌, ◌≢◌, ℕ, IsTrue, Some, List, [], ◌∷◌, slice_get, refl, sym, ap, ◌∙◌, subst}
+use Rattle.std.proofs.Common.{◌≡◌, ◌≢◌, ℕ, IsTrue, Some, List, [], slice_get, refl, sym, ap, ◌∙◌, subst}
 use Rattle.std.specs.List.{AllByRecursion}
 use Rattle.owl_reader.specs.declared.fault.ReadFault.TheVariants as read
 use Rattle.owl_command.specs.Commands.{IsAmong, Request, names_of}
@@ -10,8 +10,8 @@ use Rattle.owl_documents.specs.Shelves.{IsFaulty, IsFirstFaulty, Rises, Shelves}
 use Rattle.owl_documents.specs.declared.trouble.Refusal.{Refusal}
 use Rattle.owl_documents.specs.declared.trouble.Refusal.TheVariants.{Unreadable}
 use Rattle.owl_documents.specs.declared.trouble.Stop.{Stop}
-use Rattle.owl_documents.specs.declared.trouble.Trouble.TheVariants.{ReadFailed, Refused, Memory}
-use Rattle.owl_answer.specs.Outcome.{Becomes, Concludes, IsTheOutcome, Outcome, all_read, not_read, of_read_fault, refusal_outcome}
+use Rattle.owl_documents.specs.declared.trouble.Trouble.TheVariants.{ReadFailed, Memory}
+use Rattle.owl_answer.specs.Outcome.{Becomes, Concludes, Outcome, all_read, not_read, of_read_fault, refusal_outcome}
 use Rattle.owl_answer.specs.Answers.{IsAnswered, IsConclusion, trouble_outcome}
 use Rattle.owl_answer.proofs.Concluding.{concludes_once}
 use Rattle.owl_answer.proofs.Lines.{at_among, concluded_told, refused_fails, refused_told}

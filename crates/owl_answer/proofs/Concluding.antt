@@ -1,11 +1,10 @@
 -- What is concluded of documents is one.
-use Rattle.std.proofs.Common.{◌≡◌, ◌<◌, ◌≤◌, ◌+◌, ℕ, Some, List, [], ◌∷◌, ◌++◌, length, slice_get, codes, refl, sym, ap, ◌∙◌, subst, arith}
+use Rattle.std.proofs.Common.{◌≡◌, ◌+◌, ℕ, Some, List, [], ◌∷◌, ◌++◌, length, slice_get, codes, sym, ap, ◌∙◌, arith}
 use Rattle.std.specs.List.{sum_by}
 use Rattle.std.specs.Str.{encode_utf8_all}
-use Rattle.owl_characters.specs.Limit.{most_bytes}
 use Rattle.owl_list.specs.Ascending.{ascending}
 use Rattle.owl_atom.specs.declared.prefixes.Prefix.{Prefix}
-use Rattle.owl_tree.specs.Ontologies.{IsSameOntology, Ontology, canonical_ontology}
+use Rattle.owl_tree.specs.Ontologies.{Ontology, canonical_ontology}
 use Rattle.owl_tree.specs.OntologyLaws.{same_ontology_is_equal_form, same_ontology_sym, same_ontology_trans}
 use Rattle.owl_tree.specs.Order.{tree_cmp}
 use Rattle.owl_tree.specs.Trees.{kids_of, weight}
@@ -30,13 +29,13 @@ same_form : (a b : Said) → IsSame a b → canonical_ontology a.ontology ≡ ca
 same_form a b s = (same_ontology_is_equal_form a.ontology b.ontology).0 s.ontology
 
 -- what is answered depends on the prefixes and on the canonical form alone
-translation_same : (a b : Said) → IsSame a b → translation Fss a ≡ translation Fss b
+pub translation_same : (a b : Said) → IsSame a b → translation Fss a ≡ translation Fss b
 translation_same a b s = λ i. of_form (s.prefixes i) (same_form a b s i)
   where
     of_form : List Prefix → Ontology → Outcome
     of_form table c = record { status = Done; text = encode_utf8_all (text_of table c); line = done_line (length c.axioms) 0 }
 
-shown_same : (a b : Said) → IsSame a b → shown a ≡ shown b
+pub shown_same : (a b : Said) → IsSame a b → shown a ≡ shown b
 shown_same a b s = λ i. of_form (same_form a b s i)
   where
     of_form : Ontology → Outcome

@@ -1,13 +1,12 @@
 -- What is concluded, and what is told of troubles, is proper, and has its line.
 use Rattle.std.proofs.Common.{◌≡◌, ◌≢◌, ℕ, zero, suc, Some, List, [], ◌∷◌, slice_get, inl, inr, refl, sym, subst}
-use Rattle.owl_reader.specs.declared.fault.ReadFault.{ReadFault}
 use Rattle.owl_reader.specs.declared.fault.ReadFault.TheVariants as read
 use Rattle.owl_command.specs.Commands.{IsAmong, Request, compares, names_of, shows, translates}
 use Rattle.owl_command.specs.declared.command.Target.TheVariants.{Fss}
 use Rattle.owl_documents.specs.Documents.{Said}
 use Rattle.owl_documents.specs.declared.trouble.Refusal.{Refusal}
 use Rattle.owl_documents.specs.declared.trouble.Refusal.TheVariants.{DocumentBytes, AllBytes, Unreadable}
-use Rattle.owl_answer.specs.Outcome.{Concludes, IsComparison, IsLimited, IsSuccess, IsWanted, LineFor, Outcome, SuccessLine, agree, agreement, differ, difference, fits, has_imports, misses_import, missing_import, of_bytes, of_import, of_output, of_refusal, of_success, passes, refusal_outcome, shown, too_long_output, translation}
+use Rattle.owl_answer.specs.Outcome.{Concludes, IsSuccess, IsWanted, LineFor, Outcome, SuccessLine, agree, differ, fits, has_imports, misses_import, missing_import, of_bytes, of_import, of_output, of_refusal, of_success, passes, refusal_outcome}
 use Rattle.owl_answer.specs.Answers.{IsProper}
 
 pub at_among : (names : List (List ℕ)) (place : ℕ) (name : List ℕ) → slice_get names place ≡ Some name → IsAmong names name

@@ -16,7 +16,7 @@ use Rattle.owl_answer.specs.Answers.{IsConclusion, IsMissingFor}
 use Rattle.owl_answer.specs.declared.imports.Missing.{Missing}
 use Rattle.owl_answer.specs.Outcome.{IsLimited, IsSuccess, IsWanted, Outcome, fits, heads_in, misses_import, missing_import, passes, shown, too_long_output, translation}
 
-limited_more : (V W : Outcome → Type 0) → ((o : Outcome) → V o → W o) → (outcome : Outcome) → IsLimited V outcome → IsLimited W outcome
+pub limited_more : (V W : Outcome → Type 0) → ((o : Outcome) → V o → W o) → (outcome : Outcome) → IsLimited V outcome → IsLimited W outcome
 limited_more V W f outcome (fits v l) = fits (f outcome v) l
 limited_more V W f outcome (passes wanted v l e) = passes wanted (f wanted v) l e
 

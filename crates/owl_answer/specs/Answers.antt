@@ -1,5 +1,5 @@
 -- What an answer says, apart from where it lies in memory.
-use Rattle.std.specs.Prelude.{◌≡◌, ◌++◌, ℕ, List, [], ◌∷◌, Some, IsTrue, codes, string_bytes}
+use Rattle.std.specs.Prelude.{◌≡◌, ◌++◌, ℕ, List, [], Some, IsTrue, codes, string_bytes}
 use Rattle.std.specs.List.{AllByRecursion}
 use Rattle.std.specs.Str.{encode_utf8_all}
 use Rattle.owl_tree.specs.Ontologies.{Head}

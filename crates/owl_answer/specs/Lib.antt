@@ -1,3 +1,4 @@
-pub mod Summary
-pub mod Outcome
 pub mod Answers
+pub mod Outcome
+pub mod Summary
+pub mod Unreached

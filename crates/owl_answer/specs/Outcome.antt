@@ -1,5 +1,5 @@
 -- What a run answers, for its words and the contents of its documents.
-use Rattle.std.specs.Prelude.{◌≡◌, ◌≢◌, ◌<◌, ◌≤◌, ◌⊎◌, ℕ, Some, List, [], ◌∷◌, ◌++◌, length, map, slice_get, take, codes}
+use Rattle.std.specs.Prelude.{◌≡◌, ◌≢◌, ◌<◌, ◌≤◌, ℕ, Some, List, [], ◌∷◌, ◌++◌, length, map, slice_get, take, codes}
 use Rattle.std.specs.Fmt.{decimal}
 use Rattle.std.specs.Str.{encode_utf8_all}
 use Rattle.owl_characters.specs.Limit.{most_bytes}

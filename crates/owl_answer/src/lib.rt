@@ -4,9 +4,11 @@
 mod answer;
 mod conclusion;
 mod imports;
+mod laws;
 mod refusal;
 mod request;
 mod summary;
 
 pub use answer::Answer;
+pub use laws::unreached_documents_change_nothing;
 pub use request::answer_to;

@@ -1,5 +1,5 @@
 -- An import names one document, each closure has one answer, and documents with the same heads have the same closure.
-use Rattle.std.proofs.Common.{◌≡◌, ◌<◌, ℕ, zero, suc, List, [], ◌∷◌, Option, IsSomeAnd, slice_get, inl, inr, refl, sym, subst, arith}
+use Rattle.std.proofs.Common.{◌≡◌, ℕ, zero, suc, List, [], ◌∷◌, Option, IsSomeAnd, slice_get, inl, inr, refl, sym, subst, arith}
 use Rattle.std.specs.declared.cmp.Ordering.{Ordering}
 use Rattle.std.specs.declared.cmp.Ordering.TheVariants.{Less, Equal, Greater}
 use Rattle.std.specs.Ordering.{nat_cmp}
@@ -9,7 +9,7 @@ use Rattle.owl_characters.specs.Order.{text_cmp}
 use Rattle.owl_characters.specs.OrderLaws.{same_texts, turned}
 use Rattle.owl_list.specs.AscendingLaws.{ascending_unique}
 use Rattle.owl_tree.specs.Ontologies.{Head, IsSameHead, OntologyName}
-use Rattle.owl_close.specs.Imports.{AreReached, HasImport, Imports, IsFirstMissing, IsMissing, IsNamedAt, IsNamedBy, MissesNone, Names, NamesNone, Reaches, import, main}
+use Rattle.owl_close.specs.Imports.{AreReached, HasImport, IsFirstMissing, IsMissing, IsNamedAt, IsNamedBy, Names, NamesNone, Reaches, import, main}
 
 module _ (heads : List Head) where
   pub named_once : (iri : List ℕ) (a b : ℕ) → Names heads iri a → Names heads iri b → a ≡ b
@@ -52,7 +52,7 @@ alike_back (a ∷ xs) (b ∷ ys) s =
     (record { name = sym s.0.name; imports = λ x. ((s.0.imports x).1, (s.0.imports x).0) }, alike_back xs ys s.1)
 
 -- what holds at a place of the one holds at the same place of the other
-at_place : (P Q : Head → Type 0) → ((a b : Head) → IsSameHead a b → P a → Q b) → (xs ys : List Head) → AreAlike xs ys → (place : ℕ) → IsSomeAnd (slice_get xs place) P → IsSomeAnd (slice_get ys place) Q
+pub at_place : (P Q : Head → Type 0) → ((a b : Head) → IsSameHead a b → P a → Q b) → (xs ys : List Head) → AreAlike xs ys → (place : ℕ) → IsSomeAnd (slice_get xs place) P → IsSomeAnd (slice_get ys place) Q
 at_place P Q f [] ys s place h = absurd h
 at_place P Q f (a ∷ xs) [] s place h = absurd s
 at_place P Q f (a ∷ xs) (b ∷ ys) s zero h = f a b s.0 h

@@ -1,5 +1,5 @@
 -- What a document is read as, and why it is not.
-use Rattle.std.proofs.Common.{Result, Ok, Err, IfErr, ◌≡◌, ◌≢◌, ◌<◌, ◌≤◌, ◌+◌, ℕ, Option, None, Some, List, [], ◌++◌, length, refl, sym, ap, ◌∙◌, subst, arith}
+use Rattle.std.proofs.Common.{Result, Ok, Err, IfErr, ◌≡◌, ◌≢◌, ◌<◌, ◌≤◌, ℕ, Option, None, Some, List, [], ◌++◌, length, refl, sym, ap, ◌∙◌, subst, arith}
 use Rattle.std.specs.Result.{IsErrAnd}
 use Rattle.std.proofs.lemmas.List.{length-append}
 use Rattle.owl_port.specs.Outside.{before}
@@ -8,12 +8,12 @@ use Rattle.owl_port.specs.declared.whole.ReadFault.TheVariants as pf
 use Rattle.owl_reader.specs.declared.fault.ReadFault.{ReadFault}
 use Rattle.owl_reader.specs.declared.fault.ReadFault.TheVariants as read
 use Rattle.fss_defects.specs.FirstDefects.{IsFirstDefect}
-use Rattle.owl_documents.specs.Documents.{AreFew, Contents, IsRefused, IsRefusedAt, unreadable}
+use Rattle.owl_documents.specs.Documents.{AreFew, Contents, IsRefused, unreadable}
 use Rattle.owl_documents.specs.Reading.{IsLimit, IsLonger, IsProper, IsTroubleOf, IsTroubleOfShelf, failed, no_memory, too_long, trouble_of}
 use Rattle.owl_documents.specs.declared.trouble.Refusal.{Refusal}
 use Rattle.owl_documents.specs.declared.trouble.Refusal.TheVariants.{DocumentBytes, AllBytes, Unreadable}
 use Rattle.owl_documents.specs.declared.trouble.Trouble.{Trouble}
-use Rattle.owl_documents.specs.declared.trouble.Trouble.TheVariants.{ReadFailed, Refused, Memory}
+use Rattle.owl_documents.specs.declared.trouble.Trouble.TheVariants.{ReadFailed, Refused}
 
 -- more was fed than may be
 pub longer_by : (there now : Option (List ℕ)) (fed : List ℕ) (room : ℕ) → there ≡ before fed now → (now ≡ None → fed ≡ []) → room < length fed → IsLonger there room

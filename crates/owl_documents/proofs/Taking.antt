@@ -1,13 +1,13 @@
 -- Documents that are taken from a shelf one after the other.
-use Rattle.std.proofs.Common.{◌≡◌, ◌≢◌, ◌<◌, ◌≤◌, ◌+◌, ◌⊎◌, inl, inr, ℕ, suc, Bool, IsTrue, Option, None, Some, List, [], ◌∷◌, ◌++◌, length, map, take, drop, slice_get, refl, sym, ap, ◌∙◌, subst, arith}
+use Rattle.std.proofs.Common.{◌≡◌, ◌≢◌, ◌<◌, ◌≤◌, ◌+◌, inl, inr, ℕ, suc, Bool, IsTrue, Option, None, Some, List, [], ◌∷◌, ◌++◌, length, map, take, drop, slice_get, refl, sym, ap, ◌∙◌, subst, arith}
 use Rattle.std.proofs.lemmas.List.{append-nil, length-append, map-append, take_all}
 use Rattle.owl_characters.specs.Limit.{most_bytes}
-use Rattle.owl_port.specs.Outside.{Rose, SameElsewhere}
+use Rattle.owl_port.specs.Outside.{Rose}
 use Rattle.owl_command.specs.Commands.{AreDistinct, IsAmong, Request, names_of}
 use Rattle.owl_doc.specs.Documents.{Document}
 use Rattle.owl_documents.specs.Documents.{AreReadFrom, Contents, FollowsRead, IsRead, IsRefusedAt, Said, said_of}
-use Rattle.owl_documents.specs.Reading.{IsProper, IsReadAs, IsStop, IsTroubleOf, of_failure, of_no_memory, of_refusal}
-use Rattle.owl_documents.specs.Shelves.{IsFrontTaken, IsTaken, IsTakenAlone, Rises, Shelves}
+use Rattle.owl_documents.specs.Reading.{IsProper, IsReadAs, IsStop, IsTakenAlone, IsTroubleOf, of_failure, of_no_memory, of_refusal}
+use Rattle.owl_documents.specs.Shelves.{IsFrontTaken, IsTaken, Rises, Shelves}
 use Rattle.owl_documents.specs.declared.reading.Read.{Read}
 use Rattle.owl_documents.specs.declared.trouble.Refusal.{Refusal}
 use Rattle.owl_documents.specs.declared.trouble.Trouble.{Trouble}

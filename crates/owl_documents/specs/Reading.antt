@@ -1,5 +1,6 @@
 -- What comes of reading documents from a shelf.
 use Rattle.std.specs.Prelude.{◌≡◌, ◌≢◌, ◌<◌, ℕ, IsTrue, List, Option, Some, length, slice_get}
+use Rattle.owl_port.specs.Outside.{SameElsewhere}
 use Rattle.owl_reader.specs.Readings.{Reading}
 use Rattle.owl_reader.specs.declared.fault.ReadFault.{ReadFault}
 use Rattle.owl_reader.specs.declared.fault.ReadFault.TheVariants as read
@@ -9,7 +10,7 @@ use Rattle.owl_command.specs.Commands.{Request, names_of}
 use Rattle.owl_port.specs.declared.whole.ReadFault as port
 use Rattle.owl_port.specs.declared.whole.ReadFault.TheVariants as pf
 use Rattle.owl_documents.specs.Documents.{AreFew, Contents, IsFirstRefused, IsRead, IsRefused, IsRefusedAt, said_of}
-use Rattle.owl_documents.specs.Shelves.{IsFaulty, IsFirstFaulty, Rises, Shelves}
+use Rattle.owl_documents.specs.Shelves.{IsFaulty, IsFirstFaulty, IsFrontTaken, Rises, Shelves}
 use Rattle.owl_documents.specs.declared.reading.Read.{Read}
 use Rattle.owl_documents.specs.declared.trouble.Refusal.{Refusal}
 use Rattle.owl_documents.specs.declared.trouble.Refusal.TheVariants.{DocumentBytes, AllBytes, Unreadable}
@@ -31,6 +32,12 @@ pub record IsFed (there : Option (List ℕ)) (reader : Reading Assembler) (size 
   pub are : there ≡ Some bytes
   pub count : size ≡ length bytes
   pub read : HasRead reader bytes
+
+-- Bytes are taken from this document alone.
+pub record IsTakenAlone (name : List ℕ) (s : Shelves) : Type 0 where
+  pub taken : IsTrue s.tells → IsFrontTaken (s.old name) (s.new name)
+  pub others : IsTrue s.tells → SameElsewhere name s.old s.new
+  pub counts : SameElsewhere name s.faults s.later
 
 -- more than so many bytes are there
 pub record IsLonger (there : Option (List ℕ)) (room : ℕ) : Type 0 where

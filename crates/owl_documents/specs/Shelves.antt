@@ -1,7 +1,7 @@
 -- What a shelf tells before and after documents are read from it.
-use Rattle.std.specs.Prelude.{◌≡◌, ◌≤◌, ◌+◌, ℕ, Bool, IsTrue, List, Option, length}
+use Rattle.std.specs.Prelude.{◌≡◌, ◌≤◌, ◌+◌, ℕ, Bool, List, Option, length}
 use Rattle.owl_characters.specs.Limit.{most_bytes}
-use Rattle.owl_port.specs.Outside.{Rose, SameElsewhere, before}
+use Rattle.owl_port.specs.Outside.{Rose, before}
 use Rattle.owl_command.specs.Commands.{IsAmong, Request, names_of}
 use Rattle.owl_documents.specs.Documents.{Contents, FollowsRead}
 
@@ -20,12 +20,6 @@ Rises s name = Rose (s.faults name) (s.later name)
 -- at most so many bytes of a document are taken, from its front
 abbrev pub IsFrontTaken : Option (List ℕ) → Option (List ℕ) → Type 0
 IsFrontTaken old new = (taken : List ℕ) × (length taken ≤ most_bytes + 1) × (old ≡ before taken new)
-
--- Bytes are taken from this document alone.
-pub record IsTakenAlone (name : List ℕ) (s : Shelves) : Type 0 where
-  pub taken : IsTrue s.tells → IsFrontTaken (s.old name) (s.new name)
-  pub others : IsTrue s.tells → SameElsewhere name s.old s.new
-  pub counts : SameElsewhere name s.faults s.later
 
 -- Bytes are taken from the documents that are asked for alone.
 pub record IsTaken (request : Request) (old new : Contents) : Type 0 where

@@ -5,8 +5,7 @@ ghost use Rattle.owl_characters.specs.Limit.{most_bytes};
 ghost use Rattle.owl_port.specs.Outside.{Rose};
 ghost use Rattle.fss_read.specs.Reading.{HasRead};
 ghost use Rattle.owl_documents.specs.Documents.{most_bytes_of_all};
-ghost use Rattle.owl_documents.specs.Reading.{IsFed, IsLonger, IsProper, IsReadAs, IsTroubleOf, IsTroubleOfShelf};
-ghost use Rattle.owl_documents.specs.Shelves.{IsTakenAlone};
+ghost use Rattle.owl_documents.specs.Reading.{IsFed, IsLonger, IsProper, IsReadAs, IsTakenAlone, IsTroubleOf, IsTroubleOfShelf};
 
 use crate::limits::{limit_behind, room_behind};
 use crate::trouble::Trouble;

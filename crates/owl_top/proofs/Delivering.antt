@@ -4,7 +4,6 @@ use Rattle.std.specs.List.{AllByRecursion}
 use Rattle.std.proofs.lemmas.List.{append-nil}
 use Rattle.std.proofs.Math.Seq.{take-length}
 use Rattle.owl_command.specs.Commands.{Asks, HasNoCommand, IsAmong, Name, Request, names_of}
-use Rattle.owl_documents.specs.Documents.{Contents}
 use Rattle.owl_documents.specs.Shelves.{IsFaulty, IsFirstFaulty, IsFrontTaken, IsTaken, Rises, Shelves}
 use Rattle.owl_answer.specs.Outcome.{Becomes, IsFrontNoted, IsFrontOfNote, IsFrontWritten, IsLine, IsNoted, IsNotedAlone, IsOutcome, IsQuiet, IsSettled, IsSuccess, IsTheOutcome, IsWritten, LineFor, Outcome, of_asked, of_memory, of_words, of_write_fault, refused}
 use Rattle.owl_answer.specs.Answers.{HasNoText, IsAnswered, IsFound, IsWrittenFor, delivered_line}

@@ -1,5 +1,4 @@
-use Rattle.std.proofs.Common.{◌≡◌, ◌≤◌, Err, length, ap, sym, arith}
-use Rattle.owl_documents.specs.Documents.{AreFew}
+use Rattle.std.proofs.Common.{◌≡◌, ◌≤◌, Err, length, ap, arith}
 use Rattle.owl_documents.specs.declared.trouble.Trouble.TheVariants.{ReadFailed}
 use Rattle.owl_documents.proofs.Refusing.{few_fed, reader_trouble, shelf_failed, shelf_trouble}
 use Rattle.owl_documents.proofs.reading.read_document.Goals as goal
