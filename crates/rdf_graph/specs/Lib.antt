@@ -1,0 +1,7 @@
+pub mod Terms
+pub mod TermLaws
+pub mod Graphs
+pub mod GraphLaws
+pub mod BySubject
+pub mod ByObject
+pub mod WorkedCases

@@ -1,0 +1,103 @@
+//! The places of triples in the order of their objects.
+
+ghost use Rattle.std.specs.Prelude.{◌≡◌, ◌↔◌, ◌<◌, ◌≤◌, ℕ, length, Contains, IfOk, IfSome, IsNone, IsTrue, Some};
+ghost use Rattle.std.specs.List.Sorted.{IsPermutation, IsSorted};
+ghost use Rattle.std.specs.Option.{option_cmp, option_copied};
+ghost use Rattle.rdf_graph.specs.ByObject.{IsCountBefore, IsIndex, is_before, place_cmp};
+ghost use Rattle.rdf_graph.specs.Graphs.{HasNoneWith, IsNextWith, most_triples, object_at};
+ghost use Rattle.rdf_graph.specs.Terms.{term_cmp};
+
+use crate::term::Term;
+use crate::triple::Triple;
+use std::alloc::{AllocError, Global};
+use std::cmp::Ordering;
+
+/// The places of all triples, by object and then by place.
+pub fn places_by_object(alloc: Global, triples: &[Triple]) -> Result<Vec<u32>, AllocError>
+    requires { length triples.now ≤ most_triples }
+    ensures { IfOk result (λ places. IsIndex triples.now places.items) }
+{
+    let mut places = first_places(alloc, triples.len() as u32)?;
+    order(triples, &mut places);
+    Ok(places)
+}
+
+/// The next place, from this one on, of a triple with this object.
+pub fn next_place(triples: &[Triple], places: &[u32], object: &Term, from: usize) -> Option<usize>
+    requires { IsIndex triples.now places.now }
+    ensures some { IfSome result (λ place. IsNextWith triples.now object.now from place) }
+    ensures none { IsNone result ↔ HasNoneWith triples.now object.now from }
+{
+    let place = *places.get(count_before(triples, places, object, from))? as usize;
+    if has_object(triples, place, object) {
+        Some(place)
+    } else {
+        None
+    }
+}
+
+/// Whether the triple at this place has this object.
+fn has_object(triples: &[Triple], place: usize, object: &Term) -> bool
+    requires { place < length triples.now }
+    ensures { IsTrue result ↔ (object_at triples.now place ≡ Some object.now) }
+{
+    triples[place].object == *object
+}
+
+/// How many places have a lesser object than this one, or this one and are
+/// before `from`.
+fn count_before(triples: &[Triple], places: &[u32], object: &Term, from: usize) -> usize
+    requires { IsSorted (place_cmp triples.now) places.now }
+    ensures { IsCountBefore triples.now places.now object.now from result }
+{
+    places.partition_point(|place| is_before(triples, *place as usize, object, from))
+}
+
+/// The first places, so many.
+fn first_places(alloc: Global, count: u32) -> Result<Vec<u32>, AllocError>
+    ensures { IfOk result (λ places. (place : ℕ) → Contains places.items place ↔ (place < count)) }
+{
+    let mut places = Vec::with_capacity(alloc, count as usize)?;
+    for place in 0..count {
+        places.push(place)?;
+    }
+    Ok(places)
+}
+
+/// Puts places in order, by object and then by place.
+fn order(triples: &[Triple], places: &mut Vec<u32>)
+    ensures moved { IsPermutation places.old.items places.new.items }
+    ensures sorted { IsSorted (place_cmp triples.now) places.new.items }
+{
+    places.sort_unstable_by(|a, b| compare(triples, *a as usize, *b as usize));
+}
+
+/// The order of places: by object, those of no triple first, and then by place.
+fn compare(triples: &[Triple], a: usize, b: usize) -> Ordering
+    ensures { result ≡ place_cmp triples.now a b }
+{
+    compare_objects(object_at(triples, a), object_at(triples, b)).then(a.cmp(&b))
+}
+
+/// Whether the place has a lesser object than this one, or this one and is
+/// before `from`.
+fn is_before(triples: &[Triple], place: usize, object: &Term, from: usize) -> bool
+    ensures { result ≡ is_before triples.now object.now from place }
+{
+    compare_objects(object_at(triples, place), Some(object))
+        .then(place.cmp(&from))
+        .is_lt()
+}
+
+fn compare_objects(a: Option<&Term>, b: Option<&Term>) -> Ordering
+    ensures { result ≡ option_cmp term_cmp (option_copied a.entry) (option_copied b.entry) }
+{
+    a.cmp(&b)
+}
+
+/// The object of the triple at this place, where one stands there.
+fn object_at(triples: &[Triple], place: usize) -> Option<&Term>
+    ensures { option_copied result ≡ object_at triples.now place }
+{
+    triples.get(place).map(|triple| &triple.object)
+}

@@ -1,0 +1,112 @@
+//! Graphs.
+
+ghost use Rattle.std.specs.Prelude.{◌≡◌, ◌↔◌, ◌<◌, ◌≤◌, ℕ, [], length, slice_get, IfSome, IsNone, Some};
+ghost use Rattle.std.specs.declared.cmp.Ordering.TheVariants.{Less};
+ghost use Rattle.owl_list.specs.Ascending.{IsAscending};
+ghost use Rattle.rdf_graph.specs.BySubject.{IsCountBelow, IsCountUpTo};
+ghost use Rattle.rdf_graph.specs.Graphs.{HasNoneWith, IsGraph, IsNextWith, subject_at};
+ghost use Rattle.rdf_graph.specs.Terms.{IsSubject, term_cmp, triple_cmp};
+
+use crate::by_object::next_place;
+use crate::term::Term;
+use crate::triple::Triple;
+use std::alloc::Global;
+use std::marker::Model;
+
+/// The most triples that a graph has.
+pub const MOST_TRIPLES: usize = 1 << 24;
+
+/// A set of triples (RDF 1.1 Concepts and Abstract Syntax, section 3), which
+/// contracts see as the list of them in ascending order, each once.
+#[derive(Debug, Drop)]
+pub struct Graph {
+    pub(crate) triples: Vec<Triple>,
+    pub(crate) by_object: Vec<u32>,
+}
+
+impl Model for Graph {
+    ghost use Rattle.std.specs.Prelude.{List};
+    ghost use Rattle.rdf_graph.specs.declared.triple.Triple.{Triple};
+
+    ghost Value = { List Triple };
+
+    ghost use Rattle.rdf_graph.specs.ByObject.{IsKept};
+
+    ghost view = { λ g. g.triples.items };
+
+    ghost invariant = { λ g. IsKept g.triples.items g.by_object.items };
+}
+
+impl Graph {
+    /// No triples. Takes no memory.
+    pub fn empty(alloc: Global) -> Graph
+        ensures { result ≡ [] }
+    {
+        Graph {
+            triples: Vec::new(alloc),
+            by_object: Vec::new(alloc),
+        }
+    }
+
+    /// How many triples there are. Takes no memory.
+    pub fn len(&self) -> usize
+        ensures len { result ≡ length self.now }
+        ensures graph { IsGraph self.now }
+    {
+        self.triples.len()
+    }
+
+    /// The triple at this place. Takes no memory.
+    pub fn at(&self, place: usize) -> &Triple
+        requires { place < length self.now }
+        ensures at { slice_get self.now place ≡ Some result.now }
+        ensures subject { IsSubject result.now.subject }
+    {
+        &self.triples[place]
+    }
+
+    /// The first place of a triple with this subject, and the place past the
+    /// last one. Where there is none, both are the place where one would stand.
+    /// Takes no memory.
+    pub fn of_subject(&self, term: &Term) -> (usize, usize)
+        ensures ordered { result.0 ≤ result.1 }
+        ensures within { result.1 ≤ length self.now }
+        ensures among { (place : ℕ) →
+            (subject_at self.now place ≡ Some term.now)
+            ↔ ((result.0 ≤ place) × (place < result.1)) }
+        ensures before { (place : ℕ) → place < result.0 →
+            IfSome (subject_at self.now place) (λ subject. term_cmp subject term.now ≡ Less) }
+        ensures behind { (place : ℕ) → result.1 ≤ place →
+            IfSome (subject_at self.now place) (λ subject. term_cmp term.now subject ≡ Less) }
+    {
+        (
+            count_below(&self.triples, term),
+            count_up_to(&self.triples, term),
+        )
+    }
+
+    /// The next place, from this one on, of a triple with this object. Takes no
+    /// memory.
+    pub fn with_object(&self, term: &Term, from: usize) -> Option<usize>
+        ensures some { IfSome result (λ place. IsNextWith self.now term.now from place) }
+        ensures none { IsNone result ↔ HasNoneWith self.now term.now from }
+    {
+        next_place(&self.triples, &self.by_object, term, from)
+    }
+}
+
+/// How many triples have a lesser subject.
+fn count_below(triples: &[Triple], term: &Term) -> usize
+    requires { IsAscending triple_cmp triples.now }
+    ensures { IsCountBelow term.now result triples.now }
+{
+    triples.partition_point(|triple| triple.subject < *term)
+}
+
+/// How many triples have this subject or a lesser one.
+fn count_up_to(triples: &[Triple], term: &Term) -> usize
+    requires { IsAscending triple_cmp triples.now }
+    ensures { IsCountUpTo term.now result triples.now }
+{
+    triples.partition_point(|triple| triple.subject <= *term)
+}
