@@ -1,2 +1,1 @@
-mod Fed
 mod Finished

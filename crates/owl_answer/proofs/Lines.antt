@@ -63,6 +63,7 @@ refused_proper name (Unreadable read.TooLong) n = record { found = tt; no_text =
 refused_proper name (Unreadable read.TooDeep) n = record { found = tt; no_text = refl }
 refused_proper name (Unreadable read.TooHeavy) n = record { found = tt; no_text = refl }
 refused_proper name (Unreadable read.NumberTooLarge) n = record { found = tt; no_text = refl }
+refused_proper name (Unreadable read.TooMany) n = record { found = tt; no_text = refl }
 refused_proper name (Unreadable read.Memory) n = absurd (n refl)
 
 pub refused_told : (request : Request) (name : List ℕ) (refusal : Refusal) → IsAmong (names_of request) name → refusal ≢ Unreadable read.Memory → IsTold request (refusal_outcome name refusal)
@@ -79,4 +80,5 @@ refused_fails name (Unreadable read.TooLong) h = h
 refused_fails name (Unreadable read.TooDeep) h = h
 refused_fails name (Unreadable read.TooHeavy) h = h
 refused_fails name (Unreadable read.NumberTooLarge) h = h
+refused_fails name (Unreadable read.TooMany) h = h
 refused_fails name (Unreadable read.Memory) h = h

@@ -10,7 +10,7 @@ use Rattle.fss_terms.specs.Functional.{ReadsFunctional}
 use Rattle.owl_reader.specs.declared.fault.ReadFault.{ReadFault}
 use Rattle.owl_reader.specs.declared.fault.ReadFault.TheVariants as read
 use Rattle.owl_reader.specs.declared.fault.Reason.{Reason}
-use Rattle.owl_reader.specs.declared.fault.Reason.TheVariants.{BadUtf8, BadToken, NotHere, UnknownPrefix, PrefixTwice, PrefixFixed, BadLiteral, EmptyKey}
+use Rattle.owl_reader.specs.declared.fault.Reason.TheVariants.{BadUtf8, BadToken, NotHere, UnknownPrefix, PrefixTwice, PrefixFixed, BadLiteral, EmptyKey, BadIri, RelativeWithoutBase}
 use Rattle.fss_write.specs.Text.{declared_prefixes, text_of}
 use Rattle.owl_command.specs.Commands.{AsksImports, Asks, HasNoCommand, IsAmong, Request, translates, shows, compares, names_of}
 use Rattle.owl_command.specs.declared.command.Target.{Target as Syntax}
@@ -83,6 +83,8 @@ reason_word PrefixTwice = codes "PrefixTwice"
 reason_word PrefixFixed = codes "PrefixFixed"
 reason_word BadLiteral = codes "BadLiteral"
 reason_word EmptyKey = codes "EmptyKey"
+reason_word BadIri = codes "BadIri"
+reason_word RelativeWithoutBase = codes "RelativeWithoutBase"
 
 -- the item that is wrong, and what is wrong at which place
 abbrev pub defect : List ℕ → ℕ → ℕ → Reason → Outcome
@@ -96,6 +98,7 @@ defect_outcome name read.TooLong = passed_limit (codes "DocumentBytes") name
 defect_outcome name read.TooDeep = passed_limit (codes "Depth") name
 defect_outcome name read.TooHeavy = passed_limit (codes "Weight") name
 defect_outcome name read.NumberTooLarge = passed_limit (codes "Cardinality") name
+defect_outcome name read.TooMany = passed_limit (codes "Triples") name
 defect_outcome name read.Memory = refused Memory (codes "memory\n")
 
 -- how the document under this name is refused

@@ -25,6 +25,8 @@ fn word(reason: Reason) -> &'static str
         Reason::PrefixFixed => "PrefixFixed",
         Reason::BadLiteral => "BadLiteral",
         Reason::EmptyKey => "EmptyKey",
+        Reason::BadIri => "BadIri",
+        Reason::RelativeWithoutBase => "RelativeWithoutBase",
     }
 }
 
@@ -67,6 +69,7 @@ fn refuse_defect(alloc: Global, name: &str, fault: ReadFault) -> Result<Answer, 
         ReadFault::TooDeep => limit_line(alloc, "Depth", name),
         ReadFault::TooHeavy => limit_line(alloc, "Weight", name),
         ReadFault::NumberTooLarge => limit_line(alloc, "Cardinality", name),
+        ReadFault::TooMany => limit_line(alloc, "Triples", name),
         ReadFault::Memory => return Err(NoMemory),
     };
     refused(alloc, Status::Limit, line)

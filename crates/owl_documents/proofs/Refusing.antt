@@ -34,6 +34,7 @@ refusal_of read.TooLong refusal e = (cc, λ f. cc)
 refusal_of read.TooDeep refusal e = (cc, λ f. cc)
 refusal_of read.TooHeavy refusal e = (cc, λ f. cc)
 refusal_of read.NumberTooLarge refusal e = (cc, λ f. cc)
+refusal_of read.TooMany refusal e = (cc, λ f. cc)
 refusal_of read.Memory refusal e = absurd (cc)
 
 never_failed : (fault : ReadFault) → trouble_of fault ≡ ReadFailed → ⊥
@@ -42,6 +43,7 @@ never_failed read.TooLong e = cc
 never_failed read.TooDeep e = cc
 never_failed read.TooHeavy e = cc
 never_failed read.NumberTooLarge e = cc
+never_failed read.TooMany e = cc
 never_failed read.Memory e = cc
 
 module _ {T : Type 0} (r : Result T Trouble) (fault : ReadFault) (refused : IsErrAnd r (λ y. y ≡ trouble_of fault)) where

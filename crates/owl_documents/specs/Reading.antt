@@ -25,6 +25,7 @@ trouble_of read.TooLong = Refused (Unreadable read.TooLong)
 trouble_of read.TooDeep = Refused (Unreadable read.TooDeep)
 trouble_of read.TooHeavy = Refused (Unreadable read.TooHeavy)
 trouble_of read.NumberTooLarge = Refused (Unreadable read.NumberTooLarge)
+trouble_of read.TooMany = Refused (Unreadable read.TooMany)
 
 -- a reader was fed all that is there, so many bytes
 pub record IsFed (there : Option (List ℕ)) (reader : Reading Assembler) (size : ℕ) : Type 0 where

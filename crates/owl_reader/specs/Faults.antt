@@ -18,6 +18,7 @@ fault_at (token.Defect reason) item_at at = read.Refused item_at at reason
 fault_at token.TooDeep item_at at = read.TooDeep
 fault_at token.TooHeavy item_at at = read.TooHeavy
 fault_at token.NumberTooLarge item_at at = read.NumberTooLarge
+fault_at token.TooMany item_at at = read.TooMany
 fault_at token.Memory item_at at = read.Memory
 
 -- where a parser refuses the token or the end at a byte, behind this last item

@@ -8,3 +8,4 @@ pub mod Readings
 pub mod Early
 pub mod SameStepsLaws
 pub mod OneDefectLaws
+pub mod FedLaws

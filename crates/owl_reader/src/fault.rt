@@ -28,6 +28,10 @@ pub enum Reason {
     BadLiteral,
     /// The bracket there ends a HasKey without a property.
     EmptyKey,
+    /// The reference there has a character that no IRI has.
+    BadIri,
+    /// The reference there has no scheme, and no base was set before.
+    RelativeWithoutBase,
 }
 
 /// Why a token is not taken.
@@ -35,12 +39,14 @@ pub enum Reason {
 pub enum TokenFault {
     /// What is wrong at its place.
     Defect(Reason),
-    /// The tree that begins with it stands below 128 levels.
+    /// What begins with it stands inside of too much that is open.
     TooDeep,
     /// With the item that it ends the document has more than 2^24 nodes and leaves.
     TooHeavy,
     /// It is a number above 2^64 - 1.
     NumberTooLarge,
+    /// At the end the document has more than 2^24 triples.
+    TooMany,
     /// Memory ran out.
     Memory,
 }
@@ -60,6 +66,7 @@ impl TokenFault {
             TokenFault::TooDeep => ReadFault::TooDeep,
             TokenFault::TooHeavy => ReadFault::TooHeavy,
             TokenFault::NumberTooLarge => ReadFault::NumberTooLarge,
+            TokenFault::TooMany => ReadFault::TooMany,
             TokenFault::Memory => ReadFault::Memory,
         }
     }
@@ -94,7 +101,7 @@ pub enum ReadFault {
     /// More than 2^27 bytes were fed.
     #[error("too long")]
     TooLong,
-    /// A tree has more than 128 levels.
+    /// Too much is open at once.
     #[error("too deep")]
     TooDeep,
     /// The document has more than 2^24 nodes and leaves.
@@ -103,6 +110,9 @@ pub enum ReadFault {
     /// A cardinality is above 2^64 - 1.
     #[error("a number is too large")]
     NumberTooLarge,
+    /// The document has more than 2^24 triples.
+    #[error("too many triples")]
+    TooMany,
     /// Memory ran out.
     #[error("out of memory")]
     Memory,

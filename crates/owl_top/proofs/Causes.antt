@@ -22,6 +22,7 @@ no_refusal name (Unreadable read.TooLong) n e = cc
 no_refusal name (Unreadable read.TooDeep) n e = cc
 no_refusal name (Unreadable read.TooHeavy) n e = cc
 no_refusal name (Unreadable read.NumberTooLarge) n e = cc
+no_refusal name (Unreadable read.TooMany) n e = cc
 no_refusal name (Unreadable read.Memory) n e = n refl
 
 no_refusal_line : (name : List ℕ) (line : List ℕ) → IsRefusalLine name ReadFailed line → ⊥

@@ -1,9 +1,9 @@
 use Rattle.std.proofs.Common.{subst, sym}
 use Rattle.std.proofs.lemmas.Result.{IfErr-weaker}
+use Rattle.owl_reader.specs.FedLaws.{fed}
 use Rattle.owl_reader.specs.Readings.{Reading}
 use Rattle.owl_tokens.specs.FunctionalSpellingLaws.{functional_is_prompt}
 use Rattle.fss_read.specs.Reading.{HasRead}
-use Rattle.fss_read.proofs.Fed.{fed}
 use Rattle.fss_read.proofs.reader.Reader.feed.Goals as goal
 
 pub returns-clause-reads : goal.returns-clause-reads
