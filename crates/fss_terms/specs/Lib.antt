@@ -1,4 +1,3 @@
 pub mod Terms
 pub mod Spelling
 pub mod Functional
-pub mod Abbreviations

@@ -45,13 +45,16 @@ use Rattle.fss_terms.specs.Spelling.{closed, opened, spelling, spellings}
 use Rattle.fss_terms.specs.Terms.{AreTerms, tokens_of}
 use Rattle.fss_terms.specs.declared.term.Term.{Term}
 use Rattle.fss_terms.specs.declared.term.Term.TheVariants as term
-use Rattle.fss_write.specs.Text.{declared_prefixes, full_iri, header_line, import_line, item_line, written_text, name_text, parts, prefix_line, text_of, version_text, with_prefix, written_form, written_prefixes}
-use Rattle.fss_write.proofs.DeclaredTables.{AreKnown, are_declarable, are_known, declaration, declared_table, written_iris, written_table}
-use Rattle.fss_write.proofs.Pieces.{Cuts, SaysTerms, cuts_space, cuts_token, says_close, says_line, says_none, says_opening, says_space}
+use Rattle.owl_writing.specs.Tables.{declared_prefixes, with_prefix, written_prefixes, HaveIris}
+use Rattle.owl_writing.specs.Terms.{full_iri}
+use Rattle.fss_write.specs.Text.{header_line, import_line, item_line, written_text, name_text, parts, prefix_line, text_of, version_text, written_form}
+use Rattle.owl_writing.specs.WrittenTableLaws.{AreKnown, are_known, written_iris, written_table}
+use Rattle.fss_write.proofs.DeclaredTables.{are_declarable, declaration, declared_table}
+use Rattle.owl_writing.specs.CutLaws.{Cuts, cuts_space, cuts_token}
+use Rattle.fss_write.proofs.Pieces.{SaysTerms, says_close, says_line, says_none, says_opening, says_space}
 use Rattle.fss_write.proofs.Stops.{token_longest}
 use Rattle.fss_write.proofs.WrittenForms.{equivalent_written, is_written, written_equivalent, written_tag}
-use Rattle.fss_write.proofs.WrittenIris.{spells_nothing}
-use Rattle.fss_write.specs.Parts.{HaveIris}
+use Rattle.owl_writing.specs.PlainLocalLaws.{spells_nothing}
 use Rattle.fss_write.proofs.WrittenTerms.{allows_end, import_word, ontology_word, prefix_word, say_tree}
 
 -- what stands behind a tree stands behind its terms
@@ -106,7 +109,7 @@ module _ (written read : List Prefix) (known : AreKnown written read) where
 
 says_full : (read : List Prefix) (iri cs : List ℕ) (more : List Term) → IsIri iri → SaysTerms read cs more → SaysTerms read (full_iri iri ++ cs) (iri_term iri ∷ more)
 says_full read iri cs more h k =
-    cuts_token (λ tokens. AreTerms read tokens (iri_term iri ∷ more)) (λ tokens. AreTerms read tokens more) (token.Iri iri) (full_iri iri) cs (h, refl)
+    cuts_token Spells (λ tokens. AreTerms read tokens (iri_term iri ∷ more)) (λ tokens. AreTerms read tokens more) (token.Iri iri) (full_iri iri) cs (h, refl)
     (longest_closed (token.Iri iri) (full_iri iri) cs (h, refl) refl) (λ ts m. (ts, (token.Iri iri, refl, refl), m)) k
 
 says_import : (read : List Prefix) (iri cs : List ℕ) (more : List Term) → IsIri iri → SaysTerms read cs more → SaysTerms read (import_line iri ++ cs) (import_terms iri ++ more)
@@ -162,34 +165,34 @@ abbrev Declares : List Prefix → List PrefixDeclaration → List Term → List 
 Declares read ds terms tokens = (body : List Token) × (tokens ≡ flat_map declaration_tokens ds ++ body) × AreTerms read body terms
 
 declares_one : (read : List Prefix) (p : Prefix) (ds : List PrefixDeclaration) (terms : List Term) (cs : List ℕ) → IsPrefixName p.name → IsIri p.iri
-    → Cuts cs (Declares read ds terms) → Cuts (prefix_line p ++ cs) (Declares read (declaration p ∷ ds) terms)
+    → Cuts Spells cs (Declares read ds terms) → Cuts Spells (prefix_line p ++ cs) (Declares read (declaration p ∷ ds) terms)
 declares_one read p ds terms cs name iri k =
     let fact : List Token → Type 0 = Declares read (declaration p ∷ ds) terms in
     let close = λ (tokens : List Token). fact (token.Word (codes "Prefix") ∷ token.Sign sign.Open ∷ token.Name p.name [] ∷ token.Sign sign.Equals ∷ token.Iri p.iri ∷ tokens) in
     let ending =
-    cuts_token close (Declares read ds terms) (token.Sign sign.Close) (codes ")") (10 ∷ cs) refl (longest_closed (token.Sign sign.Close) (codes ")") (10 ∷ cs) refl refl)
-    (λ ts m. (m.0, ap (λ (x : List Token). declaration_tokens (declaration p) ++ x) m.1, m.2)) (cuts_space (Declares read ds terms) 10 cs refl k) in
+    cuts_token Spells close (Declares read ds terms) (token.Sign sign.Close) (codes ")") (10 ∷ cs) refl (longest_closed (token.Sign sign.Close) (codes ")") (10 ∷ cs) refl refl)
+    (λ ts m. (m.0, ap (λ (x : List Token). declaration_tokens (declaration p) ++ x) m.1, m.2)) (cuts_space Spells (Declares read ds terms) 10 cs refl k) in
     let full = λ (tokens : List Token). fact (token.Word (codes "Prefix") ∷ token.Sign sign.Open ∷ token.Name p.name [] ∷ token.Sign sign.Equals ∷ tokens) in
-    let with_iri = cuts_token full close (token.Iri p.iri) (full_iri p.iri) (41 ∷ 10 ∷ cs) (iri, refl) (longest_closed (token.Iri p.iri) (full_iri p.iri) (41 ∷ 10 ∷ cs) (iri, refl) refl) (λ ts m. m) ending in
+    let with_iri = cuts_token Spells full close (token.Iri p.iri) (full_iri p.iri) (41 ∷ 10 ∷ cs) (iri, refl) (longest_closed (token.Iri p.iri) (full_iri p.iri) (41 ∷ 10 ∷ cs) (iri, refl) refl) (λ ts m. m) ending in
     let named = λ (tokens : List Token). fact (token.Word (codes "Prefix") ∷ token.Sign sign.Open ∷ token.Name p.name [] ∷ tokens) in
-    let with_equals = cuts_token named full (token.Sign sign.Equals) (codes "=") (full_iri p.iri ++ (41 ∷ 10 ∷ cs)) refl (longest_closed (token.Sign sign.Equals) (codes "=") (full_iri p.iri ++ (41 ∷ 10 ∷ cs)) refl refl) (λ ts m. m) with_iri in
+    let with_equals = cuts_token Spells named full (token.Sign sign.Equals) (codes "=") (full_iri p.iri ++ (41 ∷ 10 ∷ cs)) refl (longest_closed (token.Sign sign.Equals) (codes "=") (full_iri p.iri ++ (41 ∷ 10 ∷ cs)) refl refl) (λ ts m. m) with_iri in
     let begun = λ (tokens : List Token). fact (token.Word (codes "Prefix") ∷ token.Sign sign.Open ∷ tokens) in
     let after = 61 ∷ (full_iri p.iri ++ (41 ∷ 10 ∷ cs)) in
-    let with_name = cuts_token begun named (token.Name p.name []) (p.name ++ (58 ∷ [])) after ([], name, spells_nothing, refl) (token_longest (token.Name p.name []) (p.name ++ (58 ∷ [])) after ([], name, spells_nothing, refl) refl) (λ ts m. m) with_equals in
+    let with_name = cuts_token Spells begun named (token.Name p.name []) (p.name ++ (58 ∷ [])) after ([], name, spells_nothing, refl) (token_longest (token.Name p.name []) (p.name ++ (58 ∷ [])) after ([], name, spells_nothing, refl) refl) (λ ts m. m) with_equals in
     let word = λ (tokens : List Token). fact (token.Word (codes "Prefix") ∷ tokens) in
     let inside = (p.name ++ (58 ∷ [])) ++ after in
-    let with_open = cuts_token word begun (token.Sign sign.Open) (codes "(") inside refl (longest_closed (token.Sign sign.Open) (codes "(") inside refl refl) (λ ts m. m) with_name in
-    let whole = cuts_token fact word (token.Word (codes "Prefix")) (codes "Prefix") (40 ∷ inside) (prefix_word, refl) (token_longest (token.Word (codes "Prefix")) (codes "Prefix") (40 ∷ inside) (prefix_word, refl) refl) (λ ts m. m) with_open in
+    let with_open = cuts_token Spells word begun (token.Sign sign.Open) (codes "(") inside refl (longest_closed (token.Sign sign.Open) (codes "(") inside refl refl) (λ ts m. m) with_name in
+    let whole = cuts_token Spells fact word (token.Word (codes "Prefix")) (codes "Prefix") (40 ∷ inside) (prefix_word, refl) (token_longest (token.Word (codes "Prefix")) (codes "Prefix") (40 ∷ inside) (prefix_word, refl) refl) (λ ts m. m) with_open in
     let same : (p.name ++ (codes ":=" ++ (full_iri p.iri ++ codes ")\n"))) ++ cs ≡ inside =
     append_assoc p.name (codes ":=" ++ (full_iri p.iri ++ codes ")\n")) cs
     ∙ ap (λ (x : List ℕ). p.name ++ (codes ":=" ++ x)) (append_assoc (full_iri p.iri) (codes ")\n") cs)
     ∙ sym (append_assoc p.name (58 ∷ []) after) in
-    subst (λ (x : List ℕ). Cuts (codes "Prefix(" ++ x) fact) (sym same) whole
+    subst (λ (x : List ℕ). Cuts Spells (codes "Prefix(" ++ x) fact) (sym same) whole
 
-declares_all : (read : List Prefix) (ps : List Prefix) (terms : List Term) (cs : List ℕ) → AllByRecursion (λ p. IsPrefixName p.name) ps → HaveIris ps → SaysTerms read cs terms → Cuts (flat_map prefix_line ps ++ cs) (Declares read (map declaration ps) terms)
+declares_all : (read : List Prefix) (ps : List Prefix) (terms : List Term) (cs : List ℕ) → AllByRecursion (λ p. IsPrefixName p.name) ps → HaveIris ps → SaysTerms read cs terms → Cuts Spells (flat_map prefix_line ps ++ cs) (Declares read (map declaration ps) terms)
 declares_all read [] terms cs names iris k = λ place. let others = k place in (others.0, others.1, (tokens_of others.0, refl, others.2))
 declares_all read (p ∷ ps) terms cs names iris k =
-    subst (λ (x : List ℕ). Cuts x (Declares read (map declaration (p ∷ ps)) terms)) (sym (append_assoc (prefix_line p) (flat_map prefix_line ps) cs))
+    subst (λ (x : List ℕ). Cuts Spells x (Declares read (map declaration (p ∷ ps)) terms)) (sym (append_assoc (prefix_line p) (flat_map prefix_line ps) cs))
     (declares_one read p (map declaration ps) terms (flat_map prefix_line ps ++ cs) names.0 iris.0 (declares_all read ps terms cs names.1 iris.1 k))
 
 -- what is written of an ontology in canonical form may be written, and is the same ontology

@@ -30,9 +30,12 @@ use Rattle.fss_terms.specs.Spelling.{spelling, spellings}
 use Rattle.fss_terms.specs.Terms.{AreTerms, plain, tagged, typed}
 use Rattle.fss_terms.specs.declared.term.Term.{Term}
 use Rattle.fss_terms.specs.declared.term.Term.TheVariants as term
-use Rattle.fss_write.specs.Text.{atom_text, bracketed, iri_text, joined, literal_end, literal_text, parts, parts_of, string_text}
-use Rattle.fss_write.proofs.DeclaredTables.{AreKnown}
-use Rattle.fss_write.proofs.Pieces.{Cuts, SaysTerms, cuts_token, says_close, says_open, says_opening, says_space}
+use Rattle.fss_write.specs.Text.{atom_text, bracketed, joined, literal_text, parts, parts_of, string_text}
+use Rattle.owl_writing.specs.Terms.{iri_text, literal_end}
+use Rattle.owl_writing.specs.WrittenTableLaws.{AreKnown}
+use Rattle.owl_tokens.specs.Tokens.{Spells}
+use Rattle.owl_writing.specs.CutLaws.{Cuts, cuts_token}
+use Rattle.fss_write.proofs.Pieces.{SaysTerms, says_close, says_open, says_opening, says_space}
 use Rattle.fss_write.proofs.Stops.{Ends, token_longest}
 use Rattle.fss_write.proofs.WrittenIris.{iri_token}
 
@@ -88,17 +91,17 @@ module _ (written read : List Prefix) (known : AreKnown written read) where
   pub says_iri : (iri rest : List ℕ) (terms : List Term) → IsIri iri → Ends rest → SaysTerms read rest terms → SaysTerms read (iri_text written iri ++ rest) (term.Atom (Iri iri) ∷ terms)
   says_iri iri rest terms h e k =
       let one = iri_token written read iri known h in
-      cuts_token (λ tokens. AreTerms read tokens (term.Atom (Iri iri) ∷ terms)) (λ tokens. AreTerms read tokens terms) one.token (iri_text written iri) rest one.spells
+      cuts_token Spells (λ tokens. AreTerms read tokens (term.Atom (Iri iri) ∷ terms)) (λ tokens. AreTerms read tokens terms) one.token (iri_text written iri) rest one.spells
       (token_longest one.token (iri_text written iri) rest one.spells e) (λ ts m. (ts, (one.token, refl, one.stands), m)) k
 
   -- a string that is begun: what its tokens are follows from those behind it
-  says_string : (form rest : List ℕ) (literal : LiteralParts) (terms : List Term) → Cuts rest (λ tokens. AreTerms read (token.Str form ∷ tokens) (term.Atom (Literal literal) ∷ terms)) → SaysTerms read (string_text form ++ rest) (term.Atom (Literal literal) ∷ terms)
+  says_string : (form rest : List ℕ) (literal : LiteralParts) (terms : List Term) → Cuts Spells rest (λ tokens. AreTerms read (token.Str form ∷ tokens) (term.Atom (Literal literal) ∷ terms)) → SaysTerms read (string_text form ++ rest) (term.Atom (Literal literal) ∷ terms)
   says_string form rest literal terms k =
-      cuts_token (λ tokens. AreTerms read tokens (term.Atom (Literal literal) ∷ terms)) (λ tokens. AreTerms read (token.Str form ∷ tokens) (term.Atom (Literal literal) ∷ terms)) (token.Str form) (string_text form) rest refl
+      cuts_token Spells (λ tokens. AreTerms read tokens (term.Atom (Literal literal) ∷ terms)) (λ tokens. AreTerms read (token.Str form ∷ tokens) (term.Atom (Literal literal) ∷ terms)) (token.Str form) (string_text form) rest refl
       (longest_closed (token.Str form) (string_text form) rest refl refl) (λ ts m. m) k
 
   says_end : (form datatype : List ℕ) (b : Bool) (rest : List ℕ) (terms : List Term) → text_eq datatype string ≡ b → IsIri datatype → FitsTag None datatype → Ends rest → SaysTerms read rest terms
-      → Cuts ((if b then [] else codes "^^" ++ iri_text written datatype) ++ rest) (λ tokens. AreTerms read (token.Str form ∷ tokens) (term.Atom (Literal (of_datatype form datatype)) ∷ terms))
+      → Cuts Spells ((if b then [] else codes "^^" ++ iri_text written datatype) ++ rest) (λ tokens. AreTerms read (token.Str form ∷ tokens) (term.Atom (Literal (of_datatype form datatype)) ∷ terms))
   says_end form datatype true rest terms t i fits e k = λ place.
       let others = k place in
       let same : datatype ≡ string = (bytes_eq-Decides datatype string).0 t in
@@ -106,21 +109,21 @@ module _ (written read : List Prefix) (known : AreKnown written read) where
   says_end form datatype false rest terms t i fits e k =
       let one = iri_token written read datatype known i in
       let literal = of_datatype form datatype in
-      cuts_token (λ tokens. AreTerms read (token.Str form ∷ tokens) (term.Atom (Literal literal) ∷ terms)) (λ tokens. AreTerms read (token.Str form ∷ token.Sign sign.Carets ∷ tokens) (term.Atom (Literal literal) ∷ terms))
+      cuts_token Spells (λ tokens. AreTerms read (token.Str form ∷ tokens) (term.Atom (Literal literal) ∷ terms)) (λ tokens. AreTerms read (token.Str form ∷ token.Sign sign.Carets ∷ tokens) (term.Atom (Literal literal) ∷ terms))
       (token.Sign sign.Carets) (codes "^^") (iri_text written datatype ++ rest) refl (longest_closed (token.Sign sign.Carets) (codes "^^") (iri_text written datatype ++ rest) refl refl) (λ ts m. m)
-      (cuts_token (λ tokens. AreTerms read (token.Str form ∷ token.Sign sign.Carets ∷ tokens) (term.Atom (Literal literal) ∷ terms)) (λ tokens. AreTerms read tokens terms) one.token (iri_text written datatype) rest one.spells
+      (cuts_token Spells (λ tokens. AreTerms read (token.Str form ∷ token.Sign sign.Carets ∷ tokens) (term.Atom (Literal literal) ∷ terms)) (λ tokens. AreTerms read tokens terms) one.token (iri_text written datatype) rest one.spells
       (token_longest one.token (iri_text written datatype) rest one.spells e) (λ ts m. (ts, typed form datatype one.token refl one.stands (inr (fits.0, fits.1, refl)), m)) k)
 
   says_tag : (form datatype language rest : List ℕ) (terms : List Term) → FitsTag (Some language) datatype → Ends rest → SaysTerms read rest terms
-      → Cuts (codes "@" ++ (language ++ rest)) (λ tokens. AreTerms read (token.Str form ∷ tokens) (term.Atom (Literal (record { lexical = form; datatype = datatype; tag = Some language })) ∷ terms))
+      → Cuts Spells (codes "@" ++ (language ++ rest)) (λ tokens. AreTerms read (token.Str form ∷ tokens) (term.Atom (Literal (record { lexical = form; datatype = datatype; tag = Some language })) ∷ terms))
   says_tag form datatype language rest terms fits e k =
       let literal : LiteralParts = record { lexical = form; datatype = datatype; tag = Some language } in
       let same : literal ≡ with_tag form language = ap (λ (d : List ℕ). record { lexical = form; datatype = d; tag = Some language }) fits.0 in
-      cuts_token (λ tokens. AreTerms read (token.Str form ∷ tokens) (term.Atom (Literal literal) ∷ terms)) (λ tokens. AreTerms read tokens terms) (token.At language) (codes "@" ++ language) rest (fits.1, refl)
+      cuts_token Spells (λ tokens. AreTerms read (token.Str form ∷ tokens) (term.Atom (Literal literal) ∷ terms)) (λ tokens. AreTerms read tokens terms) (token.At language) (codes "@" ++ language) rest (fits.1, refl)
       (token_longest (token.At language) (codes "@" ++ language) rest (fits.1, refl) e) (λ ts m. (ts, tagged form language refl same, m)) k
 
   says_parts : (form datatype : List ℕ) (language : Option (List ℕ)) (rest : List ℕ) (terms : List Term) → IsIri datatype → FitsTag language datatype → Ends rest → SaysTerms read rest terms
-      → Cuts (literal_end written datatype language ++ rest) (λ tokens. AreTerms read (token.Str form ∷ tokens) (term.Atom (Literal (record { lexical = form; datatype = datatype; tag = language })) ∷ terms))
+      → Cuts Spells (literal_end written datatype language ++ rest) (λ tokens. AreTerms read (token.Str form ∷ tokens) (term.Atom (Literal (record { lexical = form; datatype = datatype; tag = language })) ∷ terms))
   says_parts form datatype None rest terms i fits e k = says_end form datatype (text_eq datatype string) rest terms refl i fits e k
   says_parts form datatype (Some language) rest terms i fits e k = says_tag form datatype language rest terms fits e k
 
@@ -132,12 +135,12 @@ module _ (written read : List Prefix) (known : AreKnown written read) where
   pub says_atom : (a : Atom) (rest : List ℕ) (terms : List Term) → IsAtom a → Ends rest → SaysTerms read rest terms → SaysTerms read (atom_text written a ++ rest) (term.Atom a ∷ terms)
   says_atom (Iri iri) rest terms h e k = says_iri iri rest terms h e k
   says_atom (Label label) rest terms h e k =
-      cuts_token (λ tokens. AreTerms read tokens (term.Atom (Label label) ∷ terms)) (λ tokens. AreTerms read tokens terms) (token.Blank label) (codes "_:" ++ label) rest (h, refl)
+      cuts_token Spells (λ tokens. AreTerms read tokens (term.Atom (Label label) ∷ terms)) (λ tokens. AreTerms read tokens terms) (token.Blank label) (codes "_:" ++ label) rest (h, refl)
       (token_longest (token.Blank label) (codes "_:" ++ label) rest (h, refl) e) (λ ts m. (ts, refl, m)) k
   says_atom (Literal literal) rest terms h e k = says_literal literal rest terms h e k
   says_atom (Number number) rest terms h e k =
       let digits : IsRunOf is_ascii_digit (decimal number) = decimal_run number h in
-      cuts_token (λ tokens. AreTerms read tokens (term.Atom (Number number) ∷ terms)) (λ tokens. AreTerms read tokens terms) (token.Int (decimal number)) (decimal number) rest (digits, refl)
+      cuts_token Spells (λ tokens. AreTerms read tokens (term.Atom (Number number) ∷ terms)) (λ tokens. AreTerms read tokens terms) (token.Int (decimal number)) (decimal number) rest (digits, refl)
       (token_longest (token.Int (decimal number)) (decimal number) rest (digits, refl) e) (λ ts m. (ts, (decimal number, refl, sym (decimal_is_IsNumeral number h).1), m)) k
 
 -- parts, with one space between any two

@@ -1,9 +1,5 @@
 -- How a text grows part by part.
-use Rattle.std.specs.Prelude.{◌<◌, ℕ, zero, suc, Bool, true, false, nat_le, if◌then◌else◌, List, [], ◌∷◌, ◌++◌, length, codes, flat_map, Option, None, Some}
-use Rattle.std.specs.List.{AllByRecursion}
-use Rattle.owl_characters.specs.Iri.{IsIri}
-use Rattle.owl_characters.specs.Utf8.{size}
-use Rattle.owl_characters.specs.Limit.{most_bytes}
+use Rattle.std.specs.Prelude.{ℕ, zero, suc, Bool, true, false, nat_le, if◌then◌else◌, List, [], ◌∷◌, ◌++◌, length, codes, flat_map, Option, None, Some}
 use Rattle.owl_atom.specs.declared.prefixes.Prefix.{Prefix}
 use Rattle.owl_arena.specs.Held.{tree_at}
 use Rattle.owl_tree.specs.declared.tag.Tag.{Tag}
@@ -11,14 +7,6 @@ use Rattle.owl_tree.specs.declared.row.Rest.TheVariants.{Nothing, Optional, AtLe
 use Rattle.owl_tree.specs.Rows.{Row, Leaf, Node}
 use Rattle.owl_tree.specs.Trees.{Tree, kids_in, tag_of}
 use Rattle.fss_write.specs.Text.{bracketed, joined, node_name, node_parts, parts, written_form}
-
--- each prefix stands for an IRI
-abbrev pub HaveIris : List Prefix → Type 0
-HaveIris prefixes = AllByRecursion (λ (prefix : Prefix). IsIri prefix.iri) prefixes
-
--- the text passes the limit
-abbrev pub IsTooLong : List ℕ → Type 0
-IsTooLong text = most_bytes < size text
 
 abbrev pub spaced : List ℕ → List ℕ
 spaced part = codes " " ++ part

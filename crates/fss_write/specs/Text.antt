@@ -1,14 +1,10 @@
 -- The text of a document in Functional-Style Syntax, in characters: one for the prefixes and the ontology (Structural
 -- Specification, section 3.7).
-use Rattle.std.specs.Prelude.{ℕ, zero, suc, true, false, nat_le, if◌then◌else◌, List, [], ◌∷◌, ◌++◌, length, map, codes, flat_map, Option, None, Some}
+use Rattle.std.specs.Prelude.{ℕ, zero, suc, nat_le, if◌then◌else◌, List, [], ◌∷◌, ◌++◌, length, codes, flat_map, Option, None, Some}
 use Rattle.std.specs.Fmt.{decimal}
-use Rattle.owl_characters.specs.Order.{text_cmp, text_eq}
 use Rattle.owl_tokens.specs.Tokens.{character_spelling}
-use Rattle.owl_list.specs.Ascending.{by_order}
 use Rattle.owl_atom.specs.declared.prefixes.Prefix.{Prefix}
-use Rattle.rdf_terms.specs.Literals.{LiteralParts, string}
-use Rattle.owl_atom.specs.Prefixes.{fixed_prefixes, is_fixed}
-use Rattle.rdf_terms.specs.Vocabulary.{owl, rdf, rdfs, xsd}
+use Rattle.rdf_terms.specs.Literals.{LiteralParts}
 use Rattle.owl_tree.specs.declared.atom.Atom.{Atom}
 use Rattle.owl_tree.specs.declared.atom.Atom.TheVariants.{Iri, Label, Literal, Number}
 use Rattle.owl_tree.specs.declared.tag.Tag.{Tag}
@@ -18,54 +14,18 @@ use Rattle.owl_tree.specs.Ontologies.{Ontology, OntologyName}
 use Rattle.owl_tree.specs.Rows.{Row, Leaf, Node, is_tag, row_of, is_bare, is_group}
 use Rattle.owl_tree.specs.Tags.{keyword_of}
 use Rattle.owl_tree.specs.Trees.{Tree, Kids, leaf, node, no_kids, kid, kids_of, tag_of}
-use Rattle.fss_terms.specs.Abbreviations.{best_prefix, local_behind}
-
--- The table with this IRI for the name: in place of the one that the name has, or where the name belongs by its bytes.
-abbrev pub with_prefix : List ℕ → List ℕ → List Prefix → List Prefix
-with_prefix name iri [] = record { name = name; iri = iri; fixed = false; declared = false } ∷ []
-with_prefix name iri (prefix ∷ others) =
-    by_order (text_cmp name prefix.name)
-    (record { name = name; iri = iri; fixed = false; declared = false } ∷ prefix ∷ others)
-    (record prefix { iri = iri } ∷ others)
-    (prefix ∷ with_prefix name iri others)
-
--- the prefixes that are written: those of the document, where owl, rdf, rdfs and xsd stand for the IRIs that they have beforehand
-abbrev pub written_prefixes : List Prefix → List Prefix
-written_prefixes prefixes =
-    with_prefix (codes "xsd") (xsd []) (with_prefix (codes "rdfs") (rdfs []) (with_prefix (codes "rdf") (rdf []) (with_prefix (codes "owl") (owl []) prefixes)))
-
--- the same prefixes as they are when they were read: each is declared
-abbrev pub as_declared : Prefix → Prefix
-as_declared prefix = record { name = prefix.name; iri = prefix.iri; fixed = is_fixed fixed_prefixes prefix.name; declared = true }
-
-abbrev pub declared_prefixes : List Prefix → List Prefix
-declared_prefixes prefixes = map as_declared (written_prefixes prefixes)
-
-abbrev pub full_iri : List ℕ → List ℕ
-full_iri iri = codes "<" ++ (iri ++ codes ">")
-
-abbrev pub shortened_by : Option Prefix → List ℕ → List ℕ
-shortened_by None iri = full_iri iri
-shortened_by (Some prefix) iri = prefix.name ++ (codes ":" ++ local_behind prefix iri)
-
--- abbreviated where one of the prefixes leaves a plain local part, else in full
-abbrev pub iri_text : List Prefix → List ℕ → List ℕ
-iri_text prefixes iri = shortened_by (best_prefix iri prefixes) iri
+use Rattle.owl_writing.specs.Tables.{written_prefixes}
+use Rattle.owl_writing.specs.Terms.{full_iri, iri_text, label_text, literal_end}
 
 abbrev pub string_text : List ℕ → List ℕ
 string_text form = codes "\"" ++ (flat_map character_spelling form ++ codes "\"")
-
--- a string stands without its datatype
-abbrev pub literal_end : List Prefix → List ℕ → Option (List ℕ) → List ℕ
-literal_end prefixes datatype None = if text_eq datatype string then [] else codes "^^" ++ iri_text prefixes datatype
-literal_end prefixes datatype (Some tag) = codes "@" ++ tag
 
 abbrev pub literal_text : List Prefix → LiteralParts → List ℕ
 literal_text prefixes literal = string_text literal.lexical ++ literal_end prefixes literal.datatype literal.tag
 
 abbrev pub atom_text : List Prefix → Atom → List ℕ
 atom_text prefixes (Iri iri) = iri_text prefixes iri
-atom_text prefixes (Label label) = codes "_:" ++ label
+atom_text prefixes (Label label) = label_text label
 atom_text prefixes (Literal literal) = literal_text prefixes literal
 atom_text prefixes (Number number) = decimal number
 

@@ -2,11 +2,9 @@
 #![tactic(auto)]
 
 mod atoms;
-mod draft;
-mod fault;
 mod lines;
 mod tree;
 mod writer;
 
-pub use fault::WriteFault;
+pub use owl_writing::WriteFault;
 pub use writer::{axiom_text, write};

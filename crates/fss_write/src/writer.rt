@@ -6,16 +6,17 @@ ghost use Rattle.owl_characters.specs.Limit.{most_bytes};
 ghost use Rattle.owl_arena.specs.Held.{tree_at};
 ghost use Rattle.owl_doc.specs.Documents.{ontology_of};
 ghost use Rattle.fss_terms.specs.Functional.{ReadsFunctional};
-ghost use Rattle.fss_write.specs.Text.{axiom_text, declared_prefixes, text_of};
-ghost use Rattle.fss_write.specs.declared.fault.WriteFault.{WriteFault};
+ghost use Rattle.owl_writing.specs.Tables.{declared_prefixes};
+ghost use Rattle.owl_writing.specs.declared.fault.WriteFault.{WriteFault};
+ghost use Rattle.fss_write.specs.Text.{axiom_text, text_of};
 
-use crate::draft::Draft;
-use crate::fault::WriteFault;
-use crate::lines::written_prefixes;
+use crate::lines::add_document;
+use crate::tree::add_item;
 use owl_arena::ExprId;
 use owl_atom::Prefixes;
 use owl_characters::Text;
 use owl_doc::Doc;
+use owl_writing::{Draft, WriteFault, written_prefixes};
 use std::alloc::Global;
 
 /// The text of the document in Functional-Style Syntax (Structural Specification, section 3.7). It reads back to the
@@ -34,7 +35,7 @@ pub fn write(alloc: Global, doc: &Doc) -> Result<Text, WriteFault>
     doc.prefixes().len();
     let prefixes = written_prefixes(alloc, doc.prefixes())?;
     let mut draft = Draft::new(alloc);
-    draft.add_document(&prefixes, doc)?;
+    add_document(&mut draft, &prefixes, doc)?;
     let text = draft.into_text();
     text.as_str();
     Ok(text)
@@ -50,6 +51,6 @@ pub fn axiom_text(alloc: Global, doc: &Doc, id: ExprId) -> Result<Text, WriteFau
     ensures too_long { IsErrOf result WriteFault.TooLong → most_bytes < length (encode_utf8_all (axiom_text (tree_at doc.now.arena.trees id))) }
 {
     let mut draft = Draft::new(alloc);
-    draft.add_item(doc.arena(), &Prefixes::empty(alloc), id)?;
+    add_item(&mut draft, doc.arena(), &Prefixes::empty(alloc), id)?;
     Ok(draft.into_text())
 }

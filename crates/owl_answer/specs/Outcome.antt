@@ -11,7 +11,8 @@ use Rattle.owl_reader.specs.declared.fault.ReadFault.{ReadFault}
 use Rattle.owl_reader.specs.declared.fault.ReadFault.TheVariants as read
 use Rattle.owl_reader.specs.declared.fault.Reason.{Reason}
 use Rattle.owl_reader.specs.declared.fault.Reason.TheVariants.{BadUtf8, BadToken, NotHere, UnknownPrefix, PrefixTwice, PrefixFixed, BadLiteral, EmptyKey, BadIri, RelativeWithoutBase}
-use Rattle.fss_write.specs.Text.{declared_prefixes, text_of}
+use Rattle.owl_writing.specs.Tables.{declared_prefixes}
+use Rattle.fss_write.specs.Text.{text_of}
 use Rattle.owl_command.specs.Commands.{AsksImports, Asks, HasNoCommand, IsAmong, Request, translates, shows, compares, names_of}
 use Rattle.owl_command.specs.declared.command.Target.{Target as Syntax}
 use Rattle.owl_command.specs.declared.command.Target.TheVariants.{Fss}

@@ -1,13 +1,10 @@
-use Rattle.std.proofs.Common.{Err, List, ℕ, [], ◌++◌, ◌≤◌, ap, sym, subst}
+use Rattle.std.proofs.Common.{Err, List, ℕ, [], ◌++◌, ap, subst}
 use Rattle.owl_arena.specs.Held.{Held, tree_at}
 use Rattle.owl_atom.specs.declared.prefixes.Prefix.{Prefix}
-use Rattle.owl_characters.specs.Utf8.{size}
-use Rattle.owl_characters.specs.Limit.{most_bytes}
-use Rattle.fss_write.specs.Parts.{IsTooLong}
+use Rattle.owl_writing.specs.Limits.{IsTooLong}
 use Rattle.fss_write.specs.Text.{axiom_text, written_text}
-use Rattle.fss_write.specs.declared.fault.WriteFault.TheVariants.{TooLong}
-use Rattle.fss_write.proofs.Joins.{passed_on}
-use Rattle.fss_write.proofs.Sizes.{too_long_in_bytes, within_in_bytes}
+use Rattle.owl_writing.specs.declared.fault.WriteFault.TheVariants.{TooLong}
+use Rattle.owl_writing.specs.DraftLaws.{passed_on, too_long_in_bytes}
 use Rattle.fss_write.proofs.writer.axiom_text.Goals as goal
 
 pub returns-in_err-add_item-clause-too_long : goal.returns-in_err-add_item-clause-too_long
@@ -18,7 +15,3 @@ returns-in_err-add_item-clause-too_long c = λ e.
     let full = subst (λ (prefixes : List Prefix). IsTooLong (written_text prefixes (tree_at c.arena.result.now.trees c.args.id))) c.empty.ensures afresh in
     let here = subst (λ (arena : Held). IsTooLong (written_text [] (tree_at arena.trees c.args.id))) c.arena.ensures full in
     too_long_in_bytes (axiom_text (tree_at c.args.doc.now.arena.trees c.args.id)) here
-
-pub returns-clause-within : goal.returns-clause-within
-returns-clause-within c =
-    within_in_bytes c.into_text.result (subst (λ (text : List ℕ). size text ≤ most_bytes) (sym c.into_text.ensures.text) c.into_text.ensures.within)

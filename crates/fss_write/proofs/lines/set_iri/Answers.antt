@@ -1,8 +1,0 @@
-use Rattle.std.specs.Str.{chars}
-use Rattle.fss_write.proofs.WrittenTables.{set_is_with_prefix}
-use Rattle.fss_write.proofs.lines.set_iri.Goals as goal
-
-pub returns : goal.returns
-returns c =
-    set_is_with_prefix (chars c.args.name.now) c.args.iri c.args.prefixes.now c.set.new.self c.len.ensures.table
-    (record { table = c.len-2.ensures.table; here = c.in_ok-set.ensures.here; others = c.in_ok-set.ensures.others })
