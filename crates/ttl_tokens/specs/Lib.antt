@@ -10,4 +10,7 @@ pub mod WorkedCases
 pub mod StringLaws
 pub mod NameLaws
 pub mod TurtleSpellings
+pub mod TokenForms
+pub mod PatternWithinLaws
+pub mod TokenFormLaws
 pub mod TurtleSpellingLaws

@@ -263,23 +263,23 @@ pn_local = (pn_chars_u or colon or digit or plx) then maybe (many (pn_chars or d
 -- names
 
 -- [139s] PNAME_NS
-abbrev pname_ns : Pattern
+abbrev pub pname_ns : Pattern
 pname_ns = maybe pn_prefix then colon
 
 -- [140s] PNAME_LN
-abbrev pname_ln : Pattern
+abbrev pub pname_ln : Pattern
 pname_ln = pname_ns then pn_local
 
 -- [136s] PrefixedName
-abbrev prefixed_name : Pattern
+abbrev pub prefixed_name : Pattern
 prefixed_name = pname_ln or pname_ns
 
 -- [141s] BLANK_NODE_LABEL
-abbrev blank_node_label : Pattern
+abbrev pub blank_node_label : Pattern
 blank_node_label = underscore then colon then (pn_chars_u or digit) then maybe (many (pn_chars or dot) then pn_chars)
 
 -- [144s] LANGTAG; `@prefix` and `@base` are among them
-abbrev langtag : Pattern
+abbrev pub langtag : Pattern
 langtag = at_sign then some letter then many (hyphen then some (letter or digit))
 
 -- numbers

@@ -15,7 +15,7 @@ use Rattle.owl_lexer.specs.Splitting.{is_line_end, is_space}
 use Rattle.owl_lexer.specs.Tables.{automaton_of}
 use Rattle.ttl_tokens.specs.TurtleGrammar.{comment_kind, turtle_grammar, white_space_kind}
 use Rattle.ttl_tokens.specs.TurtleLaws.{turtle_knows}
-use Rattle.ttl_tokens.specs.TurtleSpellings.{SpellsTurtle}
+use Rattle.ttl_tokens.specs.TurtleSpellings.{Spells}
 use Rattle.ttl_tokens.specs.TurtleTable.{turtle_table}
 use Rattle.ttl_tokens.specs.TurtleValues.{token_of}
 use Rattle.ttl_tokens.specs.declared.token.Token.{Token}
@@ -87,12 +87,12 @@ others_are_some : (cs : List ℕ) → list_all (λ x. is_some (token_of x.kind c
 unfolding turtle_grammar
 others_are_some cs = refl
 
-says_token : (kind : ℕ) (cs : List ℕ) → IsLexeme turtle_grammar kind cs → IsLexemeOf in_turtle (behind_gaps turtle_grammar.terminals) kind cs → Says SpellsTurtle (token_of kind cs) cs
+says_token : (kind : ℕ) (cs : List ℕ) → IsLexeme turtle_grammar kind cs → IsLexemeOf in_turtle (behind_gaps turtle_grammar.terminals) kind cs → Says Spells (token_of kind cs) cs
 says_token kind cs m other =
     let o = some_token (token_of kind cs) (kind_passes in_turtle (λ k. is_some (token_of k cs)) (behind_gaps turtle_grammar.terminals) kind cs (others_are_some cs) other) in
     token o.0 o.1 (kind, m, o.1)
 
-says : (kind : ℕ) (cs : List ℕ) → IsLexeme turtle_grammar kind cs → Says SpellsTurtle (token_of kind cs) cs
+says : (kind : ℕ) (cs : List ℕ) → IsLexeme turtle_grammar kind cs → Says Spells (token_of kind cs) cs
 unfolding turtle_grammar
 says kind cs (inl m) = space (ap (λ (k : ℕ). token_of k cs) (sym m.0)) (run_matches in_turtle (one 22) is_space white_is cs m.1)
 says kind cs (inr (inl m)) = comment (ap (λ (k : ℕ). token_of k cs) (sym m.0)) (comment_matches in_turtle (one 7) (one 23) hash_is in_line_is cs m.1)
@@ -102,7 +102,7 @@ gaps_pass : check_gaps is_gap turtle_table ≡ true
 unfolding turtle_table
 gaps_pass = refl
 
-lexemes_stand : Stand (IsLexeme turtle_grammar) is_gap token_of SpellsTurtle
+lexemes_stand : Stand (IsLexeme turtle_grammar) is_gap token_of Spells
 lexemes_stand = record {
   says = says;
   token = λ t cs h. h;
@@ -111,5 +111,5 @@ lexemes_stand = record {
   none = gaps_are_none;
 }
 
-pub turtle_is_language : IsLanguage (automaton_of turtle_table) token_of SpellsTurtle
-turtle_is_language = table_is_language is_gap turtle_table (IsLexeme turtle_grammar) token_of SpellsTurtle turtle_knows gaps_pass lexemes_stand
+pub turtle_is_language : IsLanguage (automaton_of turtle_table) token_of Spells
+turtle_is_language = table_is_language is_gap turtle_table (IsLexeme turtle_grammar) token_of Spells turtle_knows gaps_pass lexemes_stand

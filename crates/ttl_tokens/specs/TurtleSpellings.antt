@@ -6,5 +6,5 @@ use Rattle.ttl_tokens.specs.TurtleValues.{token_of}
 use Rattle.ttl_tokens.specs.declared.token.Token.{Token}
 
 -- The characters are a lexeme of the grammar that stands for this token.
-abbrev pub SpellsTurtle : Token → List ℕ → Type 0
-SpellsTurtle token cs = (kind : ℕ) × IsLexeme turtle_grammar kind cs × (token_of kind cs ≡ Some token)
+abbrev pub Spells : Token → List ℕ → Type 0
+Spells token cs = (kind : ℕ) × IsLexeme turtle_grammar kind cs × (token_of kind cs ≡ Some token)

@@ -14,7 +14,7 @@ pub struct Turtle;
 impl TokenLanguage for Turtle {
     ghost use Rattle.owl_lexer.specs.Tables.{automaton_of};
     ghost use Rattle.ttl_tokens.specs.TurtleSpellingLaws.{turtle_is_language};
-    ghost use Rattle.ttl_tokens.specs.TurtleSpellings.{SpellsTurtle};
+    ghost use Rattle.ttl_tokens.specs.TurtleSpellings.{Spells};
     ghost use Rattle.ttl_tokens.specs.TurtleTable.{turtle_table};
     ghost use Rattle.ttl_tokens.specs.TurtleValues.{token_of};
 
@@ -24,7 +24,7 @@ impl TokenLanguage for Turtle {
 
     ghost value_of = { token_of };
 
-    ghost spells = { SpellsTurtle };
+    ghost spells = { Spells };
 
     fn start() -> u8 {
         0

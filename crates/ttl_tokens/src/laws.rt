@@ -9,9 +9,12 @@ ghost use Rattle.owl_characters.specs.Names.{IsPrefixName, SpellsLocal};
 ghost use Rattle.ttl_tokens.specs.EscapedText.{IsPiece, Piece, characters_of, piece_spelling};
 ghost use Rattle.ttl_tokens.specs.Escapes.{unescaped};
 ghost use Rattle.ttl_tokens.specs.StringLaws.{IsUndone};
+ghost use Rattle.ttl_tokens.specs.TokenForms.{IsFormed};
 ghost use Rattle.ttl_tokens.specs.TurtleGrammar.{string_literal_long_quote_kind, string_literal_long_single_quote_kind, string_literal_quote_kind, string_literal_single_quote_kind, turtle_grammar};
+ghost use Rattle.ttl_tokens.specs.TurtleSpellings.{Spells};
 ghost use Rattle.ttl_tokens.specs.TurtleTable.{turtle_table};
 ghost use Rattle.ttl_tokens.specs.TurtleValues.{local_text, prefix_text};
+ghost use Rattle.ttl_tokens.specs.declared.token.Token.{Token};
 
 /// A law: the automaton of Turtle knows the lexemes of the grammar.
 pub fn lexemes_are_known()
@@ -37,4 +40,9 @@ pub fn strings_are_undone()
 pub fn names_are_read()
     ensures prefix { (prefix written : List ℕ) → IsPrefixName prefix → prefix_text (prefix ++ (codes ":" ++ written)) ≡ prefix }
     ensures local { (prefix written local : List ℕ) → IsPrefixName prefix → SpellsLocal written local → local_text (prefix ++ (codes ":" ++ written)) ≡ local }
+{}
+
+/// A law: what tokens hold is what their names say.
+pub fn tokens_are_formed()
+    ensures { (token : Token) (spelling : List ℕ) → Spells token spelling → IsFormed token }
 {}

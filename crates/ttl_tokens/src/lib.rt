@@ -11,5 +11,7 @@ mod token;
 mod values;
 
 pub use language::Turtle;
-pub use laws::{escapes_are_undone, lexemes_are_known, names_are_read, strings_are_undone};
+pub use laws::{
+    escapes_are_undone, lexemes_are_known, names_are_read, strings_are_undone, tokens_are_formed,
+};
 pub use token::{Symbol, Token};

@@ -1,0 +1,5 @@
+use Rattle.ttl_tokens.specs.TokenFormLaws.{tokens_formed}
+use Rattle.ttl_tokens.proofs.laws.tokens_are_formed.Goals as goal
+
+pub returns : goal.returns
+returns c = tokens_formed
