@@ -26,6 +26,7 @@ make_grammar() {
 }
 
 make_grammar crates/grammar_tests/items.grammar grammar_tests items ItemsTable items_table
+make_grammar tools/turtle.grammar ttl_grammar turtle Table table
 
 # The grammar of Functional-Style Syntax follows from the rows of tags.
 functional=$(mktemp)

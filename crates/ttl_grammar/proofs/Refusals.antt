@@ -1,0 +1,152 @@
+-- Bytes with a defect are no document.
+use Rattle.std.proofs.Common.{◌≡◌, ◌≤◌, ℕ, Bool, true, false, List, [], ◌∷◌, ◌++◌, length, map, None, Result, Ok, Err, append_assoc, refl, sym, ap, ◌∙◌, subst, arith}
+use Rattle.std.specs.Prelude.{nat_lt, if◌then◌else◌}
+use Rattle.grammar.specs.Derivations.{DerivesOf, Event}
+use Rattle.grammar.specs.Derivations.Event.{Do, Take}
+use Rattle.grammar.specs.Lowering as lowering
+use Rattle.grammar.specs.LoweringLaws.{taken}
+use Rattle.grammar.specs.declared.symbol.Symbol.TheVariants.{Rule}
+use Rattle.owl_atom.specs.declared.prefixes.Prefix.{Prefix}
+use Rattle.owl_lexer.specs.Splitting.{Splits}
+use Rattle.owl_lexer.specs.declared.placed.Placed.{Placed}
+use Rattle.owl_reader.specs.Defects.{NoneBarred}
+use Rattle.owl_reader.specs.Defects.IsFirstDefect.{beyond, too_long, within}
+use Rattle.owl_reader.specs.Readings.{IsRead}
+use Rattle.owl_reader.specs.Steps.{Step, events_of, plain, tokens_in}
+use Rattle.owl_reader.specs.declared.fault.ReadFault.{ReadFault}
+use Rattle.owl_reader.specs.declared.fault.TokenFault.{TokenFault}
+use Rattle.owl_reader.specs.declared.fault.TokenFault.TheVariants.{TooMany}
+use Rattle.rdf_graph.specs.Graphs.{most_triples}
+use Rattle.rdf_graph.specs.declared.triple.Triple.{Triple}
+use Rattle.ttl_tokens.specs.TurtleSpellings as tokens
+use Rattle.ttl_tokens.specs.declared.token.Token.{Token}
+use Rattle.ttl_grammar.specs.Classes.{class_of}
+use Rattle.ttl_grammar.specs.DocumentLaws.{is_predictive, splits_one_way}
+use Rattle.ttl_grammar.specs.Documents.{IsFirstDefect, ReadsTurtle, tokens_of}
+use Rattle.ttl_grammar.specs.Labels.{graph_of}
+use Rattle.ttl_grammar.specs.Rules.{has_document, turtle_rules}
+use Rattle.ttl_grammar.specs.RunLaws.{run_steps}
+use Rattle.ttl_grammar.specs.Runs.{and_then, limited, run}
+use Rattle.ttl_grammar.specs.States.{State, start}
+use Rattle.ttl_grammar.specs.Table.{turtle}
+use Rattle.ttl_grammar.proofs.Defects.{read_has_no_defect}
+
+-- ---- events as steps
+
+-- tokens with their places, each with the acts in front of it, and the last acts
+record Stepped (placed : List (Placed Token)) (events : List (Event Token)) : Type 0 where
+  steps : List (Step Token)
+  acts : List ℕ
+  tokens_are : tokens_in steps ≡ placed
+  events_are : events ≡ events_of steps ++ map Do acts
+
+with_act : (a : ℕ) (placed : List (Placed Token)) (es : List (Event Token)) (steps : List (Step Token)) (acts : List ℕ) → tokens_in steps ≡ placed → es ≡ events_of steps ++ map Do acts → Stepped placed (Do a ∷ es)
+with_act a placed es [] acts t e = record {
+  steps = [];
+  acts = a ∷ acts;
+  tokens_are = t;
+  events_are = ap (λ (l : List (Event Token)). Do a ∷ l) e;
+}
+with_act a placed es (s ∷ steps) acts t e = record {
+  steps = record { acts = a ∷ s.acts; token = s.token } ∷ steps;
+  acts = acts;
+  tokens_are = t;
+  events_are = ap (λ (l : List (Event Token)). Do a ∷ l) e;
+}
+
+with_token : (x : Token) (p : Placed Token) (placed : List (Placed Token)) (es : List (Event Token)) → x ≡ p.token → Stepped placed es → Stepped (p ∷ placed) (Take x ∷ es)
+with_token x p placed es same it = record {
+  steps = record { acts = []; token = p } ∷ it.steps;
+  acts = it.acts;
+  tokens_are = ap (λ (l : List (Placed Token)). p ∷ l) it.tokens_are;
+  events_are = λ i. Take (same i) ∷ it.events_are i;
+}
+
+stepped : (placed : List (Placed Token)) (es : List (Event Token)) → lowering.tokens_of es ≡ tokens_of placed → Stepped placed es
+stepped [] [] e = record { steps = []; acts = []; tokens_are = refl; events_are = refl }
+stepped (p ∷ placed) [] e = absurd (cc)
+stepped [] (Take x ∷ es) e = absurd (cc)
+stepped (p ∷ placed) (Take x ∷ es) e = with_token x p placed es (cc) (stepped placed es (cc))
+stepped placed (Do a ∷ es) e =
+    let it = stepped placed es e in
+    with_act a placed es it.steps it.acts it.tokens_are it.events_are
+
+plain_tokens : (steps : List (Step Token)) → tokens_of (tokens_in steps) ≡ plain steps
+plain_tokens [] = refl
+plain_tokens (s ∷ steps) = ap (λ (l : List Token). s.token.token ∷ l) (plain_tokens steps)
+
+-- ---- no act of a document is barred
+
+events_in_parts : (before : List (Step Token)) (s : Step Token) (after : List (Step Token)) (more : List (Event Token)) → events_of (before ++ s ∷ after) ++ more ≡ events_of (before ++ s ∷ []) ++ (events_of after ++ more)
+events_in_parts [] s after more =
+    append_assoc (map Do s.acts) (Take s.token.token ∷ events_of after) more
+    ∙ sym (append_assoc (map Do s.acts) (Take s.token.token ∷ []) (events_of after ++ more))
+events_in_parts (t ∷ before) s after more =
+    append_assoc (map Do t.acts) (Take t.token.token ∷ events_of (before ++ s ∷ after)) more
+    ∙ ap (λ (l : List (Event Token)). map Do t.acts ++ Take t.token.token ∷ l) (events_in_parts before s after more)
+    ∙ sym (append_assoc (map Do t.acts) (Take t.token.token ∷ events_of (before ++ s ∷ [])) (events_of after ++ more))
+
+events_with : (before : List (Step Token)) (s : Step Token) → events_of (before ++ s ∷ []) ≡ events_of before ++ (map Do s.acts ++ Take s.token.token ∷ [])
+events_with [] s = refl
+events_with (t ∷ before) s =
+    ap (λ (l : List (Event Token)). map Do t.acts ++ Take t.token.token ∷ l) (events_with before s)
+    ∙ sym (append_assoc (map Do t.acts) (Take t.token.token ∷ events_of before) (map Do s.acts ++ Take s.token.token ∷ []))
+
+-- the fault of a front is that of the whole
+front_fails : (front : List (Step Token)) (more : List (Event Token)) (state : State) (f : TokenFault) → run (events_of front ++ more) start ≡ Ok state → run (events_of front) start ≡ Err f → ⊥
+front_fails front more state f h e =
+    let whole = run_steps front more (Ok start) ∙ ap (λ (r : Result State TokenFault). and_then r (λ s. run more s)) e in
+    cc
+
+module _ (steps : List (Step Token)) (acts : List ℕ) (state : State) (runs : run (events_of steps ++ map Do acts) start ≡ Ok state) where
+  none_barred : NoneBarred turtle_rules steps
+  none_barred before after s f parts bars =
+      let front = before ++ s ∷ [] in
+      let cut = ap (λ (l : List (Step Token)). events_of l ++ map Do acts) parts ∙ events_in_parts before s after (map Do acts) in
+      front_fails front (events_of after ++ map Do acts) state f (sym (ap (λ (l : List (Event Token)). run l start) cut) ∙ runs)
+      (ap (λ (l : List (Event Token)). run l start) (events_with before s) ∙ bars)
+
+-- ---- nor at the end
+
+limited_by : (state : State) (f : TokenFault) (many : Bool) → many ≡ false → (if many then Err TooMany else Ok state) ≡ Err f → ⊥
+limited_by state f true few e = absurd (cc)
+limited_by state f false few e = cc
+
+few_is : (m n : ℕ) → n ≤ m → nat_lt m n ≡ false
+few_is m n h = grind arith
+
+end_is_free : (events : List (Event Token)) (state : State) (f : TokenFault) → run events start ≡ Ok state → length (graph_of state.facts.triples) ≤ most_triples → and_then (run events start) limited ≡ Err f → ⊥
+end_is_free events state f runs few e =
+    limited_by state f (nat_lt most_triples (length (graph_of state.facts.triples))) (few_is most_triples (length (graph_of state.facts.triples)) few)
+    (sym (ap (λ (r : Result State TokenFault). and_then r limited) runs) ∙ e)
+
+-- ---- a document is read
+
+-- events of a document lead to a state
+abbrev LeadTo : List (Event Token) → State → Type 0
+LeadTo events state = run events start ≡ Ok state
+
+read_is_read : (bytes : List ℕ) (p : List Prefix) (g : List Triple) (d : ReadsTurtle bytes p g) → IsRead tokens.Spells turtle turtle_rules LeadTo bytes d.spells.state
+read_is_read bytes p g d =
+    let it = stepped d.placed d.spells.events (taken d.spells.derives) in
+    let runs = sym (ap (λ (l : List (Event Token)). run l start) it.events_are) ∙ d.spells.states in
+    let same = ap tokens_of (sym it.tokens_are) ∙ plain_tokens it.steps in
+    let derives = subst (λ (l : List Token). DerivesOf class_of turtle (Rule turtle_rules.document ∷ []) l d.spells.events) same d.spells.derives in
+    record {
+      steps = it.steps;
+      few = d.few;
+      splits = subst (λ (l : List (Placed Token)). Splits tokens.Spells bytes l None) (sym it.tokens_are) d.splits;
+      none_barred = none_barred it.steps it.acts d.spells.state runs;
+      ends = record {
+        acts = it.acts;
+        derives = subst (DerivesOf class_of turtle (Rule turtle_rules.document ∷ []) (plain it.steps)) it.events_are derives;
+        made_by = runs;
+        free = λ f. end_is_free (events_of it.steps ++ map Do it.acts) d.spells.state f runs (subst (λ (ts : List Triple). length ts ≤ most_triples) d.spells.graph_is d.spells.few);
+      };
+    }
+
+pub defect_is_of_none : (bytes : List ℕ) (fault : ReadFault) (p : List Prefix) (g : List Triple) → IsFirstDefect bytes fault → ReadsTurtle bytes p g → ⊥
+defect_is_of_none bytes fault p g (within few defect) d =
+    read_has_no_defect is_predictive has_document splits_one_way bytes fault (read_is_read bytes p g d) defect
+defect_is_of_none bytes fault p g (beyond many defect) d = let few = d.few in omega (arith, many, few)
+defect_is_of_none bytes fault p g (too_long many is) d = let few = d.few in omega (arith, many, few)

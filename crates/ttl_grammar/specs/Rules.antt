@@ -1,0 +1,31 @@
+-- What Turtle tells of its tokens and acts.
+use Rattle.std.specs.Prelude.{◌≡◌, ◌==◌, ℕ, true, List, Option, Err, refl, if◌then◌else◌}
+use Rattle.grammar.specs.Derivations.{Event}
+use Rattle.grammar.specs.Grammars.{has_rule}
+use Rattle.owl_reader.specs.Syntaxes.{Rules}
+use Rattle.owl_reader.specs.declared.fault.TokenFault.{TokenFault}
+use Rattle.owl_reader.specs.declared.item.Mark.{Mark}
+use Rattle.owl_reader.specs.declared.item.Mark.TheVariants.{Last, Within}
+use Rattle.ttl_tokens.specs.declared.token.Token.{Token}
+use Rattle.ttl_grammar.specs.Acts.{act_number}
+use Rattle.ttl_grammar.specs.Classes.{class_of}
+use Rattle.ttl_grammar.specs.Page.{rule_number}
+use Rattle.ttl_grammar.specs.Page.Rule.{document}
+use Rattle.ttl_grammar.specs.Runs.{answer}
+use Rattle.ttl_grammar.specs.Table.{turtle, turtle_document}
+use Rattle.ttl_grammar.specs.declared.act.Act.TheVariants.{EndStatement}
+
+-- The items of a document are its statements, each with its dot: the token behind EndStatement is the last.
+abbrev pub mark_of : ℕ → Mark
+mark_of a = if a == act_number EndStatement then Last else Within
+
+-- behind these events, these acts in front of this token or of the end fail so
+abbrev pub Bars : List (Event Token) → List ℕ → Option Token → TokenFault → Type 0
+Bars events acts next fault = answer events acts next ≡ Err fault
+
+abbrev pub turtle_rules : Rules Token
+turtle_rules = record { class = class_of; document = rule_number document; mark = mark_of; Bars = Bars }
+
+pub has_document : has_rule turtle turtle_rules.document ≡ true
+unfolding turtle turtle_document
+has_document = refl
