@@ -1,0 +1,12 @@
+use Rattle.std.proofs.Common.{subst, sym}
+use Rattle.std.proofs.lemmas.Result.{IfErr-weaker}
+use Rattle.owl_reader.specs.FedLaws.{fed}
+use Rattle.owl_reader.specs.Readings.{Reading}
+use Rattle.ttl_read.specs.Reading.{HasRead}
+use Rattle.ttl_read.proofs.reader.Reader.feed.Goals as goal
+
+pub returns-clause-reads : goal.returns-clause-reads
+returns-clause-reads c = λ bytes h. fed c.feed.result _ _ _ bytes c.feed.ensures.reads c.feed.ensures.refuses c.feed.ensures.keeps (subst (λ (r : Reading _). HasRead r bytes) (sym c.self.view_is) h)
+
+pub returns-clause-refuses : goal.returns-clause-refuses
+returns-clause-refuses c = IfErr-weaker c.feed.result _ _ (λ e refuses other bytes h. refuses other bytes (subst (λ (r : Reading _). HasRead r bytes) (sym c.self.view_is) h)) c.feed.ensures.refuses

@@ -1,0 +1,13 @@
+use Rattle.std.proofs.Common.{ℕ, List, codes, refl, subst}
+use Rattle.std.specs.Str.{chars}
+use Rattle.owl_characters.specs.AsciiLaws.{ascii_chars}
+use Rattle.rdf_terms.specs.Vocabulary.{xsd}
+use Rattle.ttl_grammar.specs.States.{literal_term}
+use Rattle.ttl_grammar.specs.TypedLiterals.{typed_literal}
+use Rattle.ttl_read.specs.Computing.{Computes}
+use Rattle.ttl_read.proofs.terms.false_term.Goals as goal
+
+pub returns : goal.returns
+returns c =
+    subst (λ (form : List ℕ). Computes c.typed.result (literal_term (typed_literal form (xsd (codes "boolean"))))) (ascii_chars (codes "false") refl)
+    (subst (λ (d : List ℕ). Computes c.typed.result (literal_term (typed_literal (chars (codes "false")) d))) c.in_ok-boolean.ensures c.typed.ensures)

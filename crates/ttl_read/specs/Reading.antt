@@ -1,0 +1,17 @@
+-- How a reader of Turtle stands to the bytes that it was fed.
+use Rattle.std.specs.Prelude.{ℕ, List}
+use Rattle.owl_reader.specs.Readings as readings
+use Rattle.owl_reader.specs.declared.fault.ReadFault.{ReadFault}
+use Rattle.ttl_tokens.specs.TurtleSpellings.{Spells}
+use Rattle.ttl_grammar.specs.Rules.{turtle_rules}
+use Rattle.ttl_grammar.specs.Table.{turtle}
+use Rattle.ttl_read.specs.Showing.{Made}
+use Rattle.ttl_read.specs.declared.assembler.Assembler.{Assembler}
+
+-- whatever follows these bytes, it is the first defect
+abbrev pub Refuses : List ℕ → ReadFault → Type 0
+Refuses bytes fault = readings.Refuses Spells turtle turtle_rules bytes fault
+
+-- the reader was fed these bytes
+abbrev pub HasRead : readings.Reading Assembler → List ℕ → Type 0
+HasRead r bytes = readings.HasRead Spells turtle turtle_rules Made r bytes

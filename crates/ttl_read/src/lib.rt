@@ -1,0 +1,15 @@
+//! Reads documents of Turtle whose bytes come in pieces.
+#![tactic(auto)]
+
+mod assembler;
+mod facts;
+mod labels;
+mod names;
+mod reader;
+mod refusals;
+mod syntax;
+mod terms;
+mod vocabulary;
+
+pub use owl_reader::{ReadFault, Reason};
+pub use reader::{Reader, TtlDoc};

@@ -1,0 +1,87 @@
+//! Reads a document whose bytes come in pieces.
+
+ghost use Rattle.std.specs.Prelude.{◌≡◌, ◌≢◌, ◌++◌, [], List, ℕ, None, Some, Err, IfErr, IfOk, IsOk, OnOk};
+ghost use Rattle.owl_reader.specs.declared.fault.ReadFault.{ReadFault};
+ghost use Rattle.ttl_grammar.specs.Documents.{IsFirstDefect, ReadsTurtle};
+ghost use Rattle.ttl_read.specs.Reading.{HasRead, Refuses};
+
+use crate::assembler::Assembler;
+use owl_atom::Prefixes;
+use owl_characters::NoMemory;
+use owl_reader::ReadFault;
+use rdf_graph::Graph;
+use std::alloc::Global;
+use std::marker::Model;
+
+/// What a document of Turtle says: its graph, and the prefixes that it leaves,
+/// each with the IRI that was declared last for it.
+#[derive(Debug, Drop)]
+pub struct TtlDoc {
+    pub graph: Graph,
+    pub prefixes: Prefixes,
+}
+
+/// Reads a document of Turtle (RDF 1.1 Turtle, sections 6 and 7) from bytes that
+/// come in pieces.
+///
+/// Contracts relate it to the bytes that were fed (`HasRead`).
+#[derive(Drop)]
+pub struct Reader {
+    shell: owl_reader::Reader<Assembler>,
+}
+
+impl Model for Reader {
+    ghost use Rattle.ttl_read.specs.declared.assembler.Assembler.{Assembler};
+    ghost use Rattle.owl_reader.specs.Readings.{Reading};
+
+    ghost Value = { Reading Assembler };
+
+    ghost view = { λ r. r.shell };
+}
+
+impl Reader {
+    /// A reader that was fed nothing.
+    pub fn new(alloc: Global) -> Result<Reader, NoMemory>
+        ensures { IfOk result (λ reader. HasRead reader []) }
+    {
+        let assembler = Assembler::new(alloc);
+        Ok(Reader {
+            shell: owl_reader::Reader::new(alloc, assembler)?,
+        })
+    }
+
+    /// Takes the next bytes, and drops them where it has refused.
+    ///
+    /// A refusal other than `Memory` is the first defect of all bytes that were
+    /// fed, with these, whatever follows. A reader that has refused answers the
+    /// same refusal from then on. An empty piece takes no memory.
+    pub fn feed(&mut self, piece: &[u8]) -> Result<(), ReadFault>
+        ensures reads { (bytes : List ℕ) → HasRead self.old bytes
+            → HasRead self.new (bytes ++ piece.now) }
+        ensures refuses { IfErr result (λ fault. fault ≢ ReadFault.Memory → (bytes : List ℕ)
+            → HasRead self.old bytes → Refuses (bytes ++ piece.now) fault) }
+        ensures empty { self.old.refused ≡ None → piece.now ≡ [] → IsOk result }
+        ensures keeps { IfErr result (λ fault. self.new.refused ≡ Some fault) }
+        ensures same { (fault : ReadFault) → self.old.refused ≡ Some fault → result ≡ Err fault }
+    {
+        self.shell.feed(piece)
+    }
+
+    /// What the document says that all the bytes fed are.
+    ///
+    /// A refusal other than `Memory` is the first defect of these bytes. A
+    /// reader that has refused answers the same refusal.
+    pub fn finish(self) -> Result<TtlDoc, ReadFault>
+        ensures reads { IfOk result (λ doc. (bytes : List ℕ) → HasRead self bytes
+            → ReadsTurtle bytes doc.prefixes doc.graph) }
+        ensures refuses { IfErr result (λ fault. fault ≢ ReadFault.Memory → (bytes : List ℕ)
+            → HasRead self bytes → IsFirstDefect bytes fault) }
+        ensures same { (fault : ReadFault) → self.refused ≡ Some fault → result ≡ Err fault }
+    {
+        let assembler = self.shell.finish()?;
+        Ok(TtlDoc {
+            graph: assembler.graph,
+            prefixes: assembler.names.into_prefixes(),
+        })
+    }
+}
