@@ -8,16 +8,13 @@
 
 mod answer;
 mod report;
-mod tally;
-mod topic;
 
+use report::OwlRows;
+use row_files::check_topics;
 use std::process::ExitCode;
-use tally::Tally;
-use topic::check_topics;
 
 fn main(rt: HostRuntime) -> anyhow::Result<ExitCode> {
-    let mut tally = Tally::default();
-    check_topics(&rt, &mut tally)?;
+    let tally = check_topics::<HostRuntime, OwlRows>(&rt)?;
     println!(rt; "{tally}")?;
     if tally.is_right() {
         Ok(ExitCode::SUCCESS)

@@ -15,6 +15,7 @@
 //! `< FILE`, all bytes of a file of the row's folder. A line that begins with `#` is a comment.
 #![tactic(auto)]
 
+mod compare;
 mod described;
 mod devices;
 mod fault;
@@ -22,11 +23,16 @@ mod folder;
 mod line;
 mod part;
 mod row;
+mod tally;
 mod token;
+mod topic;
 
+pub use compare::compare_texts;
 pub use devices::Devices;
 pub use fault::RowFault;
 pub use folder::folders;
 pub use line::is_comment;
 pub use row::{Document, Row, read_row};
+pub use tally::Tally;
 pub use token::{Language, tokens_of};
+pub use topic::{Rows, check_topics};
