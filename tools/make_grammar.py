@@ -12,8 +12,8 @@ what would be written.
 A grammar is lines `rule ::= alternative | alternative`. `%` derives nothing, `@x` is an
 act, a word with a small first letter a rule, any other a class of tokens. A line that
 begins with white space goes on with the rule above, and `#` begins a comment. Numbers
-come in the order of rules, and of `classes` and `acts` in lines of these names, or else
-in the order in which they stand first.
+come in the order of rules, and of `classes` and `acts` in lines of these names, which then
+have to list all of them, or else in the order in which they stand first.
 
 What it makes is not trusted: the proofs test the table.
 """
@@ -47,6 +47,7 @@ class Grammar:
             else:
                 self.rules[words[0]] = len(bodies)
                 bodies.append(" ".join(words[2:]))
+        self.listed = {"classes": bool(self.classes), "acts": bool(self.acts)}
         self.bodies = bodies
         self.rows = [[self.symbols(alternative) for alternative in body.split("|")] for body in bodies]
         if len(self.classes) > END:
@@ -57,21 +58,23 @@ class Grammar:
 
     def symbol(self, word):
         if word.startswith("@"):
-            return "Act", number_in(self.acts, word[1:])
+            return "Act", self.number("acts", word[1:])
         if word[0].islower():
             if word not in self.rules:
                 sys.exit(f"make_grammar: no rule {word}")
             return "Rule", self.rules[word]
-        return "Need", number_in(self.classes, word)
+        return "Need", self.number("classes", word)
+
+    def number(self, kind, name):
+        names = getattr(self, kind)
+        if name not in names:
+            if self.listed[kind]:
+                sys.exit(f"make_grammar: {name} is not among the {kind}")
+            names.append(name)
+        return names.index(name)
 
     def name(self, rule):
         return list(self.rules)[rule]
-
-
-def number_in(names, name):
-    if name not in names:
-        names.append(name)
-    return names.index(name)
 
 
 def bits(numbers):
