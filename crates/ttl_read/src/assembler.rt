@@ -111,7 +111,8 @@ impl Assembler {
 
     /// A term was read, or could not be.
     fn read(&mut self, term: Result<Object, TokenFault>) -> Result<(), TokenFault>
-        ensures { (state : stated.State) (wanted : Result node.Object fault.TokenFault) → Shows self.old state → Computes term wanted →
+        ensures { (state : stated.State) (wanted : Result node.Object fault.TokenFault)
+            → Shows self.old state → Computes term wanted →
             TurnsTo Shows result self.new (reading state wanted) }
     {
         self.facts.read(term?);
@@ -174,7 +175,8 @@ impl Assembler {
     /// Does acts in turn, and ends the document where no token comes.
     pub(crate) fn take_next(&mut self, acts: &[u8], next: Option<Token>) -> Result<(), TokenFault>
         requires { IfSome next IsFormed }
-        ensures { (state : stated.State) → Shows self.old state → TakesNext acts.now next state result self.new }
+        ensures { (state : stated.State) → Shows self.old state
+            → TakesNext acts.now next state result self.new }
     {
         self.do_all(acts, &next)?;
         if next.is_none() {
@@ -186,7 +188,8 @@ impl Assembler {
     /// The document ends: its blank nodes get labels, and its triples are
     /// gathered.
     fn close(&mut self) -> Result<(), TokenFault>
-        ensures { (state : stated.State) → Shows self.old state → TurnsTo Holds result self.new (limited state) }
+        ensures { (state : stated.State) → Shows self.old state
+            → TurnsTo Holds result self.new (limited state) }
     {
         let facts = mem::replace(&mut self.facts, Facts::new(self.alloc));
         self.graph = graph_of(self.alloc, facts.into_triples()).map_err(of_graph)?;

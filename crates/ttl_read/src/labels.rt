@@ -90,7 +90,8 @@ fn named_triple(alloc: Global, greatest: u64, triple: NodeTriple) -> Result<Trip
 
 /// The triples with all labels, gathered.
 fn gathered(alloc: Global, triples: Vec<NodeTriple>) -> Result<Gather, NoMemory>
-    ensures { IfOk result (λ gather. gather ≡ map (named_triple (greatest_number triples.items)) triples.items) }
+    ensures { IfOk result (λ gather. gather
+        ≡ map (named_triple (greatest_number triples.items)) triples.items) }
 {
     let greatest = greatest_number(&triples);
     let mut gather = Gather::new(alloc);
@@ -105,7 +106,8 @@ fn gathered(alloc: Global, triples: Vec<NodeTriple>) -> Result<Gather, NoMemory>
 pub fn graph_of(alloc: Global, triples: Vec<NodeTriple>) -> Result<Graph, GraphFault>
     ensures ok { IfOk result (λ graph. graph ≡ graph_of triples.items) }
     ensures few { IfOk result (λ graph. length (graph_of triples.items) ≤ most_triples) }
-    ensures too_many { IsErrOf result GraphFault.TooMany → most_triples < length (graph_of triples.items) }
+    ensures too_many { IsErrOf result GraphFault.TooMany
+        → most_triples < length (graph_of triples.items) }
 {
     match gathered(alloc, triples) {
         Ok(gather) => gather.finish(),

@@ -62,7 +62,8 @@ impl Names {
     /// The IRI of a token.
     pub fn iri_of(&self, alloc: Global, next: &Option<Token>) -> Result<Iri, TokenFault>
         requires { IfSome next.now IsFormed }
-        ensures { (names : stated.Names) → AreNames self.now names → Computes result (iri_of names next.now) }
+        ensures { (names : stated.Names) → AreNames self.now names
+            → Computes result (iri_of names next.now) }
     {
         match next {
             Some(Token::Iri(reference)) => self.reference_iri(alloc, reference),
@@ -74,7 +75,8 @@ impl Names {
     /// The IRI of a reference, which is nothing where one of its escapes is of
     /// no character.
     fn reference_iri(&self, alloc: Global, reference: &Option<Text>) -> Result<Iri, TokenFault>
-        ensures { (names : stated.Names) → AreNames self.now names → Computes result (reference_iri names reference.now) }
+        ensures { (names : stated.Names) → AreNames self.now names
+            → Computes result (reference_iri names reference.now) }
     {
         match reference {
             Some(reference) => known_iri(alloc, &self.base, reference.as_str()),

@@ -27,7 +27,8 @@ use ttl_tokens::{Symbol, Token};
 /// The IRI of a token.
 pub fn iri_term(alloc: Global, names: &Names, next: &Option<Token>) -> Result<Object, TokenFault>
     requires { IfSome next.now IsFormed }
-    ensures { (known : stated.Names) → AreNames names.now known → Computes result (iri_term (iri_of known next.now)) }
+    ensures { (known : stated.Names) → AreNames names.now known
+        → Computes result (iri_term (iri_of known next.now)) }
 {
     let iri = names.iri_of(alloc, next)?;
     Ok(Object::Node(Node::Iri(iri)))
@@ -95,7 +96,8 @@ pub fn typed_term(
     next: &Option<Token>,
 ) -> Result<Object, TokenFault>
     requires { IfSome next.now IsFormed }
-    ensures { (known : stated.Names) → AreNames names.now known → Computes result (typed_term form.now (iri_of known next.now)) }
+    ensures { (known : stated.Names) → AreNames names.now known
+        → Computes result (typed_term form.now (iri_of known next.now)) }
 {
     let datatype = names.iri_of(alloc, next)?;
     typed(alloc, form.as_str(), datatype)

@@ -32,8 +32,11 @@ term_text prefixes (Blank label) = label_text label
 term_text prefixes (Literal literal) = literal_text prefixes literal
 
 -- section 2.4
+abbrev pub namespace_line : List ℕ → List ℕ → List ℕ
+namespace_line name iri = codes "@prefix " ++ (name ++ (codes ": " ++ (full_iri iri ++ codes " .\n")))
+
 abbrev pub prefix_line : Prefix → List ℕ
-prefix_line prefix = codes "@prefix " ++ (prefix.name ++ (codes ": " ++ (full_iri prefix.iri ++ codes " .\n")))
+prefix_line prefix = namespace_line prefix.name prefix.iri
 
 -- section 2.1
 abbrev pub triple_line : List Prefix → Triple → List ℕ

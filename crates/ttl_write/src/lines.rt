@@ -1,14 +1,13 @@
 //! The lines of a text.
 
-ghost use Rattle.std.specs.Prelude.{◌≡◌, ◌++◌, codes, flat_map, IsErrOf, OnOk};
+ghost use Rattle.std.specs.Prelude.{◌≡◌, ◌++◌, flat_map, IsErrOf, OnOk};
 ghost use Rattle.std.specs.Str.{chars};
 ghost use Rattle.owl_characters.specs.Iri.{IsIri};
 ghost use Rattle.owl_writing.specs.Limits.{IsTooLong};
 ghost use Rattle.owl_writing.specs.Tables.{HaveIris};
-ghost use Rattle.owl_writing.specs.Terms.{full_iri};
 ghost use Rattle.owl_writing.specs.declared.fault.WriteFault.{WriteFault};
 ghost use Rattle.ttl_write.specs.Formed.{AreFormed, IsFormedTriple};
-ghost use Rattle.ttl_write.specs.Text.{lines_of, prefix_line, triple_line};
+ghost use Rattle.ttl_write.specs.Text.{lines_of, namespace_line, prefix_line, triple_line};
 
 use crate::terms::{add_term, known};
 use owl_atom::{Iri, Prefixes};
@@ -19,7 +18,8 @@ use rdf_graph::{Graph, Triple};
 #[tactic(auto, using(owl_characters::specs::Utf8Laws::size_append))]
 pub fn add_graph(draft: &mut Draft, prefixes: &Prefixes, graph: &Graph) -> Result<(), WriteFault>
     ensures ok { OnOk result (draft.new ≡ draft.old ++ lines_of prefixes.now graph.now) }
-    ensures too_long { IsErrOf result WriteFault.TooLong → IsTooLong (draft.old ++ lines_of prefixes.now graph.now) }
+    ensures too_long { IsErrOf result WriteFault.TooLong
+        → IsTooLong (draft.old ++ lines_of prefixes.now graph.now) }
     ensures iris { OnOk result (HaveIris prefixes.now) }
     ensures formed { OnOk result (AreFormed graph.now) }
 {
@@ -30,7 +30,8 @@ pub fn add_graph(draft: &mut Draft, prefixes: &Prefixes, graph: &Graph) -> Resul
 /// Adds a line for each prefix.
 fn add_prefixes(draft: &mut Draft, prefixes: &Prefixes) -> Result<(), WriteFault>
     ensures ok { OnOk result (draft.new ≡ draft.old ++ flat_map prefix_line prefixes.now) }
-    ensures too_long { IsErrOf result WriteFault.TooLong → IsTooLong (draft.old ++ flat_map prefix_line prefixes.now) }
+    ensures too_long { IsErrOf result WriteFault.TooLong
+        → IsTooLong (draft.old ++ flat_map prefix_line prefixes.now) }
     ensures iris { OnOk result (HaveIris prefixes.now) }
 {
     for place in 0..prefixes.len() {
@@ -43,8 +44,9 @@ fn add_prefixes(draft: &mut Draft, prefixes: &Prefixes) -> Result<(), WriteFault
 /// Adds the line of a prefix.
 #[tactic(auto, using(owl_characters::specs::Utf8Laws::size_append))]
 fn add_prefix(draft: &mut Draft, name: &str, iri: &Iri) -> Result<(), WriteFault>
-    ensures ok { OnOk result (draft.new ≡ draft.old ++ (codes "@prefix " ++ (chars name.now ++ (codes ": " ++ (full_iri iri.now ++ codes " .\n"))))) }
-    ensures too_long { IsErrOf result WriteFault.TooLong → IsTooLong (draft.old ++ (codes "@prefix " ++ (chars name.now ++ (codes ": " ++ (full_iri iri.now ++ codes " .\n"))))) }
+    ensures ok { OnOk result (draft.new ≡ draft.old ++ namespace_line (chars name.now) iri.now) }
+    ensures too_long { IsErrOf result WriteFault.TooLong
+        → IsTooLong (draft.old ++ namespace_line (chars name.now) iri.now) }
     ensures iri { OnOk result (IsIri iri.now) }
 {
     // What an IRI holds is one.
@@ -58,8 +60,10 @@ fn add_prefix(draft: &mut Draft, name: &str, iri: &Iri) -> Result<(), WriteFault
 
 /// Adds a line for each triple of the graph.
 fn add_triples(draft: &mut Draft, prefixes: &Prefixes, graph: &Graph) -> Result<(), WriteFault>
-    ensures ok { OnOk result (draft.new ≡ draft.old ++ flat_map (triple_line prefixes.now) graph.now) }
-    ensures too_long { IsErrOf result WriteFault.TooLong → IsTooLong (draft.old ++ flat_map (triple_line prefixes.now) graph.now) }
+    ensures ok { OnOk result (draft.new
+        ≡ draft.old ++ flat_map (triple_line prefixes.now) graph.now) }
+    ensures too_long { IsErrOf result WriteFault.TooLong
+        → IsTooLong (draft.old ++ flat_map (triple_line prefixes.now) graph.now) }
     ensures formed { OnOk result (AreFormed graph.now) }
 {
     for place in 0..graph.len() {
@@ -72,7 +76,8 @@ fn add_triples(draft: &mut Draft, prefixes: &Prefixes, graph: &Graph) -> Result<
 #[tactic(auto, using(owl_characters::specs::Utf8Laws::size_append))]
 fn add_triple(draft: &mut Draft, prefixes: &Prefixes, triple: &Triple) -> Result<(), WriteFault>
     ensures ok { OnOk result (draft.new ≡ draft.old ++ triple_line prefixes.now triple.now) }
-    ensures too_long { IsErrOf result WriteFault.TooLong → IsTooLong (draft.old ++ triple_line prefixes.now triple.now) }
+    ensures too_long { IsErrOf result WriteFault.TooLong
+        → IsTooLong (draft.old ++ triple_line prefixes.now triple.now) }
     ensures formed { OnOk result (IsFormedTriple triple.now) }
 {
     // What the terms of every triple are.

@@ -31,7 +31,8 @@ pub fn known(term: &Term)
 /// Adds a term: an IRI, a blank node or a literal.
 pub fn add_term(draft: &mut Draft, prefixes: &Prefixes, term: &Term) -> Result<(), WriteFault>
     ensures ok { OnOk result (draft.new ≡ draft.old ++ term_text prefixes.now term.now) }
-    ensures too_long { IsErrOf result WriteFault.TooLong → IsTooLong (draft.old ++ term_text prefixes.now term.now) }
+    ensures too_long { IsErrOf result WriteFault.TooLong
+        → IsTooLong (draft.old ++ term_text prefixes.now term.now) }
 {
     match term {
         Term::Iri(iri) => draft.add_iri(prefixes, iri),
@@ -44,7 +45,8 @@ pub fn add_term(draft: &mut Draft, prefixes: &Prefixes, term: &Term) -> Result<(
 #[tactic(auto, using(owl_characters::specs::Utf8Laws::size_append))]
 fn add_literal(draft: &mut Draft, prefixes: &Prefixes, literal: &Literal) -> Result<(), WriteFault>
     ensures ok { OnOk result (draft.new ≡ draft.old ++ literal_text prefixes.now literal.now) }
-    ensures too_long { IsErrOf result WriteFault.TooLong → IsTooLong (draft.old ++ literal_text prefixes.now literal.now) }
+    ensures too_long { IsErrOf result WriteFault.TooLong
+        → IsTooLong (draft.old ++ literal_text prefixes.now literal.now) }
 {
     add_string(draft, literal.lexical())?;
     draft.add_literal_end(prefixes, literal)
@@ -54,7 +56,8 @@ fn add_literal(draft: &mut Draft, prefixes: &Prefixes, literal: &Literal) -> Res
 #[tactic(auto, using(owl_characters::specs::Utf8Laws::size_append))]
 fn add_string(draft: &mut Draft, form: &str) -> Result<(), WriteFault>
     ensures ok { OnOk result (draft.new ≡ draft.old ++ string_text (chars form.now)) }
-    ensures too_long { IsErrOf result WriteFault.TooLong → IsTooLong (draft.old ++ string_text (chars form.now)) }
+    ensures too_long { IsErrOf result WriteFault.TooLong
+        → IsTooLong (draft.old ++ string_text (chars form.now)) }
 {
     draft.add_ascii("\"")?;
     add_escaped(draft, form)?;
@@ -64,7 +67,8 @@ fn add_string(draft: &mut Draft, form: &str) -> Result<(), WriteFault>
 /// Adds the characters of a string, with escapes for those that can't stand between quotes.
 fn add_escaped(draft: &mut Draft, form: &str) -> Result<(), WriteFault>
     ensures ok { OnOk result (draft.new ≡ draft.old ++ flat_map character_text (chars form.now)) }
-    ensures too_long { IsErrOf result WriteFault.TooLong → IsTooLong (draft.old ++ flat_map character_text (chars form.now)) }
+    ensures too_long { IsErrOf result WriteFault.TooLong
+        → IsTooLong (draft.old ++ flat_map character_text (chars form.now)) }
 {
     for c in form.chars() {
         add_character(draft, c)?;
@@ -74,7 +78,8 @@ fn add_escaped(draft: &mut Draft, form: &str) -> Result<(), WriteFault>
 
 fn add_character(draft: &mut Draft, c: char) -> Result<(), WriteFault>
     ensures ok { OnOk result (draft.new ≡ draft.old ++ character_text c) }
-    ensures too_long { IsErrOf result WriteFault.TooLong → IsTooLong (draft.old ++ character_text c) }
+    ensures too_long { IsErrOf result WriteFault.TooLong
+        → IsTooLong (draft.old ++ character_text c) }
 {
     match c {
         '"' => draft.add_ascii("\\\""),

@@ -25,8 +25,10 @@ use std::alloc::Global;
 pub fn write(alloc: Global, graph: &Graph, prefixes: &Prefixes) -> Result<Text, WriteFault>
     ensures text { IfOk result (λ text. text ≡ turtle_text prefixes.now graph.now) }
     ensures within { IfOk result (λ text. length (encode_utf8_all text) ≤ most_bytes) }
-    ensures too_long { IsErrOf result WriteFault.TooLong → most_bytes < length (encode_utf8_all (turtle_text prefixes.now graph.now)) }
-    ensures reads_back { IfOk result (λ text. ReadsTurtle (encode_utf8_all text) (written_prefixes prefixes.now) graph.now) }
+    ensures too_long { IsErrOf result WriteFault.TooLong
+        → most_bytes < length (encode_utf8_all (turtle_text prefixes.now graph.now)) }
+    ensures reads_back { IfOk result (λ text.
+        ReadsTurtle (encode_utf8_all text) (written_prefixes prefixes.now) graph.now) }
 {
     // What is known of every graph and of every table.
     graph.len();
