@@ -26,7 +26,7 @@ use Rattle.owl_tree.specs.Trees.{leaf}
 use Rattle.fss_grammar.specs.ActingLaws.{acts_by_table}
 use Rattle.fss_grammar.specs.ActLaws.{begin}
 use Rattle.fss_grammar.specs.Doing.{Acts}
-use Rattle.fss_grammar.specs.Making.{Begins, BeginsLeaf, Comes, ComesAtom, Kept, Maker, put}
+use Rattle.fss_grammar.specs.Making.{BeginsConstruct, BeginsLeaf, Comes, ComesAtom, Kept, Maker, put}
 use Rattle.fss_grammar.specs.Making.Kept.{iri, nothing, string}
 use Rattle.fss_grammar.specs.Ready.{ComesFor, ComesName, IsReadyToBegin, IsWithin}
 use Rattle.fss_grammar.specs.declared.acts.Act.TheVariants.{Begin, Hold}
@@ -41,7 +41,7 @@ use Rattle.fss_acts.proofs.Put.{constructs, leaf_put, leaf_room, work_of_nothing
 within : (t : Tag) (sort : AtomSort) (next : Option Token) (m : Maker) → row_of t ≡ Leaf sort → IsReadyToBegin (row_of t) next m → IsWithin m × ComesFor sort next
 within t sort next m row ready = subst (λ (r : Row). IsReadyToBegin r next m) row ready
 
-begins : (old : Assembler) (m n : Maker) (t : Tag) (row : Row) (next : Option Token) → Assembles old m → row_of t ≡ row → Begins old.prefixes t row next m n → Acts (Begin t) next m n
+begins : (old : Assembler) (m n : Maker) (t : Tag) (row : Row) (next : Option Token) → Assembles old m → row_of t ≡ row → BeginsConstruct old.prefixes t row next m n → Acts (Begin t) next m n
 begins old m n t row next h e b = (acts_by_table old.prefixes (Begin t) next m n h.table).1 (begin old.prefixes t next m n e b)
 
 fails_not : (t : Tag) (row : Row) (next : Option Token) (m : Maker) (f : TokenFault) → row_of t ≡ row → (FailsLeaf row next m f → ⊥) → FailsLeaf (row_of t) next m f → ⊥
@@ -128,7 +128,7 @@ iri_held old full next i c is tells e m h ready =
 
 -- ---- a construct
 
-opens_node : (p : List Prefix) (t : Tag) (row : Row) (next : Option Token) (m : Maker) → IsNode row → Begins p t row next m (record m { frames = opened t m.frames })
+opens_node : (p : List Prefix) (t : Tag) (row : Row) (next : Option Token) (m : Maker) → IsNode row → BeginsConstruct p t row next m (record m { frames = opened t m.frames })
 opens_node p t (Leaf sort) next m node = absurd node
 opens_node p t (Node front rest) next m node = refl
 

@@ -12,21 +12,21 @@ use Rattle.owl_tree.specs.Ontologies.{Head, HoldEquivalent, IsSameOntology, Onto
 use Rattle.owl_tree.specs.OntologyLaws.{canonical_same_ontology, same_ontology_trans}
 use Rattle.owl_tree.specs.Trees.{Tree, depth}
 use Rattle.fss_terms.specs.Functional.{IsWithinLimits}
-use Rattle.fss_acts.specs.Assembling.{Says}
+use Rattle.fss_acts.specs.Assembling.{IsBuiltAs}
 
 -- the same, where it says the same ontology as before
-pub says_same : (old new : Document) → ontology_of new ≡ ontology_of old → (o : Ontology) → Says old o → Says new o
+pub says_same : (old new : Document) → ontology_of new ≡ ontology_of old → (o : Ontology) → IsBuiltAs old o → IsBuiltAs new o
 says_same old new e o s = record {
   head = ap (λ (p : Ontology). p.head) e ∙ s.head;
   annotations = subst (λ (ts : List Tree). HoldEquivalent o.annotations ts) (sym (ap (λ (p : Ontology). p.annotations) e)) s.annotations;
   axioms = subst (λ (ts : List Tree). HoldEquivalent o.axioms ts) (sym (ap (λ (p : Ontology). p.axioms) e)) s.axioms;
 }
 
-pub says_grown : (old new : Document) → IsBegun old → Grows old new → (o : Ontology) → Says old o → Says new o
+pub says_grown : (old new : Document) → IsBegun old → Grows old new → (o : Ontology) → IsBuiltAs old o → IsBuiltAs new o
 says_grown old new begun grows = says_same old new (same_ontology old new begun grows)
 
 -- it is the same ontology as the one that it says, and so is its canonical form
-pub says_canonical : (d : Document) (o p : Ontology) → Says d o → p ≡ canonical_ontology (ontology_of d) → IsSameOntology o p
+pub says_canonical : (d : Document) (o p : Ontology) → IsBuiltAs d o → p ≡ canonical_ontology (ontology_of d) → IsSameOntology o p
 says_canonical d o p s e =
     let same : IsSameOntology o (ontology_of d) = record {
       head = record {

@@ -13,7 +13,7 @@ use Rattle.fss_grammar.specs.Making.{Comes, Maker, Versions, import_iri, name_on
 use Rattle.fss_grammar.specs.Ready.{ComesName, HasIri, IsBetween}
 use Rattle.fss_grammar.specs.declared.acts.Act.TheVariants.{ImportIri, OntologyIri, VersionIri}
 use Rattle.fss_acts.specs.declared.assembler.Assembler.{Assembler}
-use Rattle.fss_acts.specs.Assembling.{Assembles, Performed, Says, bare_name, kept_of}
+use Rattle.fss_acts.specs.Assembling.{Assembles, Performed, IsBuiltAs, bare_name, kept_of}
 use Rattle.fss_acts.proofs.Put.{constructs, work_of_nothing}
 
 module _ (old : Assembler) (m : Maker) (h : Assembles old m) (ready : IsBetween m) where
@@ -28,7 +28,7 @@ module _ (old : Assembler) (m : Maker) (h : Assembles old m) (ready : IsBetween 
     fit = tt;
     name = k;
     work = subst (λ (w : Making). Follows w (Constructs m.frames)) (sym e) (follows_beside (with_name (Some name) old.maker.document) old.maker (Constructs m.frames) work);
-    says = subst (λ (w : Making). Says w.document (name_ontology name m).document.ontology) (sym e) record {
+    says = subst (λ (w : Making). IsBuiltAs w.document (name_ontology name m).document.ontology) (sym e) record {
       head = ap (λ (x : Head). record { name = Some name; imports = x.imports }) h.says.head;
       annotations = h.says.annotations;
       axioms = h.says.axioms;
@@ -43,7 +43,7 @@ module _ (old : Assembler) (m : Maker) (h : Assembles old m) (ready : IsBetween 
     fit = tt;
     name = h.name;
     work = subst (λ (w : Making). Follows w (Constructs m.frames)) (sym e) (follows_beside (with_import i old.maker.document) old.maker (Constructs m.frames) work);
-    says = subst (λ (w : Making). Says w.document (import_iri i m).document.ontology) (sym e) record {
+    says = subst (λ (w : Making). IsBuiltAs w.document (import_iri i m).document.ontology) (sym e) record {
       head = ap (λ (x : Head). record { name = x.name; imports = x.imports ++ i ∷ [] }) h.says.head;
       annotations = h.says.annotations;
       axioms = h.says.axioms;

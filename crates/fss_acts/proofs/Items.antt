@@ -23,7 +23,7 @@ use Rattle.fss_grammar.specs.Ready.{MayShut}
 use Rattle.fss_grammar.specs.declared.acts.Act.TheVariants.{AddAnnotation, AddAxiom, Shut}
 use Rattle.fss_acts.specs.declared.assembler.Assembler.{Assembler}
 use Rattle.fss_acts.specs.declared.kept.Kept.TheVariants as keeps
-use Rattle.fss_acts.specs.Assembling.{Assembles, Performed, Says, kept_of, work_of}
+use Rattle.fss_acts.specs.Assembling.{Assembles, Performed, IsBuiltAs, kept_of, work_of}
 use Rattle.fss_defects.specs.Faults.{FailsItem, IsKeylessInside}
 use Rattle.fss_acts.specs.Refusals.{of_making}
 use Rattle.fss_acts.proofs.Documents.{says_grown}
@@ -32,7 +32,7 @@ use Rattle.fss_acts.proofs.Weights.{AreForms, are_forms, weighs_equivalent, weig
 
 -- ---- the weight of an ontology with one more item
 
-module _ (d : Document) (begun : IsBegun d) (shared : AreShared d.arena.trees) (o : Ontology) (s : Says d o) (t : Tree) where
+module _ (d : Document) (begun : IsBegun d) (shared : AreShared d.arena.trees) (o : Ontology) (s : IsBuiltAs d o) (t : Tree) where
   note_forms : AreForms (annotations_of d)
   note_forms = are_forms d.arena.trees shared d.notes begun.notes begun.notes_once
 
@@ -167,7 +167,7 @@ keyed : (f : Frame) → IsShaped (tree_of f) → f.tag ≡ tag.HasKey → HasKey
 keyed f h e = subst HasKeyProperty (list_of_kids_of f.kids) (h.0.keys e)
 
 module _ (old : Assembler) (m : Maker) (h : Assembles old m) (none : old.kept ≡ keeps.Nothing) (f : Frame) (made : Making) (begun : IsBegun old.maker.document) (grows : Grows old.maker.document made.document) where
-  says_still : Says made.document m.document.ontology
+  says_still : IsBuiltAs made.document m.document.ontology
   says_still = says_grown old.maker.document made.document begun grows m.document.ontology h.says
 
   shut_assembled : (fs : List Frame) → Follows made (shut_in f fs) → Assembles (record old { maker = made }) (put (tree_of f) (record m { frames = fs }))

@@ -23,7 +23,7 @@ use Rattle.fss_grammar.specs.declared.acts.Act.TheVariants.{Plain, Tagged, Typed
 use Rattle.fss_acts.specs.declared.assembler.Assembler.{Assembler}
 use Rattle.fss_acts.specs.declared.kept.Kept as held
 use Rattle.fss_acts.specs.declared.kept.Kept.TheVariants as keeps
-use Rattle.fss_acts.specs.Assembling.{AnswersAt, AnswersHeld, AnswersLeaf, Assembles, Denotes, DenotesNone, IsFit, kept_of, work_of}
+use Rattle.fss_acts.specs.Assembling.{AnswersAt, AnswersHeld, AnswersLeaf, Assembles, IsLiteralOf, IsNoLiteral, IsFit, kept_of, work_of}
 use Rattle.fss_defects.specs.Faults.{FailsTyped}
 use Rattle.fss_acts.proofs.Put.{constructs, leaf_put}
 
@@ -63,7 +63,7 @@ module _ (old : Assembler) (m : Maker) (h : Assembles old m) (t : Tag) (form : L
   pub text_room : {P : Type 0} (u : Tree) (made : Making) (f : TokenFault) → AnswersLeaf u old.maker (Err f) made → f ≢ fault.Memory → P
   text_room u made f l ne = has_room old m h (string t form) text_is refl (λ r. r) u made f l ne
 
-  makes : (datatype language : Option (List ℕ)) (l : LiteralParts) → Denotes form datatype language l → MakesLiteral m.kept datatype language m (put (leaf t (Literal l)) m)
+  makes : (datatype language : Option (List ℕ)) (l : LiteralParts) → IsLiteralOf form datatype language l → MakesLiteral m.kept datatype language m (put (leaf t (Literal l)) m)
   makes datatype language l d =
       subst (λ (k : Kept). MakesLiteral k datatype language m (put (leaf t (Literal l)) m)) (sym text_is) (l, d.denotes, d.is_literal, refl)
 
@@ -71,11 +71,11 @@ module _ (old : Assembler) (m : Maker) (h : Assembles old m) (t : Tag) (form : L
   assembled new l made done e p =
       leaf_put old m h text_work (record old { maker = made; kept = new }) (leaf t (Literal l)) ready.frame ready.outer ready.frames_are refl e refl p
 
-  pub plain_made : (new : held.Kept) (l : LiteralParts) (made : Making) (r : Result (Unit {0}) TokenFault) (next : Option Token) → new ≡ keeps.Nothing → Denotes form None None l → AnswersLeaf (leaf t (Literal l)) old.maker r made → AnswersAt Plain next m r (record old { maker = made; kept = new })
+  pub plain_made : (new : held.Kept) (l : LiteralParts) (made : Making) (r : Result (Unit {0}) TokenFault) (next : Option Token) → new ≡ keeps.Nothing → IsLiteralOf form None None l → AnswersLeaf (leaf t (Literal l)) old.maker r made → AnswersAt Plain next m r (record old { maker = made; kept = new })
   plain_made new l made (Ok done) next e d p = record { maker = put (leaf t (Literal l)) m; acts = makes None None l d; assembles = assembled new l made done e p; free = λ f k. k }
   plain_made new l made (Err f) next e d p = text_room (leaf t (Literal l)) made f p
 
-  pub tagged_made : (new : held.Kept) (l : LiteralParts) (made : Making) (r : Result (Unit {0}) TokenFault) (next : Option Token) (language : List ℕ) → new ≡ keeps.Nothing → next ≡ Some (token.At language) → Denotes form None (Some language) l → AnswersLeaf (leaf t (Literal l)) old.maker r made → AnswersAt Tagged next m r (record old { maker = made; kept = new })
+  pub tagged_made : (new : held.Kept) (l : LiteralParts) (made : Making) (r : Result (Unit {0}) TokenFault) (next : Option Token) (language : List ℕ) → new ≡ keeps.Nothing → next ≡ Some (token.At language) → IsLiteralOf form None (Some language) l → AnswersLeaf (leaf t (Literal l)) old.maker r made → AnswersAt Tagged next m r (record old { maker = made; kept = new })
   tagged_made new l made (Ok done) next language e is d p =
       record { maker = put (leaf t (Literal l)) m; acts = (language, is, makes None (Some language) l d); assembles = assembled new l made done e p; free = λ f k. k }
   tagged_made new l made (Err f) next language e is d p = text_room (leaf t (Literal l)) made f p
@@ -103,7 +103,7 @@ module _ (old : Assembler) (m : Maker) (h : Assembles old m) (t : Tag) (form : L
       let datatype_is = comes_once (prefixes_behind m.document.declarations) next k.datatype datatype k.comes here in
       k.none l (subst (λ (x : List ℕ). DenotesLiteral x (Some k.datatype) None l) (sym form_is) (subst (λ (x : List ℕ). DenotesLiteral form (Some x) None l) (sym datatype_is) d))
 
-  pub typed_made : (new : held.Kept) (l : LiteralParts) (made : Making) (r : Result (Unit {0}) TokenFault) → new ≡ keeps.Nothing → Denotes form (Some datatype) None l → AnswersLeaf (leaf t (Literal l)) old.maker r made → AnswersAt Typed next m r (record old { maker = made; kept = new })
+  pub typed_made : (new : held.Kept) (l : LiteralParts) (made : Making) (r : Result (Unit {0}) TokenFault) → new ≡ keeps.Nothing → IsLiteralOf form (Some datatype) None l → AnswersLeaf (leaf t (Literal l)) old.maker r made → AnswersAt Typed next m r (record old { maker = made; kept = new })
   typed_made new l made (Ok done) e d p = record {
     maker = put (leaf t (Literal l)) m;
     acts = (datatype, here, makes old m h t form was ready (Some datatype) None l d);
@@ -112,10 +112,10 @@ module _ (old : Assembler) (m : Maker) (h : Assembles old m) (t : Tag) (form : L
   }
   typed_made new l made (Err f) e d p = text_room old m h t form was ready (leaf t (Literal l)) made f p
 
-  pub untyped : (f : TokenFault) → DenotesNone form (Some datatype) None f → FailsTyped m next f
+  pub untyped : (f : TokenFault) → IsNoLiteral form (Some datatype) None f → FailsTyped m next f
   untyped f d = record { fault_is = d.told; tag = t; form = form; keeps = text_is old m h t form was ready; datatype = datatype; comes = here; none = d.none }
 
-pub untold : {form : List ℕ} {datatype language : Option (List ℕ)} (f g : TokenFault) → f ≡ g → DenotesNone form datatype language g → DenotesNone form datatype language f
+pub untold : {form : List ℕ} {datatype language : Option (List ℕ)} (f g : TokenFault) → f ≡ g → IsNoLiteral form datatype language g → IsNoLiteral form datatype language f
 untold f g e d = record { told = e ∙ d.told; none = d.none }
 
 -- ---- an IRI

@@ -13,7 +13,7 @@ use Rattle.fss_grammar.specs.DoingLaws.{done_at_first}
 use Rattle.fss_grammar.specs.Making.{beginning, no_ontology}
 use Rattle.fss_acts.specs.declared.assembler.Assembler.{Assembler}
 use Rattle.fss_acts.specs.declared.kept.Kept.TheVariants as keeps
-use Rattle.fss_acts.specs.Assembling.{Made, Says}
+use Rattle.fss_acts.specs.Assembling.{Made, IsBuiltAs}
 
 nothing_held : HoldEquivalent [] []
 nothing_held = record { there = λ t m. absurd (in_none t m); back = λ t m. absurd (in_none t m) }
@@ -29,6 +29,6 @@ nothing_done a arena p table k n e = record {
     fit = tt;
     name = n;
     work = subst (λ (w : Making). Follows w (Constructs [])) (sym e) (follows_nothing (nothing_yet [] arena));
-    says = subst (λ (w : Making). Says w.document no_ontology) (sym e) record { head = refl; annotations = nothing_held; axioms = nothing_held };
+    says = subst (λ (w : Making). IsBuiltAs w.document no_ontology) (sym e) record { head = refl; annotations = nothing_held; axioms = nothing_held };
   };
 }

@@ -14,7 +14,7 @@ use Rattle.fss_terms.specs.Functional.{IsTableOf, PrefixDeclaration}
 use Rattle.fss_terms.specs.Terms.{iri_of_token}
 use Rattle.fss_grammar.specs.ActingLaws.{tables_agree}
 use Rattle.fss_grammar.specs.Doing.{prefixes_behind}
-use Rattle.fss_grammar.specs.Making.{Adds, Begins, Comes, Declares, Kept, Maker, MakesHeld, MakesLiteral, Performs, Shuts, Versions, add_annotation, add_axiom, put_in}
+use Rattle.fss_grammar.specs.Making.{Adds, BeginsConstruct, Comes, Declares, Kept, Maker, MakesHeld, MakesLiteral, Performs, Shuts, Versions, add_annotation, add_axiom, put_in}
 use Rattle.fss_grammar.specs.Making.Kept.{iri, item, nothing, prefix, string}
 use Rattle.fss_grammar.specs.declared.acts.Act.{Act}
 use Rattle.fss_grammar.specs.declared.acts.Act.TheVariants.{AddAnnotation, AddAxiom, Begin, DeclareIri, DeclareName, EndItem, HeldDatatype, HeldProperty, Hold, ImportIri, OntologyIri, Plain, Shut, Tagged, Typed, VersionIri}
@@ -30,7 +30,7 @@ put_keeps (f ∷ fs) t m = refl
 by : (m n k : Maker) → n ≡ k → declared k ≡ declared m → declared n ≡ declared m
 by m n k e h = ap declared e ∙ h
 
-begins_keep : (p : List Prefix) (t : Tag) (row : Row) (next : Option Token) (m n : Maker) → Begins p t row next m n → declared n ≡ declared m
+begins_keep : (p : List Prefix) (t : Tag) (row : Row) (next : Option Token) (m n : Maker) → BeginsConstruct p t row next m n → declared n ≡ declared m
 begins_keep p t (Leaf atom.Literal) next m n h = ap declared h.2
 begins_keep p t (Leaf atom.Iri) next m n h = ap declared h.2 ∙ put_keeps m.frames _ m
 begins_keep p t (Leaf atom.Label) next m n h = ap declared h.2 ∙ put_keeps m.frames _ m

@@ -66,7 +66,7 @@ bare_name None = None
 bare_name (Some name) = bare_iri name.iri name.version
 
 -- a document that is begun says this ontology
-pub record Says (d : Built) (o : Ontology) : Type 0 where
+pub record IsBuiltAs (d : Built) (o : Ontology) : Type 0 where
   pub head : d.head ≡ o.head
   pub annotations : HoldEquivalent o.annotations (annotations_of d)
   pub axioms : HoldEquivalent o.axioms (axioms_of d)
@@ -78,7 +78,7 @@ pub record Assembles (a : Assembler) (m : Maker) : Type 0 where
   pub fit : IsFit m.kept m.frames m.document.declarations
   pub name : a.name ≡ bare_name m.document.ontology.head.name
   pub work : Follows a.maker (work_of m.kept m.frames)
-  pub says : Says a.maker.document m.document.ontology
+  pub says : IsBuiltAs a.maker.document m.document.ontology
 
 -- These events were done, and this was assembled.
 pub record Did (events : List (Event Token)) (a : Assembler) : Type 0 where
@@ -144,7 +144,7 @@ Answers act next old r new = (m : Maker) → Assembles old m → IsReady act nex
 pub record PutsLeaf (t : Tree) (old new : Making) : Type 0 where
   pub added : (f : Frame) (frames : List Frame) → Follows old (Constructs (f ∷ frames)) → Follows new (Constructs (with_kid t f ∷ frames))
   pub room : (frames : List Frame) → Follows old (Constructs frames) → length frames < deepest
-  pub says : (o : Ontology) → Says old.document o → Says new.document o
+  pub says : (o : Ontology) → IsBuiltAs old.document o → IsBuiltAs new.document o
 
 -- it would stand too deep
 pub record LacksRoom (old : Making) (f : TokenFault) : Type 0 where
@@ -158,13 +158,13 @@ AnswersLeaf t old (Err f) new = f ≢ fault.Memory → LacksRoom old f
 -- ---- literals
 
 -- the form is this literal
-pub record Denotes (form : List ℕ) (datatype language : Option (List ℕ)) (literal : LiteralParts) : Type 0 where
+pub record IsLiteralOf (form : List ℕ) (datatype language : Option (List ℕ)) (literal : LiteralParts) : Type 0 where
   pub denotes : DenotesLiteral form datatype language literal
   pub only : (other : LiteralParts) → DenotesLiteral form datatype language other → other ≡ literal
   pub is_literal : IsLiteral literal
 
 -- and it is none
-pub record DenotesNone (form : List ℕ) (datatype language : Option (List ℕ)) (f : TokenFault) : Type 0 where
+pub record IsNoLiteral (form : List ℕ) (datatype language : Option (List ℕ)) (f : TokenFault) : Type 0 where
   pub told : f ≡ fault.Defect reason.BadLiteral
   pub none : (literal : LiteralParts) → DenotesLiteral form datatype language literal → ⊥
 

@@ -8,7 +8,7 @@ ghost use Rattle.owl_tokens.specs.declared.token.Token.{Token};
 ghost use Rattle.owl_tree.specs.declared.row.AtomSort.TheVariants as atom;
 ghost use Rattle.owl_tree.specs.Rows.{Leaf, row_of};
 ghost use Rattle.fss_grammar.specs.Ready.{IsReady, KeepsIri, KeepsString};
-ghost use Rattle.fss_acts.specs.Assembling.{Answers, AnswersHeld, Denotes, DenotesNone, IsComing, May};
+ghost use Rattle.fss_acts.specs.Assembling.{Answers, AnswersHeld, IsLiteralOf, IsNoLiteral, IsComing, May};
 
 use crate::assembler::Assembler;
 use crate::kept::{take_iri, take_text};
@@ -33,9 +33,9 @@ fn literal_of(
     requires apart { IsNone datatype ⊎ IsNone language }
     requires language { IfSome language (λ l. IsLanguageTag l.now) }
     ensures ok { IfOk result (λ literal.
-        Denotes form.now datatype (option_map (λ l. l.now) language.entry) literal) }
+        IsLiteralOf form.now datatype (option_map (λ l. l.now) language.entry) literal) }
     ensures bad { IfErr result (λ f. f ≢ TokenFault.Memory →
-        DenotesNone form.now datatype (option_map (λ l. l.now) language.entry) f) }
+        IsNoLiteral form.now datatype (option_map (λ l. l.now) language.entry) f) }
 {
     let language = language.map(|text| text.as_str());
     match Literal::of(alloc, form.as_str(), datatype, language) {

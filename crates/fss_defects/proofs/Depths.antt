@@ -18,7 +18,7 @@ use Rattle.owl_tree.specs.Ontologies.{OntologyName}
 use Rattle.owl_tree.specs.Rows.{Leaf, Node, Row, row_of}
 use Rattle.owl_tree.specs.Trees.{Tree, depth, kids_of, leaf, most_depth}
 use Rattle.fss_terms.specs.Functional.{IsWithinLimits}
-use Rattle.fss_grammar.specs.Making.{Adds, Begins, BeginsLeaf, Declares, Document, Kept, Maker, MakesHeld, MakesLiteral, Performs, Shuts, Versions, add_annotation, add_axiom, import_iri, name_ontology, put_in}
+use Rattle.fss_grammar.specs.Making.{Adds, BeginsConstruct, BeginsLeaf, Declares, Document, Kept, Maker, MakesHeld, MakesLiteral, Performs, Shuts, Versions, add_annotation, add_axiom, import_iri, name_ontology, put_in}
 use Rattle.fss_grammar.specs.Making.Kept.{iri, item, prefix, string}
 use Rattle.fss_grammar.specs.Meaning.{between}
 use Rattle.fss_grammar.specs.declared.acts.Act.{Act}
@@ -105,7 +105,7 @@ leaf_within p t atom.Iri next m n d h = deep_as _ n (put_within m.frames _ m d) 
 leaf_within p t atom.Label next m n d h = deep_as _ n (put_within m.frames _ m d) h.2
 leaf_within p t atom.Number next m n d h = deep_as _ n (put_within m.frames _ m d) h.2
 
-begin_within : (p : List Prefix) (t : Tag) (row : Row) (next : Option Token) (m n : Maker) → deepest < depth_with 0 m.frames → Begins p t row next m n → IsTooDeep n
+begin_within : (p : List Prefix) (t : Tag) (row : Row) (next : Option Token) (m n : Maker) → deepest < depth_with 0 m.frames → BeginsConstruct p t row next m n → IsTooDeep n
 begin_within p t (Leaf sort) next m n d h = leaf_within p t sort next m n d h
 begin_within p t (Node front rest) next m n d h =
     let e = deeper 0 1 m.frames (omega arith) in
@@ -231,7 +231,7 @@ full_leaf p t atom.Iri next m n d h = deep_as _ n (put_leaf m.frames t h.0 m d) 
 full_leaf p t atom.Label next m n d h = deep_as _ n (put_leaf m.frames t h.0 m d) h.2
 full_leaf p t atom.Number next m n d h = deep_as _ n (put_leaf m.frames t h.0 m d) h.2
 
-pub full_begins : (p : List Prefix) (t : Tag) (row : Row) (next : Option Token) (m n : Maker) → deepest ≤ length m.frames → Begins p t row next m n → IsTooDeep n
+pub full_begins : (p : List Prefix) (t : Tag) (row : Row) (next : Option Token) (m n : Maker) → deepest ≤ length m.frames → BeginsConstruct p t row next m n → IsTooDeep n
 full_begins p t (Leaf sort) next m n d h = full_leaf p t sort next m n d h
 full_begins p t (Node front rest) next m n d h = open_full t m n d h
 

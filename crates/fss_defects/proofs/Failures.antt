@@ -21,7 +21,7 @@ use Rattle.fss_terms.specs.Functional.{AreDeclarable, IsWithinLimits, PrefixDecl
 use Rattle.fss_terms.specs.Terms.{iri_of_token}
 use Rattle.fss_grammar.specs.ActLaws.{same_act}
 use Rattle.fss_grammar.specs.Doing.{Acts, prefixes_behind}
-use Rattle.fss_grammar.specs.Making.{Adds, Begins, Comes, ComesAtom, Declares, Document, Maker, MakesLiteral, Performs, Shuts, add_annotation, add_axiom, declare, next_token}
+use Rattle.fss_grammar.specs.Making.{Adds, BeginsConstruct, Comes, ComesAtom, Declares, Document, Maker, MakesLiteral, Performs, Shuts, add_annotation, add_axiom, declare, next_token}
 use Rattle.fss_grammar.specs.Making.Kept.{prefix}
 use Rattle.fss_grammar.specs.Meaning.{Events, between}
 use Rattle.fss_grammar.specs.OneWayLaws.{acts_one_way}
@@ -77,7 +77,7 @@ module _ (document : Document) (declarable : AreDeclarable document.declarations
       let light = limits.weight in
       omega (arith, heavy, light)
 
-  fails_leaf : (es : Events) (p : List Prefix) (t : Tag) (row : Row) (next : Option Token) (m n : Maker) (f : TokenFault) → FailsLeaf row next m f → Begins p t row next m n → Runs es n (between document) → ⊥
+  fails_leaf : (es : Events) (p : List Prefix) (t : Tag) (row : Row) (next : Option Token) (m n : Maker) (f : TokenFault) → FailsLeaf row next m f → BeginsConstruct p t row next m n → Runs es n (between document) → ⊥
   fails_leaf es p t (Leaf atom.Number) next m n f (inl h) k r = too_deep es n r (full_begins p t (Leaf atom.Number) next m n h.1 k)
   fails_leaf es p t (Leaf atom.Number) next m n f (inr h) k r = too_large p next k.0 h.2 k.1
   fails_leaf es p t (Leaf atom.Iri) next m n f h k r = too_deep es n r (full_begins p t (Leaf atom.Iri) next m n h.1 k)

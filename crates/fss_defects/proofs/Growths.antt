@@ -10,7 +10,7 @@ use Rattle.owl_tree.specs.Frames.{Frame}
 use Rattle.owl_tree.specs.Ontologies.{OntologyName}
 use Rattle.owl_tree.specs.Rows.{Leaf, Node, Row, row_of}
 use Rattle.owl_tree.specs.Trees.{Tree}
-use Rattle.fss_grammar.specs.Making.{Adds, Begins, BeginsLeaf, Declares, Document, Kept, Maker, MakesHeld, MakesLiteral, Performs, Shuts, Versions, add_annotation, add_axiom, import_iri, name_ontology, put_in}
+use Rattle.fss_grammar.specs.Making.{Adds, BeginsConstruct, BeginsLeaf, Declares, Document, Kept, Maker, MakesHeld, MakesLiteral, Performs, Shuts, Versions, add_annotation, add_axiom, import_iri, name_ontology, put_in}
 use Rattle.fss_grammar.specs.Making.Kept.{iri, item, prefix, string}
 use Rattle.fss_grammar.specs.declared.acts.Act.{Act}
 use Rattle.fss_grammar.specs.declared.acts.Act.TheVariants.{AddAnnotation, AddAxiom, Begin, DeclareIri, DeclareName, EndItem, HeldDatatype, HeldProperty, Hold, ImportIri, OntologyIri, Plain, Shut, Tagged, Typed, VersionIri}
@@ -50,7 +50,7 @@ leaf_grows p t atom.Iri next m n h = put_grows m.frames _ m n h.2
 leaf_grows p t atom.Label next m n h = put_grows m.frames _ m n h.2
 leaf_grows p t atom.Number next m n h = put_grows m.frames _ m n h.2
 
-begins_grows : (p : List Prefix) (t : Tag) (row : Row) (next : Option Token) (m n : Maker) → Begins p t row next m n → Grows m.document n.document
+begins_grows : (p : List Prefix) (t : Tag) (row : Row) (next : Option Token) (m n : Maker) → BeginsConstruct p t row next m n → Grows m.document n.document
 begins_grows p t (Leaf sort) next m n h = leaf_grows p t sort next m n h
 begins_grows p t (Node front rest) next m n h = grows_as m n _ (stays m.document) h
 

@@ -25,7 +25,7 @@ use Rattle.fss_grammar.specs.ActLaws.{same_act}
 use Rattle.fss_grammar.specs.Classes.{class_of}
 use Rattle.fss_grammar.specs.DeclaringLaws.{declares}
 use Rattle.fss_grammar.specs.Doing.{prefixes_behind}
-use Rattle.fss_grammar.specs.Making.{Begins, Comes, ComesAtom, Declares, Kept, Maker, Performs, next_token}
+use Rattle.fss_grammar.specs.Making.{BeginsConstruct, Comes, ComesAtom, Declares, Kept, Maker, Performs, next_token}
 use Rattle.fss_grammar.specs.Making.Kept.{prefix}
 use Rattle.fss_grammar.specs.Meaning.{Events}
 use Rattle.fss_grammar.specs.OneTableLaws.{Keeps, performs_keeps}
@@ -59,7 +59,7 @@ no_iri_leaf p next (Iri i) u it =
     no_iri p next i u (record { name = it.written; comes = it.comes; stands = ap (iri_of_token p) same ∙ it.stands.2 })
 no_iri_leaf p next _ u it = absurd (false≢true it.sort_is)
 
-no_begin : (p : List Prefix) (t : Tag) (row : Row) (next : Option Token) (m n : Maker) → holds_iri row ≡ true → ComesUnusable p next → Begins p t row next m n → ⊥
+no_begin : (p : List Prefix) (t : Tag) (row : Row) (next : Option Token) (m n : Maker) → holds_iri row ≡ true → ComesUnusable p next → BeginsConstruct p t row next m n → ⊥
 no_begin p t (Leaf atom.Iri) next m n e u h = no_iri_leaf p next h.0 u h.1
 no_begin p t _ next m n e u h = absurd (false≢true e)
 

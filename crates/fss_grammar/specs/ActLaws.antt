@@ -7,7 +7,7 @@ use Rattle.owl_tree.specs.declared.tag.Tag.TheVariants as tag
 use Rattle.owl_tree.specs.Rows.{Row, row_of}
 use Rattle.owl_tree.specs.Tags.{all_tags, number_of}
 use Rattle.fss_grammar.specs.Acts.{act_number}
-use Rattle.fss_grammar.specs.Making.{Begins, DoneThen, Maker, Performs}
+use Rattle.fss_grammar.specs.Making.{BeginsConstruct, DoneThen, Maker, Performs}
 use Rattle.fss_grammar.specs.declared.acts.Act.{Act}
 use Rattle.fss_grammar.specs.declared.acts.Act.TheVariants.{AddAnnotation, AddAxiom, Begin, DeclareIri, DeclareName, EndItem, HeldDatatype, HeldProperty, Hold, ImportIri, OntologyIri, Plain, Shut, Tagged, Typed, VersionIri}
 
@@ -33,8 +33,8 @@ pub done_by : {p : List Prefix} (a : Act) {next : Option Token} {m : Maker} {The
 done_by a middle h l = record { act = a; number_is = refl; middle = middle; performs = h; later = l }
 
 -- a tag begins by its row
-pub begun : (p : List Prefix) (t : Tag) {row : Row} (next : Option Token) (m n : Maker) → row_of t ≡ row → Performs p (Begin t) next m n → Begins p t row next m n
-begun p t next m n e h = subst (λ row. Begins p t row next m n) e h
+pub begun : (p : List Prefix) (t : Tag) {row : Row} (next : Option Token) (m n : Maker) → row_of t ≡ row → Performs p (Begin t) next m n → BeginsConstruct p t row next m n
+begun p t next m n e h = subst (λ row. BeginsConstruct p t row next m n) e h
 
-pub begin : (p : List Prefix) (t : Tag) {row : Row} (next : Option Token) (m n : Maker) → row_of t ≡ row → Begins p t row next m n → Performs p (Begin t) next m n
-begin p t next m n e h = subst (λ row. Begins p t row next m n) (sym e) h
+pub begin : (p : List Prefix) (t : Tag) {row : Row} (next : Option Token) (m n : Maker) → row_of t ≡ row → BeginsConstruct p t row next m n → Performs p (Begin t) next m n
+begin p t next m n e h = subst (λ row. BeginsConstruct p t row next m n) (sym e) h

@@ -17,7 +17,7 @@ use Rattle.fss_terms.specs.Functional.{IsTableOf, PrefixDeclaration, declaration
 use Rattle.fss_terms.specs.Terms.{BeginsAtom, BeginsLiteral, iri_of_token}
 use Rattle.fss_terms.specs.Terms.BeginsLiteral.{plain, tagged, typed}
 use Rattle.fss_grammar.specs.Doing.{Acts, prefix_of, prefixes_behind}
-use Rattle.fss_grammar.specs.Making.{Begins, BeginsLeaf, Comes, ComesAtom, Maker, Performs}
+use Rattle.fss_grammar.specs.Making.{BeginsConstruct, BeginsLeaf, Comes, ComesAtom, Maker, Performs}
 use Rattle.fss_grammar.specs.declared.acts.Act.{Act}
 use Rattle.fss_grammar.specs.declared.acts.Act.TheVariants.{Begin, Hold, ImportIri, OntologyIri, Typed, VersionIri}
 
@@ -60,7 +60,7 @@ leaf_alike p q t atom.Iri next m n same h = (h.0, comes_atom_alike p q next atom
 leaf_alike p q t atom.Label next m n same h = (h.0, comes_atom_alike p q next atom.Label h.0 same h.1, h.2)
 leaf_alike p q t atom.Number next m n same h = (h.0, comes_atom_alike p q next atom.Number h.0 same h.1, h.2)
 
-begins_alike : (p q : List Prefix) (t : Tag) (row : Row) (next : Option Token) (m n : Maker) → AgreeAt p q next → Begins p t row next m n → Begins q t row next m n
+begins_alike : (p q : List Prefix) (t : Tag) (row : Row) (next : Option Token) (m n : Maker) → AgreeAt p q next → BeginsConstruct p t row next m n → BeginsConstruct q t row next m n
 begins_alike p q t (Leaf sort) next m n same h = leaf_alike p q t sort next m n same h
 begins_alike p q t (Node front rest) next m n same h = h
 

@@ -103,9 +103,9 @@ abbrev pub BeginsLeaf : List Prefix → Tag → AtomSort → Option Token → Ma
 BeginsLeaf prefixes t atom.Literal next m n = (form : List ℕ) × (next ≡ Some (token.Str form)) × (n ≡ record m { kept = string t form })
 BeginsLeaf prefixes t sort next m n = (a : Atom) × ComesAtom prefixes next sort a × (n ≡ put (leaf t a) m)
 
-abbrev pub Begins : List Prefix → Tag → Row → Option Token → Maker → Maker → Type 0
-Begins prefixes t (Leaf sort) next m n = BeginsLeaf prefixes t sort next m n
-Begins prefixes t (Node front rest) next m n = n ≡ record m { frames = opened t m.frames }
+abbrev pub BeginsConstruct : List Prefix → Tag → Row → Option Token → Maker → Maker → Type 0
+BeginsConstruct prefixes t (Leaf sort) next m n = BeginsLeaf prefixes t sort next m n
+BeginsConstruct prefixes t (Node front rest) next m n = n ≡ record m { frames = opened t m.frames }
 
 -- the innermost construct ends; a HasKey has a property (section 9.5)
 abbrev pub Shuts : List Frame → Maker → Maker → Type 0
@@ -138,7 +138,7 @@ Adds _ add m n = ⊥
 
 -- What an act makes of the maker, where this token comes behind it, and names stand for IRIs by these prefixes.
 abbrev pub Performs : List Prefix → Act → Option Token → Maker → Maker → Type 0
-Performs prefixes (Begin t) next m n = Begins prefixes t (row_of t) next m n
+Performs prefixes (Begin t) next m n = BeginsConstruct prefixes t (row_of t) next m n
 Performs prefixes Shut next m n = Shuts m.frames m n
 Performs prefixes Plain next m n = MakesLiteral m.kept None None m n
 Performs prefixes Tagged next m n = (language : List ℕ) × (next ≡ Some (token.At language)) × MakesLiteral m.kept None (Some language) m n

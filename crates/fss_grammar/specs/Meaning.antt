@@ -121,8 +121,8 @@ pub record Read (p : List Prefix) {A : Type 0} (Good : A → Type 0) (spell : A 
   pub spelled : (us : List Token) (more : List Term) → AreTerms p us more → AreTerms p (xs ++ us) (spell value more)
   pub runs : Runs p fs (between (made value)) n
 
-abbrev pub Reads : List Prefix → {A : Type 0} → (A → Type 0) → (A → List Term → List Term) → (A → Document → Document) → List Token → Events → Type 0
-Reads p Good spell add xs es = (fs : Events) (d : Document) (n : Maker) → Runs p (es ++ fs) (between d) n → Read p Good spell (λ a. add a d) xs fs n
+abbrev pub IsReadAs : List Prefix → {A : Type 0} → (A → Type 0) → (A → List Term → List Term) → (A → Document → Document) → List Token → Events → Type 0
+IsReadAs p Good spell add xs es = (fs : Events) (d : Document) (n : Maker) → Runs p (es ++ fs) (between d) n → Read p Good spell (λ a. add a d) xs fs n
 
 -- many of them, each added in turn
 abbrev pub all_added : {A : Type 0} → (A → Document → Document) → List A → Document → Document
@@ -130,10 +130,10 @@ all_added add [] d = d
 all_added add (a ∷ others) d = all_added add others (add a d)
 
 abbrev pub ReadsOne : List Prefix → {A : Type 0} → (A → Type 0) → (A → List Term) → (A → Document → Document) → List Token → Events → Type 0
-ReadsOne p Good terms add xs es = Reads p Good (λ a more. terms a ++ more) add xs es
+ReadsOne p Good terms add xs es = IsReadAs p Good (λ a more. terms a ++ more) add xs es
 
 abbrev pub ReadsMany : List Prefix → {A : Type 0} → (A → Type 0) → (A → List Term) → (A → Document → Document) → List Token → Events → Type 0
-ReadsMany p Good terms add xs es = Reads p (AllByRecursion Good) (λ all more. flat_map terms all ++ more) (all_added add) xs es
+ReadsMany p Good terms add xs es = IsReadAs p (AllByRecursion Good) (λ all more. flat_map terms all ++ more) (all_added add) xs es
 
 abbrev pub naming : OntologyName → Document → Document
 naming name d = (name_ontology name (between d)).document
@@ -183,7 +183,7 @@ pub record ReadDocument (p : List Prefix) (xs : List Token) (n : Maker) : Type 0
 abbrev pub RuleMeans : List Prefix → Rule → List Token → Events → Type 0
 RuleMeans p document xs es = (n : Maker) → Runs p es beginning n → ReadDocument p xs n
 RuleMeans p prefixes xs es = (fs : Events) (d : Document) (n : Maker) → Runs p (es ++ fs) (between d) n → ReadDeclarations p xs d fs n
-RuleMeans p header xs es = Reads p IsNamed (λ name more. name_terms name ++ more) naming_if xs es
+RuleMeans p header xs es = IsReadAs p IsNamed (λ name more. name_terms name ++ more) naming_if xs es
 RuleMeans p version xs es = ReadsVersion p xs es
 RuleMeans p imports xs es = ReadsMany p IsIri import_terms importing xs es
 RuleMeans p annotations xs es = ReadsMany p IsWrittenAnnotation item_terms annotating xs es

@@ -21,7 +21,7 @@ use Rattle.fss_grammar.specs.Acts.{act_number}
 use Rattle.fss_grammar.specs.Classes.{class_of}
 use Rattle.fss_grammar.specs.DeclaringLaws.{DeclareFirst, DeclareNothing, declares, derivations_declare_first, is_of_declaration}
 use Rattle.fss_grammar.specs.Doing.{Does, prefixes_behind}
-use Rattle.fss_grammar.specs.Making.{Adds, Begins, BeginsLeaf, Kept, Maker, Makes, MakesHeld, MakesLiteral, Performs, Runs, Shuts, Versions, add_annotation, add_axiom, beginning, next_token, put_in}
+use Rattle.fss_grammar.specs.Making.{Adds, BeginsConstruct, BeginsLeaf, Kept, Maker, Makes, MakesHeld, MakesLiteral, Performs, Runs, Shuts, Versions, add_annotation, add_axiom, beginning, next_token, put_in}
 use Rattle.fss_grammar.specs.Making.Kept.{iri, item, string}
 use Rattle.fss_grammar.specs.Meaning.{Events, between}
 use Rattle.fss_grammar.specs.Table.{functional}
@@ -47,7 +47,7 @@ leaf_keeps p t atom.Iri next m n h = kept_as m n _ (put_keeps m.frames _ m) h.2
 leaf_keeps p t atom.Label next m n h = kept_as m n _ (put_keeps m.frames _ m) h.2
 leaf_keeps p t atom.Number next m n h = kept_as m n _ (put_keeps m.frames _ m) h.2
 
-begins_keeps : (p : List Prefix) (t : Tag) (row : Row) (next : Option Token) (m n : Maker) → Begins p t row next m n → Keeps m n
+begins_keeps : (p : List Prefix) (t : Tag) (row : Row) (next : Option Token) (m n : Maker) → BeginsConstruct p t row next m n → Keeps m n
 begins_keeps p t (Leaf sort) next m n h = leaf_keeps p t sort next m n h
 begins_keeps p t (Node front rest) next m n h = kept_as m n _ refl h
 

@@ -21,7 +21,7 @@ use Rattle.fss_terms.specs.Terms.{iri_of_token}
 use Rattle.fss_grammar.specs.ActLaws.{same_act}
 use Rattle.fss_grammar.specs.Doing.{Does, prefixes_behind}
 use Rattle.fss_grammar.specs.FormLaws.{one_denoted}
-use Rattle.fss_grammar.specs.Making.{Adds, Begins, BeginsLeaf, Comes, ComesAtom, Declares, DoneThen, Kept, Maker, MakesHeld, MakesLiteral, Performs, Shuts, Versions, add_annotation, add_axiom, declare, import_iri, name_ontology, next_token, put}
+use Rattle.fss_grammar.specs.Making.{Adds, BeginsConstruct, BeginsLeaf, Comes, ComesAtom, Declares, DoneThen, Kept, Maker, MakesHeld, MakesLiteral, Performs, Shuts, Versions, add_annotation, add_axiom, declare, import_iri, name_ontology, next_token, put}
 use Rattle.fss_grammar.specs.Making.Kept.{iri, item, prefix, string}
 use Rattle.fss_grammar.specs.Meaning.{Events}
 use Rattle.fss_grammar.specs.declared.acts.Act.{Act}
@@ -79,7 +79,7 @@ leaf_one_way p t atom.Iri next m n k h i = atom_one_way p t atom.Iri next m n k 
 leaf_one_way p t atom.Label next m n k h i = atom_one_way p t atom.Label next m n k (λ e. cc) h i
 leaf_one_way p t atom.Number next m n k h i = atom_one_way p t atom.Number next m n k (λ e. cc) h i
 
-begins_one_way : (p : List Prefix) (t : Tag) (row : Row) (next : Option Token) (m n k : Maker) → Begins p t row next m n → Begins p t row next m k → n ≡ k
+begins_one_way : (p : List Prefix) (t : Tag) (row : Row) (next : Option Token) (m n k : Maker) → BeginsConstruct p t row next m n → BeginsConstruct p t row next m k → n ≡ k
 begins_one_way p t (Leaf sort) next m n k h i = leaf_one_way p t sort next m n k h i
 begins_one_way p t (Node front rest) next m n k h i = h ∙ sym i
 

@@ -15,7 +15,7 @@ use Rattle.owl_tree.specs.Ontologies.{OntologyName}
 use Rattle.owl_tree.specs.Rows.{Row, Leaf, Node, row_of}
 use Rattle.owl_tree.specs.Trees.{Tree, tag_of}
 use Rattle.fss_grammar.specs.Acts.{act_number}
-use Rattle.fss_grammar.specs.Making.{Adds, Begins, BeginsLeaf, Declares, Kept, Maker, MakesHeld, MakesLiteral, Performs, Shuts, Versions, add_annotation, add_axiom, beginning, put}
+use Rattle.fss_grammar.specs.Making.{Adds, BeginsConstruct, BeginsLeaf, Declares, Kept, Maker, MakesHeld, MakesLiteral, Performs, Shuts, Versions, add_annotation, add_axiom, beginning, put}
 use Rattle.fss_grammar.specs.Making.Kept.{iri, item, prefix, string}
 use Rattle.fss_grammar.specs.Outlines.{LeadsTo, Naming, Outline, Resembles, frame_outline, kept_outline, literal_by, opened_by, outline_behind, outline_of, put_tag, shut_by}
 use Rattle.fss_grammar.specs.Outlines.{KeptOutline as outline}
@@ -42,7 +42,7 @@ leaf_looks p t atom.Iri next m n h = looks_put _ m n h.2
 leaf_looks p t atom.Label next m n h = looks_put _ m n h.2
 leaf_looks p t atom.Number next m n h = looks_put _ m n h.2
 
-begun_looks : (p : List Prefix) (t : Tag) (row : Row) (next : Option Token) (m n : Maker) → Begins p t row next m n → outline_of n ≡ opened_by t row (outline_of m)
+begun_looks : (p : List Prefix) (t : Tag) (row : Row) (next : Option Token) (m n : Maker) → BeginsConstruct p t row next m n → outline_of n ≡ opened_by t row (outline_of m)
 begun_looks p t (Leaf c) next m n h = leaf_looks p t c next m n h
 begun_looks p t (Node front rest) next m n h = ap outline_of h
 

@@ -13,8 +13,8 @@ use Rattle.owl_lexer.specs.Automata.{Automaton, kind_at}
 use Rattle.owl_lexer.specs.Hands.{AreRun, IsFrontOf, IsReady}
 use Rattle.owl_lexer.specs.Holding.{IsFront, LeadsTo}
 use Rattle.owl_lexer.specs.HoldingLaws.{front_all, front_more, leads_on, none_more}
-use Rattle.owl_lexer.specs.Languages.{IsLanguage, Says}
-use Rattle.owl_lexer.specs.Languages.Says.{token, space, comment}
+use Rattle.owl_lexer.specs.Languages.{IsLanguage, IsLexemeWith}
+use Rattle.owl_lexer.specs.Languages.IsLexemeWith.{token, space, comment}
 use Rattle.owl_lexer.specs.declared.hand.Front.{Front}
 use Rattle.owl_lexer.specs.declared.hand.Hand.{Hand}
 
@@ -73,7 +73,7 @@ pub record Remembers (a : Automaton) (old mid : Hand) (next : ℕ) : Type 0 wher
 
 -- what is held is a lexeme
 
-no_lexeme : {T : Type 0} (spells : T → List ℕ → Type 0) (value : Option T) → ((t : T) (cs : List ℕ) → spells t cs → 0 < length cs) → Says spells value [] → ⊥
+no_lexeme : {T : Type 0} (spells : T → List ℕ → Type 0) (value : Option T) → ((t : T) (cs : List ℕ) → spells t cs → 0 < length cs) → IsLexemeWith spells value [] → ⊥
 no_lexeme spells value some (token t v h) = let none : 0 < length {A = ℕ} [] = some t [] h in absurd (omega arith)
 no_lexeme spells value some (space v h) = h
 no_lexeme spells value some (comment v h) = h

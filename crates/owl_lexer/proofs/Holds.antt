@@ -13,8 +13,8 @@ use Rattle.owl_characters.specs.Utf8Laws.{size_append}
 use Rattle.owl_lexer.specs.Automata.{Automaton, run}
 use Rattle.owl_lexer.specs.BytesLaws.{no_whole}
 use Rattle.owl_lexer.specs.HoldingLaws.{front_of_front, run-append, run-none}
-use Rattle.owl_lexer.specs.Languages.{BeginsNoGap, IsLanguage, IsPrompt, Says}
-use Rattle.owl_lexer.specs.Languages.Says.{token, space, comment}
+use Rattle.owl_lexer.specs.Languages.{BeginsNoGap, IsLanguage, IsPrompt, IsLexemeWith}
+use Rattle.owl_lexer.specs.Languages.IsLexemeWith.{token, space, comment}
 use Rattle.owl_lexer.specs.Lexing.{HoldsNoEnd, HoldsNone, OneEnds, SplitsBehind}
 use Rattle.owl_lexer.specs.LexingLaws.{all_decoded}
 use Rattle.owl_lexer.specs.Sources.{IsOpen, IsPart, bytes_in}
@@ -74,7 +74,7 @@ all_last p [] c h = h.0
 all_last p (d ∷ cs) c h = all_last p cs c h.1
 
 -- a gap with the character behind it is no lexeme
-gap_ends : {T : Type 0} (spells : T → List ℕ → Type 0) (value : Option T) (d : ℕ) (gap rest : List ℕ) (c : ℕ) (more : List ℕ) → ((t : T) (cs : List ℕ) → spells t cs → BeginsNoGap cs) → rest ≡ c ∷ more → is_space c ≡ false → IsGap (d ∷ gap) rest → Says spells value (d ∷ (gap ++ c ∷ [])) → ⊥
+gap_ends : {T : Type 0} (spells : T → List ℕ → Type 0) (value : Option T) (d : ℕ) (gap rest : List ℕ) (c : ℕ) (more : List ℕ) → ((t : T) (cs : List ℕ) → spells t cs → BeginsNoGap cs) → rest ≡ c ∷ more → is_space c ≡ false → IsGap (d ∷ gap) rest → IsLexemeWith spells value (d ∷ (gap ++ c ∷ [])) → ⊥
 gap_ends spells value d gap rest c more n e s (inl g) (token t v h) = both_ways (is_space d) (n t (d ∷ (gap ++ c ∷ [])) h).0 g.0
 gap_ends spells value d gap rest c more n e s (inr g) (token t v h) = both_ways (is_comment_start d) (n t (d ∷ (gap ++ c ∷ [])) h).1 g.0
 gap_ends spells value d gap rest c more n e s g (space v h) = both_ways (is_space c) s (all_last is_space (d ∷ gap) c h)

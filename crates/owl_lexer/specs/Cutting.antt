@@ -29,7 +29,7 @@ Stops grammar place [] (b ∷ tail) ending = ending ≡ Some (BadUtf8 place)
 Stops grammar place (c ∷ cs) tail ending = BeginsNone grammar (c ∷ cs) × (ending ≡ Some (BadToken place))
 
 -- The lexeme stands first, at this byte, and the rest behind it.
-pub record Begins (grammar : ℕ → List ℕ → Type 0) (place : ℕ) (cs : List ℕ) (first : Lexeme) (rest : List ℕ) : Type 0 where
+pub record CutsFirst (grammar : ℕ → List ℕ → Type 0) (place : ℕ) (cs : List ℕ) (first : Lexeme) (rest : List ℕ) : Type 0 where
   pub parts : cs ≡ first.spelling ++ rest
   pub at : first.at ≡ place
   pub stands : Stands grammar first.kind first.spelling rest
@@ -39,4 +39,4 @@ pub record Begins (grammar : ℕ → List ℕ → Type 0) (place : ℕ) (cs : Li
 abbrev pub Cuts : (ℕ → List ℕ → Type 0) → ℕ → List ℕ → List ℕ → List Lexeme → Option LexFault → Type 0
 Cuts grammar place cs tail [] ending = Stops grammar place cs tail ending
 Cuts grammar place cs tail (first ∷ others) ending =
-    (rest : List ℕ) × Begins grammar place cs first rest × Cuts grammar (place + size first.spelling) rest tail others ending
+    (rest : List ℕ) × CutsFirst grammar place cs first rest × Cuts grammar (place + size first.spelling) rest tail others ending

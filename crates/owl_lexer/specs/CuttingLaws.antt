@@ -4,7 +4,7 @@ use Rattle.owl_characters.specs.Utf8.{size}
 use Rattle.owl_characters.specs.CutLaws.{SameSeam, same_seam}
 use Rattle.owl_lexer.specs.declared.fault.LexFault.{LexFault}
 use Rattle.owl_lexer.specs.Automata.{Automaton, Spells}
-use Rattle.owl_lexer.specs.Cutting.{Begins, Cuts, Lexeme, Stops}
+use Rattle.owl_lexer.specs.Cutting.{CutsFirst, Cuts, Lexeme, Stops}
 
 -- no characters are lexemes of two kinds
 abbrev pub AreApart : (ℕ → List ℕ → Type 0) → Type 0
@@ -27,7 +27,7 @@ pub record SameFirst (x y : Lexeme) (r s : List ℕ) : Type 0 where
 same_lexeme : (x y : Lexeme) → x.kind ≡ y.kind → x.spelling ≡ y.spelling → x.at ≡ y.at → x ≡ y
 same_lexeme x y e f g = λ i. record { kind = e i; spelling = f i; at = g i }
 
-pub same_first : (grammar : ℕ → List ℕ → Type 0) → AreApart grammar → (place : ℕ) (cs : List ℕ) (x y : Lexeme) (r s : List ℕ) → Begins grammar place cs x r → Begins grammar place cs y s → SameFirst x y r s
+pub same_first : (grammar : ℕ → List ℕ → Type 0) → AreApart grammar → (place : ℕ) (cs : List ℕ) (x y : Lexeme) (r s : List ℕ) → CutsFirst grammar place cs x r → CutsFirst grammar place cs y s → SameFirst x y r s
 same_first grammar apart place cs x y r s h k =
     let e : x.spelling ++ r ≡ y.spelling ++ s = sym h.parts ∙ k.parts in
     let one = h.stands.longest y.kind y.spelling s k.stands.spelled e in
@@ -37,7 +37,7 @@ same_first grammar apart place cs x y r s h k =
     record { first = same_lexeme x y kinds seam.front (h.at ∙ sym k.at); rest = seam.rest }
 
 -- where a lexeme begins, it does not stop
-begins_no_stop : (grammar : ℕ → List ℕ → Type 0) (place : ℕ) (cs tail : List ℕ) (x : Lexeme) (r : List ℕ) (e : Option LexFault) → Begins grammar place cs x r → Stops grammar place cs tail e → ⊥
+begins_no_stop : (grammar : ℕ → List ℕ → Type 0) (place : ℕ) (cs tail : List ℕ) (x : Lexeme) (r : List ℕ) (e : Option LexFault) → CutsFirst grammar place cs x r → Stops grammar place cs tail e → ⊥
 begins_no_stop grammar place [] tail x r e h k =
     let sizes : length x.spelling ≤ 0 = none_in x.spelling r h.parts in
     let some = h.stands.some in absurd (omega arith)
@@ -73,7 +73,7 @@ pub record CutBehind (grammar : ℕ → List ℕ → Type 0) (place : ℕ) (x : 
   pub is : xs ≡ x ∷ others
   pub cuts : Cuts grammar (place + size x.spelling) r tail others e
 
-pub cut_behind : (grammar : ℕ → List ℕ → Type 0) → AreApart grammar → (place : ℕ) (cs tail : List ℕ) (xs : List Lexeme) (e : Option LexFault) (x : Lexeme) (r : List ℕ) → Begins grammar place cs x r → Cuts grammar place cs tail xs e → CutBehind grammar place x r tail xs e
+pub cut_behind : (grammar : ℕ → List ℕ → Type 0) → AreApart grammar → (place : ℕ) (cs tail : List ℕ) (xs : List Lexeme) (e : Option LexFault) (x : Lexeme) (r : List ℕ) → CutsFirst grammar place cs x r → Cuts grammar place cs tail xs e → CutBehind grammar place x r tail xs e
 cut_behind grammar apart place cs tail [] e x r b h = absurd (begins_no_stop grammar place cs tail x r e b h)
 cut_behind grammar apart place cs tail (y ∷ ys) e x r b h =
     let first : SameFirst y x h.0 r = same_first grammar apart place cs y x h.0 r h.1 b in

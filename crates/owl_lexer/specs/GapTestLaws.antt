@@ -8,20 +8,20 @@ use Rattle.owl_characters.specs.Names.{IsRunOf}
 use Rattle.owl_lexer.specs.Automata.{Knows, Spells, kind_at, run, step_from}
 use Rattle.owl_lexer.specs.GapTests.{check_gaps, check_quiet, class_of, gap_starts, gaps_stay, is_gap_kind, is_in_gap, is_none, is_quiet, is_token_kind, row_is_quiet, row_stays, rows_are_quiet, space_classes, spaces, tokens_are_quiet, tokens_end}
 use Rattle.owl_lexer.specs.HoldingLaws.{run-append, run-none}
-use Rattle.owl_lexer.specs.Languages.{BeginsNoGap, IsCommentText, IsLanguage, IsPrompt, Says}
-use Rattle.owl_lexer.specs.Languages.Says.{token, space, comment}
+use Rattle.owl_lexer.specs.Languages.{BeginsNoGap, IsCommentText, IsLanguage, IsPrompt, IsLexemeWith}
+use Rattle.owl_lexer.specs.Languages.IsLexemeWith.{token, space, comment}
 use Rattle.owl_lexer.specs.Splitting.{is_comment_start, is_space}
 use Rattle.owl_lexer.specs.Tables.{Table, automaton_of, kind_in, kind_number, state_of, step_in}
 
 -- What the lexemes of a grammar stand for: tokens with their spellings, or gaps, whose kinds pass a test.
 pub record Stand {T : Type 0} (grammar : ℕ → List ℕ → Type 0) (gap : ℕ → Bool) (value : ℕ → List ℕ → Option T) (spells : T → List ℕ → Type 0) : Type 0 where
-  pub says : (kind : ℕ) (cs : List ℕ) → grammar kind cs → Says spells (value kind cs) cs
+  pub says : (kind : ℕ) (cs : List ℕ) → grammar kind cs → IsLexemeWith spells (value kind cs) cs
   pub token : (t : T) (cs : List ℕ) → spells t cs → (kind : ℕ) × grammar kind cs × (value kind cs ≡ Some t)
   pub space : (cs : List ℕ) → IsRunOf is_space cs → (kind : ℕ) × grammar kind cs
   pub comment : (cs : List ℕ) → IsCommentText cs → (kind : ℕ) × grammar kind cs
   pub none : (kind : ℕ) (cs : List ℕ) → gap kind ≡ true → value kind cs ≡ None
 
-says_token : {T : Type 0} → (spells : T → List ℕ → Type 0) (t : T) (cs : List ℕ) (value : Option T) → Says spells value cs → value ≡ Some t → spells t cs
+says_token : {T : Type 0} → (spells : T → List ℕ → Type 0) (t : T) (cs : List ℕ) (value : Option T) → IsLexemeWith spells value cs → value ≡ Some t → spells t cs
 says_token {T} spells t cs value (token u e h) v =
     let some : Some u ≡ Some t = sym e ∙ v in
     let same : u ≡ t = cc in

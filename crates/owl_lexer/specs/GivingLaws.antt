@@ -5,7 +5,7 @@ use Rattle.owl_characters.specs.Utf8.{size}
 use Rattle.owl_lexer.specs.declared.fault.LexFault.{LexFault}
 use Rattle.owl_lexer.specs.declared.fault.LexFault.TheVariants.{BadToken}
 use Rattle.owl_lexer.specs.Automata.{Automaton, Spells}
-use Rattle.owl_lexer.specs.Cutting.{Begins, BeginsNone, Cuts, Lexeme, Stops}
+use Rattle.owl_lexer.specs.Cutting.{CutsFirst, BeginsNone, Cuts, Lexeme, Stops}
 use Rattle.owl_lexer.specs.CuttingLaws.{SameCuts, automata_are_apart, cut_behind, same_cuts}
 use Rattle.owl_lexer.specs.Giving.{Begun, Continues, EndsAt, EndsLastAt, Gives, GivesLast, GivesSome, GivesSomeLast, end_of}
 use Rattle.owl_lexer.specs.Holding.{GoesNowhere, IsFront, LeadsTo, NoneBeyond}
@@ -76,7 +76,7 @@ front_of at held count kind = record { kind = kind; spelling = take count held; 
 abbrev pub behind_front : ℕ → List ℕ → ℕ → Begun
 behind_front at held count = record { at = at + size (take count held); held = [] }
 
-front_begins : (a : Automaton) (at : ℕ) (held : List ℕ) (state count kind : ℕ) (more : List ℕ) → LeadsTo a held state → IsFront a held count kind → GoesNowhere a state more → Begins (Spells a) at (held ++ more) (front_of at held count kind) (drop count held ++ more)
+front_begins : (a : Automaton) (at : ℕ) (held : List ℕ) (state count kind : ℕ) (more : List ℕ) → LeadsTo a held state → IsFront a held count kind → GoesNowhere a state more → CutsFirst (Spells a) at (held ++ more) (front_of at held count kind) (drop count held ++ more)
 front_begins a at held state count kind more h f g = record {
   parts = ap (λ (l : List ℕ). l ++ more) (sym (take-append-drop count held)) ∙ append_assoc (take count held) (drop count held) more;
   at = refl;

@@ -14,10 +14,10 @@ IsCommentText (c ∷ cs) = (c ≡ 35) × AllAre (λ d. not (is_line_end d)) cs
 
 -- What a lexeme of this value says of its characters: they are written for its token, or they are white space or a
 -- comment.
-pub data Says {T : Type 0} (spells : T → List ℕ → Type 0) (value : Option T) (cs : List ℕ) : Type 0 where
-  token : (t : T) → value ≡ Some t → spells t cs → Says spells value cs
-  space : value ≡ None → IsRunOf is_space cs → Says spells value cs
-  comment : value ≡ None → IsCommentText cs → Says spells value cs
+pub data IsLexemeWith {T : Type 0} (spells : T → List ℕ → Type 0) (value : Option T) (cs : List ℕ) : Type 0 where
+  token : (t : T) → value ≡ Some t → spells t cs → IsLexemeWith spells value cs
+  space : value ≡ None → IsRunOf is_space cs → IsLexemeWith spells value cs
+  comment : value ≡ None → IsCommentText cs → IsLexemeWith spells value cs
 
 -- the characters begin with neither white space nor a comment
 abbrev pub BeginsNoGap : List ℕ → Type 0
@@ -27,7 +27,7 @@ BeginsNoGap (c ∷ cs) = (is_space c ≡ false) × (is_comment_start c ≡ false
 -- The lexemes that the automaton knows, with the values of their kinds, are the tokens with their spellings, white space
 -- and comments. A spelling is not empty, begins with neither white space nor a comment, and white space ends it.
 pub record IsLanguage {T : Type 0} (a : Automaton) (value : ℕ → List ℕ → Option T) (spells : T → List ℕ → Type 0) : Type 0 where
-  pub says : (kind : ℕ) (cs : List ℕ) → Spells a kind cs → Says spells (value kind cs) cs
+  pub says : (kind : ℕ) (cs : List ℕ) → Spells a kind cs → IsLexemeWith spells (value kind cs) cs
   pub token : (t : T) (cs : List ℕ) → spells t cs → (kind : ℕ) × Spells a kind cs × (value kind cs ≡ Some t)
   pub space : (cs : List ℕ) → IsRunOf is_space cs → (kind : ℕ) × Spells a kind cs
   pub comment : (cs : List ℕ) → IsCommentText cs → (kind : ℕ) × Spells a kind cs

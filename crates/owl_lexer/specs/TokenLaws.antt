@@ -7,10 +7,10 @@ use Rattle.owl_characters.specs.AllAreLaws.{AllAre-append}
 use Rattle.owl_characters.specs.Utf8.{size}
 use Rattle.owl_lexer.specs.Adding.{placed_at, tokens_of}
 use Rattle.owl_lexer.specs.Automata.{Automaton, Spells}
-use Rattle.owl_lexer.specs.Cutting.{Begins, Cuts, Lexeme, Stands, Stops as LexemesStop}
+use Rattle.owl_lexer.specs.Cutting.{CutsFirst, Cuts, Lexeme, Stands, Stops as LexemesStop}
 use Rattle.owl_lexer.specs.GapLaws.{EndsLine, IsGapBefore, comment_before, spaces_before, splits_behind}
-use Rattle.owl_lexer.specs.Languages.{IsCommentText, IsLanguage, Says}
-use Rattle.owl_lexer.specs.Languages.Says.{token, space, comment}
+use Rattle.owl_lexer.specs.Languages.{IsCommentText, IsLanguage, IsLexemeWith}
+use Rattle.owl_lexer.specs.Languages.IsLexemeWith.{token, space, comment}
 use Rattle.owl_lexer.specs.OneWayLaws.{same_splits_from}
 use Rattle.owl_lexer.specs.Splitting.{BeginsToken, SplitsFrom, Stops, is_comment_start, is_line_end, is_space}
 use Rattle.owl_lexer.specs.TotalLaws.{cut}
@@ -35,7 +35,7 @@ here : (place : ℕ) → place ≡ place + size []
 here place = omega arith
 
 -- a lexeme that stands for a token begins one
-token_begins : {T : Type 0} → (a : Automaton) (value : ℕ → List ℕ → Option T) (spells : T → List ℕ → Type 0) → IsLanguage a value spells → (place : ℕ) (cs : List ℕ) (x : Lexeme) (rest : List ℕ) (t : T) → Begins (Spells a) place cs x rest → spells t x.spelling → BeginsToken spells place cs (record { token = t; at = x.at }) (place + size x.spelling) rest
+token_begins : {T : Type 0} → (a : Automaton) (value : ℕ → List ℕ → Option T) (spells : T → List ℕ → Type 0) → IsLanguage a value spells → (place : ℕ) (cs : List ℕ) (x : Lexeme) (rest : List ℕ) (t : T) → CutsFirst (Spells a) place cs x rest → spells t x.spelling → BeginsToken spells place cs (record { token = t; at = x.at }) (place + size x.spelling) rest
 token_begins a value spells l place cs x rest t b s = record {
   gap = [];
   spelling = x.spelling;
@@ -60,12 +60,12 @@ comment_ends_line a value spells l spelling (c ∷ cs) kind h s = true_from_ne_f
     let sizes : length (spelling ++ c ∷ []) ≡ length spelling + 1 = length-append spelling (c ∷ []) in
     omega arith)
 
-behind_gap : {T : Type 0} → (a : Automaton) (value : ℕ → List ℕ → Option T) (spells : T → List ℕ → Type 0) → IsLanguage a value spells → (place : ℕ) (cs tail : List ℕ) (x : Lexeme) (rest : List ℕ) (tokens : List (Placed T)) (e : Option LexFault) → Begins (Spells a) place cs x rest → value x.kind x.spelling ≡ None → IsGapBefore x.spelling rest → SplitsFrom spells (place + size x.spelling) rest tail tokens e → SplitsFrom spells place cs tail (placed_at x.at (value x.kind x.spelling) ++ tokens) e
+behind_gap : {T : Type 0} → (a : Automaton) (value : ℕ → List ℕ → Option T) (spells : T → List ℕ → Type 0) → IsLanguage a value spells → (place : ℕ) (cs tail : List ℕ) (x : Lexeme) (rest : List ℕ) (tokens : List (Placed T)) (e : Option LexFault) → CutsFirst (Spells a) place cs x rest → value x.kind x.spelling ≡ None → IsGapBefore x.spelling rest → SplitsFrom spells (place + size x.spelling) rest tail tokens e → SplitsFrom spells place cs tail (placed_at x.at (value x.kind x.spelling) ++ tokens) e
 behind_gap {T = T} a value spells l place cs tail x rest tokens e b v g o =
     subst (λ (t : Option T). SplitsFrom spells place cs tail (placed_at x.at t ++ tokens) e) (sym v)
     (subst (λ (c : List ℕ). SplitsFrom spells place c tail tokens e) (sym b.parts) (splits_behind a value spells l place x.spelling rest tail tokens e g o))
 
-one_more : {T : Type 0} → (a : Automaton) (value : ℕ → List ℕ → Option T) (spells : T → List ℕ → Type 0) → IsLanguage a value spells → (place : ℕ) (cs tail : List ℕ) (x : Lexeme) (rest : List ℕ) (tokens : List (Placed T)) (e : Option LexFault) → Begins (Spells a) place cs x rest → Says spells (value x.kind x.spelling) x.spelling → SplitsFrom spells (place + size x.spelling) rest tail tokens e → SplitsFrom spells place cs tail (placed_at x.at (value x.kind x.spelling) ++ tokens) e
+one_more : {T : Type 0} → (a : Automaton) (value : ℕ → List ℕ → Option T) (spells : T → List ℕ → Type 0) → IsLanguage a value spells → (place : ℕ) (cs tail : List ℕ) (x : Lexeme) (rest : List ℕ) (tokens : List (Placed T)) (e : Option LexFault) → CutsFirst (Spells a) place cs x rest → IsLexemeWith spells (value x.kind x.spelling) x.spelling → SplitsFrom spells (place + size x.spelling) rest tail tokens e → SplitsFrom spells place cs tail (placed_at x.at (value x.kind x.spelling) ++ tokens) e
 one_more {T = T} a value spells l place cs tail x rest tokens e b (token t v s) o =
     subst (λ (u : Option T). SplitsFrom spells place cs tail (placed_at x.at u ++ tokens) e) (sym v)
     (place + size x.spelling, rest, token_begins a value spells l place cs x rest t b s, o)

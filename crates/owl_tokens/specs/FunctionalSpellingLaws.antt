@@ -5,8 +5,8 @@ use Rattle.std.specs.Char.{is_ascii_digit}
 use Rattle.owl_lexer.specs.GapTestLaws.{Stand, spelled_exactly, table_is_language, table_is_prompt}
 use Rattle.owl_lexer.specs.GapTests.{check_gaps, check_quiet}
 use Rattle.owl_lexer.specs.Grammars.{IsLexeme, IsLexemeOf, Terminal, test_of}
-use Rattle.owl_lexer.specs.Languages.{IsLanguage, IsPrompt, Says}
-use Rattle.owl_lexer.specs.Languages.Says.{token}
+use Rattle.owl_lexer.specs.Languages.{IsLanguage, IsPrompt, IsLexemeWith}
+use Rattle.owl_lexer.specs.Languages.IsLexemeWith.{token}
 use Rattle.owl_lexer.specs.PatternLaws.{IsOne, each_is, mark_passes, matches_mark, matches_run, one_is, run_matches}
 use Rattle.owl_lexer.specs.Patterns.{Matches}
 use Rattle.owl_tokens.specs.CharacterLaws.{functional_tests}
@@ -36,15 +36,15 @@ equals_is : IsOne functional_test equals_mark (λ c. (61 == c) || false)
 unfolding functional_grammar
 equals_is = one_is functional_test 27 (λ c. (61 == c) || false) (λ c. each_is (codes "=") c)
 
-integer_says : (cs : List ℕ) → Matches functional_test non_negative_integer cs → Says Spells (value_of INT cs) cs
+integer_says : (cs : List ℕ) → Matches functional_test non_negative_integer cs → IsLexemeWith Spells (value_of INT cs) cs
 unfolding value_of
 integer_says cs m = token (Int cs) refl (run_matches functional_test digit is_ascii_digit digit_is cs m, refl)
 
-equals_says : (cs : List ℕ) → Matches functional_test equals_mark cs → Says Spells (value_of EQUALS cs) cs
+equals_says : (cs : List ℕ) → Matches functional_test equals_mark cs → IsLexemeWith Spells (value_of EQUALS cs) cs
 unfolding value_of sign_of
 equals_says cs m = token (Sign Equals) refl (mark_passes functional_test equals_mark 61 equals_is cs m)
 
-own_says : (kind : ℕ) (cs : List ℕ) → IsLexemeOf functional_test own_terminals kind cs → Says Spells (value_of kind cs) cs
+own_says : (kind : ℕ) (cs : List ℕ) → IsLexemeOf functional_test own_terminals kind cs → IsLexemeWith Spells (value_of kind cs) cs
 own_says kind cs (inl m) = says_as Spells cs INT kind m.0 (integer_says cs m.1)
 own_says kind cs (inr (inl m)) = says_as Spells cs EQUALS kind m.0 (equals_says cs m.1)
 own_says kind cs (inr (inr m)) = elim m [ ]

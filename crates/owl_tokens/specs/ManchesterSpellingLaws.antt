@@ -15,8 +15,8 @@ use Rattle.owl_lexer.specs.PatternLaws.{IsOne, behind_mark, each_is, mark_before
 use Rattle.owl_tokens.specs.SharedPatterns.{digit, dot, greater, hyphen, less}
 use Rattle.owl_lexer.specs.GapTestLaws.{Stand, spelled_exactly, table_is_language, table_is_prompt}
 use Rattle.owl_lexer.specs.GapTests.{check_gaps, check_quiet}
-use Rattle.owl_lexer.specs.Languages.{IsLanguage, IsPrompt, Says}
-use Rattle.owl_lexer.specs.Languages.Says.{token}
+use Rattle.owl_lexer.specs.Languages.{IsLanguage, IsPrompt, IsLexemeWith}
+use Rattle.owl_lexer.specs.Languages.IsLexemeWith.{token}
 use Rattle.owl_tokens.specs.ManchesterLaws.{manchester_knows}
 use Rattle.owl_tokens.specs.ManchesterTable.{manchester_automaton, manchester_table}
 use Rattle.owl_tokens.specs.SharedSpellingLaws.{IsLexemeFor, SpellsShared, is_gap, is_shared_mark, lexemes_stand}
@@ -150,7 +150,7 @@ two_pass p x h cs m =
     let b = behind_mark manchester_test p equals_mark x h cs m in
     b.is ∙ ap (λ (l : List ℕ). x ∷ l) (mark_passes manchester_test equals_mark 61 equals_is b.rest b.matches)
 
-own_says : (kind : ℕ) (cs : List ℕ) → IsLexemeOf manchester_test own_terminals kind cs → Says SpellsManchester (value_of kind cs) cs
+own_says : (kind : ℕ) (cs : List ℕ) → IsLexemeOf manchester_test own_terminals kind cs → IsLexemeWith SpellsManchester (value_of kind cs) cs
 unfolding value_of sign_of
 own_says kind cs (inl m) = token (Int cs) (ap (λ (k : ℕ). value_of k cs) (sym m.0)) (integer_matches cs m.1, refl)
 own_says kind cs (inr (inl m)) = token (Dec cs) (ap (λ (k : ℕ). value_of k cs) (sym m.0)) (decimal_matches cs m.1, refl)

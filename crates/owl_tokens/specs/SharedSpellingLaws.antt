@@ -6,8 +6,8 @@ use Rattle.std.proofs.lemmas.Bool.{eqb-true, or_cases}
 use Rattle.owl_lexer.specs.GapTestLaws.{Stand}
 use Rattle.owl_lexer.specs.Grammars.{IsLexemeOf, Terminal}
 use Rattle.owl_lexer.specs.Patterns.{Matches}
-use Rattle.owl_lexer.specs.Languages.{Says}
-use Rattle.owl_lexer.specs.Languages.Says.{token, space, comment as comment_text}
+use Rattle.owl_lexer.specs.Languages.{IsLexemeWith}
+use Rattle.owl_lexer.specs.Languages.IsLexemeWith.{token, space, comment as comment_text}
 use Rattle.owl_lexer.specs.Splitting.{is_line_end, is_space}
 use Rattle.owl_tokens.specs.Tokens.{Spells}
 use Rattle.owl_tokens.specs.AbbreviatedPatternLaws.{blank_matches, matches_abbreviated, matches_blank, name_matches, prefix_value, text_value}
@@ -45,14 +45,14 @@ SpellsShared t cs = (is_shared t ≡ true) × Spells t cs
 
 -- from lexemes to tokens
 
-iri_says : (test : ℕ → ℕ → Bool) → SharedTests test → (cs : List ℕ) → Matches test full_iri cs → Says SpellsShared (value_of IRI cs) cs
+iri_says : (test : ℕ → ℕ → Bool) → SharedTests test → (cs : List ℕ) → Matches test full_iri cs → IsLexemeWith SpellsShared (value_of IRI cs) cs
 unfolding value_of
 iri_says test t cs m =
     let o = iri_matches test t cs m in
     let e : between_ends cs ≡ o.iri = ap between_ends o.is ∙ between_ends_is 60 62 o.iri in
     token (Iri o.iri) (ap (λ (l : List ℕ). Some (Iri l)) e) (refl, (o.fits, o.is))
 
-name_says : (test : ℕ → ℕ → Bool) → SharedTests test → (cs : List ℕ) → Matches test abbreviated cs → Says SpellsShared (value_of NAME cs) cs
+name_says : (test : ℕ → ℕ → Bool) → SharedTests test → (cs : List ℕ) → Matches test abbreviated cs → IsLexemeWith SpellsShared (value_of NAME cs) cs
 unfolding value_of
 name_says test t cs m =
     let o = name_matches test t cs m in
@@ -60,25 +60,25 @@ name_says test t cs m =
     let l : unescaped (local_in cs) ≡ o.text = text_value cs o.prefix o.written o.text o.names o.spells o.is in
     token (Name o.prefix o.text) (λ i. Some (Name (p i) (l i))) (refl, (o.written, o.names, o.spells, o.is))
 
-blank_says : (test : ℕ → ℕ → Bool) → SharedTests test → (cs : List ℕ) → Matches test node_id cs → Says SpellsShared (value_of BLANK cs) cs
+blank_says : (test : ℕ → ℕ → Bool) → SharedTests test → (cs : List ℕ) → Matches test node_id cs → IsLexemeWith SpellsShared (value_of BLANK cs) cs
 unfolding value_of
 blank_says test t cs m =
     let o = blank_matches test t cs m in
     token (Blank o.label) (ap (λ (l : List ℕ). value_of BLANK l) o.is) (refl, (o.fits, o.is))
 
-string_says : (test : ℕ → ℕ → Bool) → SharedTests test → (cs : List ℕ) → Matches test quoted_string cs → Says SpellsShared (value_of STR cs) cs
+string_says : (test : ℕ → ℕ → Bool) → SharedTests test → (cs : List ℕ) → Matches test quoted_string cs → IsLexemeWith SpellsShared (value_of STR cs) cs
 unfolding value_of
 string_says test t cs m =
     let o = string_matches test t cs m in
     token (Str o.text) (ap (λ (l : List ℕ). Some (Str l)) (string_value cs o.text o.is)) (refl, o.is)
 
-tag_says : (test : ℕ → ℕ → Bool) → SharedTests test → (cs : List ℕ) → Matches test language_tag cs → Says SpellsShared (value_of AT cs) cs
+tag_says : (test : ℕ → ℕ → Bool) → SharedTests test → (cs : List ℕ) → Matches test language_tag cs → IsLexemeWith SpellsShared (value_of AT cs) cs
 unfolding value_of
 tag_says test t cs m =
     let o = tag_matches test t cs m in
     token (At o.tag) (ap (λ (l : List ℕ). value_of AT l) o.is) (refl, (o.fits, o.is))
 
-word_says : (test : ℕ → ℕ → Bool) → SharedTests test → (cs : List ℕ) → Matches test word cs → Says SpellsShared (value_of WORD cs) cs
+word_says : (test : ℕ → ℕ → Bool) → SharedTests test → (cs : List ℕ) → Matches test word cs → IsLexemeWith SpellsShared (value_of WORD cs) cs
 unfolding value_of
 word_says test t cs m = token (Word cs) refl (refl, (word_matches test t cs m, refl))
 
@@ -91,15 +91,15 @@ close_is test t = one_is test 24 (λ c. (41 == c) || false) t.close_mark
 caret_is : (test : ℕ → ℕ → Bool) → SharedTests test → IsOne test caret (λ c. (94 == c) || false)
 caret_is test t = one_is test 25 (λ c. (94 == c) || false) t.caret
 
-open_says : (test : ℕ → ℕ → Bool) → SharedTests test → (cs : List ℕ) → Matches test open_mark cs → Says SpellsShared (value_of OPEN cs) cs
+open_says : (test : ℕ → ℕ → Bool) → SharedTests test → (cs : List ℕ) → Matches test open_mark cs → IsLexemeWith SpellsShared (value_of OPEN cs) cs
 unfolding value_of sign_of
 open_says test t cs m = token (Sign Open) refl (refl, mark_passes test open_mark 40 (open_is test t) cs m)
 
-close_says : (test : ℕ → ℕ → Bool) → SharedTests test → (cs : List ℕ) → Matches test close_mark cs → Says SpellsShared (value_of CLOSE cs) cs
+close_says : (test : ℕ → ℕ → Bool) → SharedTests test → (cs : List ℕ) → Matches test close_mark cs → IsLexemeWith SpellsShared (value_of CLOSE cs) cs
 unfolding value_of sign_of
 close_says test t cs m = token (Sign Close) refl (refl, mark_passes test close_mark 41 (close_is test t) cs m)
 
-carets_say : (test : ℕ → ℕ → Bool) → SharedTests test → (cs : List ℕ) → Matches test carets cs → Says SpellsShared (value_of CARETS cs) cs
+carets_say : (test : ℕ → ℕ → Bool) → SharedTests test → (cs : List ℕ) → Matches test carets cs → IsLexemeWith SpellsShared (value_of CARETS cs) cs
 unfolding value_of sign_of
 carets_say test t cs m =
     let b = behind_mark test caret caret 94 (caret_is test t) cs m in
@@ -108,7 +108,7 @@ carets_say test t cs m =
 white_is : (test : ℕ → ℕ → Bool) → SharedTests test → IsOne test white_character is_space
 white_is test t = one_is test 0 is_space t.white_character
 
-space_says : (test : ℕ → ℕ → Bool) → SharedTests test → (cs : List ℕ) → Matches test white_space cs → Says SpellsShared (value_of SPACE cs) cs
+space_says : (test : ℕ → ℕ → Bool) → SharedTests test → (cs : List ℕ) → Matches test white_space cs → IsLexemeWith SpellsShared (value_of SPACE cs) cs
 unfolding value_of sign_of
 space_says test t cs m = space refl (run_matches test white_character is_space (white_is test t) cs m)
 
@@ -118,14 +118,14 @@ number_sign_is test t = one_is test 1 (λ c. (35 == c) || false) t.number_sign
 comment_is : (test : ℕ → ℕ → Bool) → SharedTests test → IsOne test comment_character (λ c. not (is_line_end c))
 comment_is test t = one_is test 2 (λ c. not (is_line_end c)) t.comment_character
 
-comment_says : (test : ℕ → ℕ → Bool) → SharedTests test → (cs : List ℕ) → Matches test comment cs → Says SpellsShared (value_of COMMENT cs) cs
+comment_says : (test : ℕ → ℕ → Bool) → SharedTests test → (cs : List ℕ) → Matches test comment cs → IsLexemeWith SpellsShared (value_of COMMENT cs) cs
 unfolding value_of sign_of
 comment_says test t cs m = comment_text refl (comment_matches test number_sign comment_character (number_sign_is test t) (comment_is test t) cs m)
 
-pub says_as : (spells : Token → List ℕ → Type 0) (cs : List ℕ) (kind other : ℕ) → kind ≡ other → Says spells (value_of kind cs) cs → Says spells (value_of other cs) cs
-says_as spells cs kind other e h = subst (λ (k : ℕ). Says spells (value_of k cs) cs) e h
+pub says_as : (spells : Token → List ℕ → Type 0) (cs : List ℕ) (kind other : ℕ) → kind ≡ other → IsLexemeWith spells (value_of kind cs) cs → IsLexemeWith spells (value_of other cs) cs
+says_as spells cs kind other e h = subst (λ (k : ℕ). IsLexemeWith spells (value_of k cs) cs) e h
 
-shared_says : (test : ℕ → ℕ → Bool) → SharedTests test → (kind : ℕ) (cs : List ℕ) → IsLexemeOf test shared_terminals kind cs → Says SpellsShared (value_of kind cs) cs
+shared_says : (test : ℕ → ℕ → Bool) → SharedTests test → (kind : ℕ) (cs : List ℕ) → IsLexemeOf test shared_terminals kind cs → IsLexemeWith SpellsShared (value_of kind cs) cs
 shared_says test t kind cs (inl m) = says_as SpellsShared cs SPACE kind m.0 (space_says test t cs m.1)
 shared_says test t kind cs (inr (inl m)) = says_as SpellsShared cs COMMENT kind m.0 (comment_says test t cs m.1)
 shared_says test t kind cs (inr (inr (inl m))) = says_as SpellsShared cs IRI kind m.0 (iri_says test t cs m.1)
@@ -140,7 +140,7 @@ shared_says test t kind cs (inr (inr (inr (inr (inr (inr (inr (inr (inr (inr (in
 shared_says test t kind cs (inr (inr (inr (inr (inr (inr (inr (inr (inr (inr (inr m))))))))))) = elim m [ ]
 
 -- what is spelled in one way is spelled in another
-says_more : (one other : Token → List ℕ → Type 0) → ((t : Token) (cs : List ℕ) → one t cs → other t cs) → (value : Option Token) (cs : List ℕ) → Says one value cs → Says other value cs
+says_more : (one other : Token → List ℕ → Type 0) → ((t : Token) (cs : List ℕ) → one t cs → other t cs) → (value : Option Token) (cs : List ℕ) → IsLexemeWith one value cs → IsLexemeWith other value cs
 says_more one other f value cs (token t v s) = token t v (f t cs s)
 says_more one other f value cs (space v s) = space v s
 says_more one other f value cs (comment_text v s) = comment_text v s
@@ -250,7 +250,7 @@ of_second test (x ∷ xs) ys kind cs m = inr (of_second test xs ys kind cs m)
 -- What a language has behind the shared terminals: its own ones, and tokens that are shared or lexemes of these.
 pub record OwnTerminals (test : ℕ → ℕ → Bool) (own : List Terminal) (spells : Token → List ℕ → Type 0) : Type 0 where
   pub shared : (t : Token) (cs : List ℕ) → SpellsShared t cs → spells t cs
-  pub says : (kind : ℕ) (cs : List ℕ) → IsLexemeOf test own kind cs → Says spells (value_of kind cs) cs
+  pub says : (kind : ℕ) (cs : List ℕ) → IsLexemeOf test own kind cs → IsLexemeWith spells (value_of kind cs) cs
   pub token : (t : Token) (cs : List ℕ) → spells t cs → SpellsShared t cs ⊎ IsLexemeFor test own t cs
 
 -- The lexemes of all terminals stand for the tokens.

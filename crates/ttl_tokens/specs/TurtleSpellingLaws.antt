@@ -7,8 +7,8 @@ use Rattle.owl_characters.specs.Names.{IsRunOf}
 use Rattle.owl_lexer.specs.GapTestLaws.{Stand, table_is_language}
 use Rattle.owl_lexer.specs.GapTests.{check_gaps}
 use Rattle.owl_lexer.specs.Grammars.{IsLexeme, IsLexemeOf, Terminal, test_of}
-use Rattle.owl_lexer.specs.Languages.{IsCommentText, IsLanguage, Says}
-use Rattle.owl_lexer.specs.Languages.Says.{token, space, comment}
+use Rattle.owl_lexer.specs.Languages.{IsCommentText, IsLanguage, IsLexemeWith}
+use Rattle.owl_lexer.specs.Languages.IsLexemeWith.{token, space, comment}
 use Rattle.owl_lexer.specs.PatternLaws.{IsOne, comment_matches, each_is, matches_comment, matches_run, one_is, run_matches}
 use Rattle.owl_lexer.specs.Patterns.Pattern.{one}
 use Rattle.owl_lexer.specs.Splitting.{is_line_end, is_space}
@@ -87,12 +87,12 @@ others_are_some : (cs : List ℕ) → list_all (λ x. is_some (token_of x.kind c
 unfolding turtle_grammar
 others_are_some cs = refl
 
-says_token : (kind : ℕ) (cs : List ℕ) → IsLexeme turtle_grammar kind cs → IsLexemeOf in_turtle (behind_gaps turtle_grammar.terminals) kind cs → Says Spells (token_of kind cs) cs
+says_token : (kind : ℕ) (cs : List ℕ) → IsLexeme turtle_grammar kind cs → IsLexemeOf in_turtle (behind_gaps turtle_grammar.terminals) kind cs → IsLexemeWith Spells (token_of kind cs) cs
 says_token kind cs m other =
     let o = some_token (token_of kind cs) (kind_passes in_turtle (λ k. is_some (token_of k cs)) (behind_gaps turtle_grammar.terminals) kind cs (others_are_some cs) other) in
     token o.0 o.1 (kind, m, o.1)
 
-says : (kind : ℕ) (cs : List ℕ) → IsLexeme turtle_grammar kind cs → Says Spells (token_of kind cs) cs
+says : (kind : ℕ) (cs : List ℕ) → IsLexeme turtle_grammar kind cs → IsLexemeWith Spells (token_of kind cs) cs
 unfolding turtle_grammar
 says kind cs (inl m) = space (ap (λ (k : ℕ). token_of k cs) (sym m.0)) (run_matches in_turtle (one 22) is_space white_is cs m.1)
 says kind cs (inr (inl m)) = comment (ap (λ (k : ℕ). token_of k cs) (sym m.0)) (comment_matches in_turtle (one 7) (one 23) hash_is in_line_is cs m.1)

@@ -7,8 +7,8 @@ use Rattle.owl_characters.specs.Iri.{AllAre, is_among}
 use Rattle.owl_characters.specs.Names.{IsRunOf}
 use Rattle.owl_lexer.specs.Automata.{Spells, kind_at, run, step_from}
 use Rattle.owl_lexer.specs.HoldingLaws.{run-append, run-none}
-use Rattle.owl_lexer.specs.Languages.{BeginsNoGap, IsCommentText, IsLanguage, Says}
-use Rattle.owl_lexer.specs.Languages.Says.{token, space, comment}
+use Rattle.owl_lexer.specs.Languages.{BeginsNoGap, IsCommentText, IsLanguage, IsLexemeWith}
+use Rattle.owl_lexer.specs.Languages.IsLexemeWith.{token, space, comment}
 use Rattle.owl_lexer.specs.Splitting.{is_comment_start, is_line_end, is_space}
 use Rattle.value_tests.specs.Numbers.{first, kind, numbers, spells, step, value}
 use Rattle.value_tests.specs.declared.numbers.Token.{Token}
@@ -93,17 +93,17 @@ begins c cs k h = by (is_space c) (is_comment_start c) (c == 46) (is_ascii_digit
 sign_is : (c : ℕ) → is_comment_start c ≡ true → c ≡ 35
 sign_is c h = elim (or_cases (35 == c) false h) [ inl same ↦ sym (eqb-true 35 c same) | inr none ↦ absurd (cc) ]
 
-number_says : (cs : List ℕ) (k : ℕ) → Spells numbers k cs → (t : Token) → value k cs ≡ Some t → Says spells (value k cs) cs
+number_says : (cs : List ℕ) (k : ℕ) → Spells numbers k cs → (t : Token) → value k cs ≡ Some t → IsLexemeWith spells (value k cs) cs
 number_says cs k s t e = token t e (k, s, e)
 
 no_value : (cs : List ℕ) (k : ℕ) → k ≡ 1 → value k cs ≡ None
 no_value cs k e = ap (λ (n : ℕ). value n cs) e
 
-says : (k : ℕ) (cs : List ℕ) → Spells numbers k cs → Says spells (value k cs) cs
+says : (k : ℕ) (cs : List ℕ) → Spells numbers k cs → IsLexemeWith spells (value k cs) cs
 says k [] s = absurd (cc)
 says k (c ∷ cs) s = by (begins c cs k s)
   where
-    by : Begins c cs k → Says spells (value k (c ∷ cs)) (c ∷ cs)
+    by : Begins c cs k → IsLexemeWith spells (value k (c ∷ cs)) (c ∷ cs)
     by (with_space h g) = space (no_value (c ∷ cs) k g.kind) (h, g.all)
     by (with_sign h g) = comment (no_value (c ∷ cs) k g.kind) (sign_is c h, g.all)
     by (with_dot h n e) = number_says (c ∷ cs) k s _ (ap (λ (n : ℕ). value n (c ∷ cs)) e)
