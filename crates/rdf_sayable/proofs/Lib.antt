@@ -1,0 +1,4 @@
+pub mod Finding
+pub mod Objections
+pub mod Searching
+pub mod WorkedCases

@@ -1,0 +1,5 @@
+pub mod Parts
+pub mod PartLaws
+pub mod Reasons
+pub mod Sayable
+pub mod SayableLaws

@@ -1,0 +1,74 @@
+//! Whether documents can be said in RDF.
+
+ghost use Rattle.std.specs.Prelude.{◌≡◌, ◌↔◌, ◌<◌, IfSome, IsNone, length, map};
+ghost use Rattle.std.specs.Option.{option_map};
+ghost use Rattle.owl_arena.specs.Held.{AreHeld, tree_at};
+ghost use Rattle.owl_doc.specs.Documents.{ontology_of};
+ghost use Rattle.owl_doc.specs.Entities.{IsHeldItem};
+ghost use Rattle.rdf_sayable.specs.Parts.{leaves, leaves_at, of_axiom, part_at};
+ghost use Rattle.rdf_sayable.specs.Reasons.{why_seen};
+ghost use Rattle.rdf_sayable.specs.Sayable.{CanSayAll, FindsUnsayable, IsFirstUnsayable, first_objection};
+
+use crate::objection::atom_objection;
+use owl_arena::{Arena, ExprId};
+use owl_doc::{Cant, Doc, Item, Why};
+
+/// The first part of the document that cannot be said in RDF (Mapping to RDF
+/// Graphs, section 2), its header before its axioms in canonical order, with
+/// what is to be said first against it, from left to right. `None` exactly
+/// where all can be said. Takes no memory.
+pub fn can<'a>(doc: &'a Doc) -> Option<Cant<'a>>
+    ensures none { IsNone result ↔ CanSayAll (ontology_of doc.now) }
+    ensures some { IfSome result (λ cant.
+        IsFirstUnsayable (ontology_of doc.now) (part_at doc.now cant.item) (why_seen cant.why)) }
+    ensures held { IfSome result (λ cant. IsHeldItem doc.now cant.item) }
+{
+    match trees_objection(doc.arena(), doc.notes()) {
+        Some(why) => Some(Cant {
+            item: Item::Header,
+            why,
+        }),
+        None => unsayable_axiom(doc),
+    }
+}
+
+/// The first axiom that cannot be said.
+fn unsayable_axiom<'a>(doc: &'a Doc) -> Option<Cant<'a>>
+    ensures { FindsUnsayable doc.now (map of_axiom (ontology_of doc.now).axioms) result }
+{
+    'axioms: for id in doc.axioms() {
+        if let Some(why) = tree_objection(doc.arena(), *id) {
+            return Some(Cant {
+                item: Item::Axiom(*id),
+                why,
+            });
+        }
+    }
+    None
+}
+
+/// What is to be said first against a tree.
+#[cycle(objections)]
+fn tree_objection<'a>(arena: &'a Arena, id: ExprId) -> Option<Why<'a>>
+    requires { id < length arena.now.trees }
+    ensures { option_map why_seen result ≡ first_objection (leaves (tree_at arena.now.trees id)) }
+{
+    match arena.atom(id) {
+        Some(atom) => atom_objection(arena.tag(id), atom),
+        None => trees_objection(arena, arena.kids(id)),
+    }
+}
+
+/// What is to be said first against these trees.
+#[cycle(objections)]
+fn trees_objection<'a>(arena: &'a Arena, ids: &[ExprId]) -> Option<Why<'a>>
+    requires { AreHeld arena.now.trees ids.now }
+    ensures { option_map why_seen result ≡ first_objection (leaves_at arena.now.trees ids.now) }
+{
+    'ids: for id in ids {
+        if let Some(why) = tree_objection(arena, *id) {
+            return Some(why);
+        }
+    }
+    None
+}
