@@ -1,5 +1,6 @@
 pub mod Parts
 pub mod PartLaws
+pub mod SearchLaws
 pub mod Reasons
 pub mod Sayable
 pub mod SayableLaws

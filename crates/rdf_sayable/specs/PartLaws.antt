@@ -101,16 +101,19 @@ same_parts o p h =
     let same = (same_ontology_is_equal_form o p).0 h in
     ap (λ (q : Ontology). of_header q.annotations ∷ map of_axiom q.axioms) same
 
-module _ (Holds : Part → Type 0) where
-  first_at : (before others after more : List Part) (part other : Part) → before ++ part ∷ after ≡ others ++ other ∷ more → AllByRecursion Holds before → AllByRecursion Holds others → (Holds part → ⊥) → (Holds other → ⊥) → part ≡ other
-  first_at [] [] after more part other e h k f g = cc
-  first_at [] (q ∷ others) after more part other e h k f g = let same : q ≡ part = cc in absurd (f (subst Holds same k.0))
-  first_at (p ∷ before) [] after more part other e h k f g = let same : p ≡ other = cc in absurd (g (subst Holds same h.0))
-  first_at (p ∷ before) (q ∷ others) after more part other e h k f g = let rest : before ++ part ∷ after ≡ others ++ other ∷ more = cc in first_at before others after more part other rest h.1 k.1 f g
+-- of two ways to cut a list in front of the first element of which a fact doesn't hold, both cut at the same element
+pub first_at : {X : Type 0} (Holds : X → Type 0) (before others after more : List X) (x y : X) → before ++ x ∷ after ≡ others ++ y ∷ more → AllByRecursion Holds before → AllByRecursion Holds others → (Holds x → ⊥) → (Holds y → ⊥) → x ≡ y
+first_at Holds [] [] after more x y e h k f g = cc
+first_at Holds [] (z ∷ others) after more x y e h k f g = let same : z ≡ x = cc in absurd (f (subst Holds same k.0))
+first_at Holds (z ∷ before) [] after more x y e h k f g = let same : z ≡ y = cc in absurd (g (subst Holds same h.0))
+first_at Holds (z ∷ before) (w ∷ others) after more x y e h k f g =
+    let rest : before ++ x ∷ after ≡ others ++ y ∷ more = cc in
+    first_at Holds before others after more x y rest h.1 k.1 f g
 
+module _ (Holds : Part → Type 0) where
   -- there is one first part at most
   pub first_once : (parts : List Part) (part other : Part) → IsFirstWithout Holds parts part → IsFirstWithout Holds parts other → part ≡ other
-  first_once parts part other h k = first_at h.before k.before h.after k.after part other (sym h.split ∙ k.split) h.held k.held h.fails k.fails
+  first_once parts part other h k = first_at Holds h.before k.before h.after k.after part other (sym h.split ∙ k.split) h.held k.held h.fails k.fails
 
   -- and none where the fact holds of all
   pub no_first : (parts : List Part) (part : Part) → IsFirstWithout Holds parts part → AllByRecursion Holds parts → ⊥
