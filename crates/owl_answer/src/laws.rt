@@ -1,9 +1,47 @@
-//! A law of what is answered, as a function that does nothing.
+//! Laws of what is answered, as functions that do nothing.
 
+ghost use Rattle.std.specs.Prelude.{◌≡◌, ℕ, List};
+ghost use Rattle.owl_answer.specs.Typing.{AllAreWellTyped, DeclareSame, IsFirstUntyped};
 ghost use Rattle.owl_answer.specs.Unreached.{UnreachedChangeNothing};
+ghost use Rattle.owl_kind.specs.Kinds.{Entity, IsFirstClash};
+ghost use Rattle.owl_tree.specs.Ontologies.{IsSameOntology, Ontology};
+ghost use Rattle.rdf_sayable.specs.Parts.{Part};
 
 /// A law: what becomes of documents that are read is the same, whatever a
 /// document says that the main one does not reach.
 pub fn unreached_documents_change_nothing()
     ensures { UnreachedChangeNothing }
+{}
+
+/// Laws: there is one first clash at most. There is one first part at most that
+/// is not well typed, and one first entity in it, and none where all are well
+/// typed.
+pub fn typing_is_refused_once()
+    ensures clash { (kinds : List Entity) (iri other : List ℕ) →
+        IsFirstClash kinds iri → IsFirstClash kinds other → iri ≡ other }
+    ensures untyped { (kinds : List Entity) (o : Ontology) (part other : Part) (e f : Entity) →
+        IsFirstUntyped kinds o part e → IsFirstUntyped kinds o other f → (part ≡ other) × (e ≡ f) }
+    ensures none { (kinds : List Entity) (o : Ontology) (part : Part) (e : Entity) →
+        IsFirstUntyped kinds o part e → AllAreWellTyped kinds o → ⊥ }
+{}
+
+/// Laws: of ontologies that are structurally equivalent (Structural
+/// Specification, section 2.1) all are well typed, or none is, and then the
+/// same part comes first.
+pub fn equivalent_ontologies_are_typed_alike()
+    ensures typed { (kinds : List Entity) (o p : Ontology) →
+        IsSameOntology o p → AllAreWellTyped kinds o → AllAreWellTyped kinds p }
+    ensures untyped { (kinds : List Entity) (o p : Ontology) (part : Part) (e : Entity) →
+        IsSameOntology o p → IsFirstUntyped kinds o part e → IsFirstUntyped kinds p part e }
+{}
+
+/// Laws: where the same is declared, the same clash comes first, the same is
+/// well typed, and the same part that is not comes first.
+pub fn typing_depends_on_what_is_declared()
+    ensures clash { (kinds others : List Entity) (iri : List ℕ) →
+        DeclareSame kinds others → IsFirstClash kinds iri → IsFirstClash others iri }
+    ensures typed { (kinds others : List Entity) (o : Ontology) →
+        DeclareSame kinds others → AllAreWellTyped kinds o → AllAreWellTyped others o }
+    ensures untyped { (kinds others : List Entity) (o : Ontology) (part : Part) (e : Entity) →
+        DeclareSame kinds others → IsFirstUntyped kinds o part e → IsFirstUntyped others o part e }
 {}

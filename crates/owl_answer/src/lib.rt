@@ -6,9 +6,14 @@ mod conclusion;
 mod imports;
 mod laws;
 mod refusal;
+mod refusals;
 mod request;
 mod summary;
+mod typing;
 
 pub use answer::Answer;
-pub use laws::unreached_documents_change_nothing;
+pub use laws::{
+    equivalent_ontologies_are_typed_alike, typing_depends_on_what_is_declared,
+    typing_is_refused_once, unreached_documents_change_nothing,
+};
 pub use request::answer_to;

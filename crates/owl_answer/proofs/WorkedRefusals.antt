@@ -1,0 +1,48 @@
+-- What is told of some refusals, worked out by hand.
+use lib.Utf8.{encode}
+use Rattle.std.specs.Prelude.{◌≡◌, ℕ, List, [], ◌∷◌, codes}
+use Rattle.std.proofs.Common.{refl}
+use Rattle.owl_kind.specs.declared.kind.Kind.TheVariants.{AnnotationProperty, Datatype}
+use Rattle.owl_tree.specs.declared.atom.Atom.TheVariants as atom
+use Rattle.owl_tree.specs.declared.tag.Tag.{Tag}
+use Rattle.owl_tree.specs.declared.tag.Tag.TheVariants as tag
+use Rattle.owl_tree.specs.Rows.{row_of}
+use Rattle.owl_tree.specs.Tags.{keyword_of, number_of}
+use Rattle.owl_tree.specs.Trees.{Tree, kids_of, leaf, node}
+use Rattle.rdf_sayable.specs.Parts.{of_axiom, of_header}
+use Rattle.rdf_sayable.specs.Reasons.{inverse_subject, reserved}
+use Rattle.owl_answer.specs.Refusals.{two_kinds, undeclared, unsayable}
+
+abbrev over : Tag → List Tree → Tree
+over t kids = node t (kids_of kids)
+
+abbrev named : Tag → List ℕ → Tree
+named t iri = leaf t (atom.Iri iri)
+
+-- of an axiom, with its IRIs in full
+abbrev ranged : Tree
+ranged = over tag.DataPropertyRange (over tag.Notes [] ∷ named tag.DataProperty (codes "e:q") ∷ named tag.Datatype (codes "e:D") ∷ [])
+
+undeclared_datatype :
+    (undeclared (of_axiom ranged) (record { kind = Datatype; iri = codes "e:D" })).line
+    ≡ codes "typing: Undeclared Datatype <e:D>: DataPropertyRange(<e:q> <e:D>)\n"
+unfolding encode keyword_of row_of number_of
+undeclared_datatype = refl
+
+undeclared_in_header :
+    (undeclared (of_header []) (record { kind = AnnotationProperty; iri = codes "e:l" })).line
+    ≡ codes "typing: Undeclared AnnotationProperty <e:l>: header\n"
+unfolding encode keyword_of
+undeclared_in_header = refl
+
+clash : (two_kinds (codes "e:D")).line ≡ codes "typing: TwoKinds <e:D>\n"
+unfolding encode
+clash = refl
+
+of_an_iri : (unsayable (of_axiom ranged) (reserved (codes "e:D"))).line ≡ codes "target: Reserved <e:D>: DataPropertyRange(<e:q> <e:D>)\n"
+unfolding encode keyword_of row_of number_of
+of_an_iri = refl
+
+of_no_iri : (unsayable (of_header []) inverse_subject).line ≡ codes "target: InverseSubject: header\n"
+unfolding encode
+of_no_iri = refl
