@@ -1,9 +1,8 @@
 -- No triples are a graph.
-use Rattle.std.proofs.Common.{◌≡◌, ◌<◌, ◌↔◌, ℕ, List, [], Contains, sym, subst, arith}
-use Rattle.std.specs.List.Sorted.{IsSorted, IsStrictlySortedBy}
+use Rattle.std.proofs.Common.{◌≡◌, ℕ, List, [], sym, subst, arith}
+use Rattle.std.specs.List.Sorted.{IsStrictlySortedBy}
 use Rattle.rdf_graph.specs.declared.triple.Triple.{Triple}
-use Rattle.rdf_graph.specs.ByObject.{IsIndex, IsKept, place_cmp}
-use Rattle.rdf_graph.specs.Graphs.{IsGraph}
+use Rattle.rdf_graph.specs.ByObject.{IsKept}
 use Rattle.rdf_graph.specs.Terms.{triple_cmp}
 
 none_ascend : IsStrictlySortedBy triple_cmp []

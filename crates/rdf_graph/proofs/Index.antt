@@ -31,14 +31,15 @@ one_more n old new is all =
       ],
     ))
 
+-- in whatever order they stand
+pub below_moved : (n : ℕ) (first places : List ℕ) → AreBelow n first → IsPermutation first places → AreBelow n places
+below_moved n first places all moved = λ place. (
+  λ c. (all place).0 (Contains-permutation places first place (IsPermutation-sym first places moved) c),
+  λ lt. Contains-permutation first places place moved ((all place).1 lt),
+)
+
 pub index_of : (triples : List Triple) (first places : List ℕ) → AreBelow (length triples) first → IsPermutation first places → IsSorted (place_cmp triples) places → IsIndex triples places
-index_of triples first places all moved up = record {
-  sorted = up;
-  of_all = λ place. (
-    λ c. (all place).0 (Contains-permutation places first place (IsPermutation-sym first places moved) c),
-    λ lt. Contains-permutation first places place moved ((all place).1 lt),
-  );
-}
+index_of triples first places all moved up = record { sorted = up; of_all = below_moved (length triples) first places all moved }
 
 -- what is kept in a graph
 pub kept : (triples arranged : List Triple) (places : List ℕ) → HaveSubjects triples → arranged ≡ set_of triples → length arranged ≤ most_triples → IsIndex arranged places → IsKept arranged places

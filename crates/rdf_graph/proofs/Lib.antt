@@ -4,3 +4,4 @@ pub mod Halving
 pub mod Subjects
 pub mod Places
 pub mod Index
+pub mod Lent

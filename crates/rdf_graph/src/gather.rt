@@ -1,6 +1,7 @@
 //! Triples as they come.
 
-ghost use Rattle.std.specs.Prelude.{◌≡◌, ◌↔◌, ◌<◌, ◌++◌, ◌∷◌, [], length, IfOk, IsErrOf, OnOk, OnErr};
+ghost use Rattle.std.specs.Prelude.{◌≡◌, ◌↔◌, ◌<◌, ◌≤◌, ◌++◌, ◌∷◌, [], length, IfOk, IsErrOf, OnOk, OnErr};
+ghost use Rattle.std.specs.List.Sorted.{IsPermutation};
 ghost use Rattle.rdf_graph.specs.Graphs.{most_triples, set_of};
 ghost use Rattle.rdf_graph.specs.Terms.{IsSubject};
 ghost use Rattle.rdf_graph.specs.declared.fault.GraphFault.{GraphFault};
@@ -8,6 +9,7 @@ ghost use Rattle.rdf_graph.specs.declared.fault.GraphFault.{GraphFault};
 use crate::by_object::places_by_object;
 use crate::fault::GraphFault;
 use crate::graph::{Graph, MOST_TRIPLES};
+use crate::ranks::Fronts;
 use crate::triple::Triple;
 use owl_characters::NoMemory;
 use owl_list::arrange;
@@ -78,5 +80,44 @@ impl Gather {
 fn order(triples: &mut Vec<Triple>)
     ensures { triples.new.items ≡ set_of triples.old.items }
 {
+    order_by_ranks(triples);
+    // What ascends already is only gone through.
     arrange(triples);
+}
+
+/// Puts the triples in order, where there is memory for it.
+fn order_by_ranks(triples: &mut Vec<Triple>)
+    ensures { IsPermutation triples.old.items triples.new.items }
+{
+    let fronts = Fronts::of_subjects(triples);
+    let ranked = triples.sort_by_cached_key(|triple| fronts.rank(&triple.subject));
+    if ranked.is_ok() {
+        order_ties(&mut *triples, &fronts);
+    }
+}
+
+/// Puts in order what stands side by side and has one rank.
+fn order_ties(triples: &mut [Triple], fronts: &Fronts)
+    ensures { IsPermutation triples.old triples.new }
+{
+    let mut start = 0;
+    while start < triples.len() {
+        let end = end_of_ties(triples, fronts, start);
+        triples[start..end].sort_unstable();
+        start = end;
+    }
+}
+
+/// Where the triples end that have the rank of the one at this place.
+fn end_of_ties(triples: &[Triple], fronts: &Fronts, start: usize) -> usize
+    requires { start < length triples.now }
+    ensures { (start < result) × (result ≤ length triples.now) }
+{
+    let rank = fronts.rank(&triples[start].subject);
+    for end in start + 1..triples.len() {
+        if fronts.rank(&triples[end].subject) != rank {
+            return end;
+        }
+    }
+    triples.len()
 }

@@ -20,8 +20,10 @@ pub const MOST_TRIPLES: usize = 1 << 24;
 /// contracts see as the list of them in ascending order, each once.
 #[derive(Debug, Drop)]
 pub struct Graph {
-    pub(crate) triples: Vec<Triple>,
+    // Let go before the triples, whose many small texts the allocator joins when a
+    // large block comes back.
     pub(crate) by_object: Vec<u32>,
+    pub(crate) triples: Vec<Triple>,
 }
 
 impl Model for Graph {

@@ -6,6 +6,7 @@ mod by_object;
 mod fault;
 mod gather;
 mod graph;
+mod ranks;
 mod term;
 #[cfg(test)]
 mod tests;
