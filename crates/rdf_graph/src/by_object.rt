@@ -14,11 +14,15 @@ use std::alloc::{AllocError, Global};
 use std::cmp::Ordering;
 
 /// The places of all triples, by object and then by place.
-pub fn places_by_object(alloc: Global, triples: &[Triple]) -> Result<Vec<u32>, AllocError>
+pub fn places_by_object(
+    alloc: Global,
+    triples: &[Triple],
+    fronts: &Fronts,
+) -> Result<Vec<u32>, AllocError>
     requires { length triples.now ≤ most_triples }
     ensures { IfOk result (λ places. IsIndex triples.now places.items) }
 {
-    let mut places = places_by_rank(alloc, triples)?;
+    let mut places = places_by_rank(alloc, triples, fronts)?;
     // What is in order already is only gone through.
     order(triples, &mut places);
     Ok(places)
@@ -56,12 +60,16 @@ fn count_before(triples: &[Triple], places: &[u32], object: &Term, from: usize) 
 }
 
 /// The places of all triples, by the ranks of their objects.
-fn places_by_rank(alloc: Global, triples: &[Triple]) -> Result<Vec<u32>, AllocError>
+fn places_by_rank(
+    alloc: Global,
+    triples: &[Triple],
+    fronts: &Fronts,
+) -> Result<Vec<u32>, AllocError>
     requires { length triples.now ≤ most_triples }
     ensures { IfOk result (λ places. (place : ℕ)
         → Contains places.items place ↔ (place < length triples.now)) }
 {
-    let mut ranked = ranked_places(alloc, triples)?;
+    let mut ranked = ranked_places(alloc, triples, fronts)?;
     order_ranked(triples, &mut ranked);
     places_of(alloc, &ranked)
 }
@@ -74,12 +82,15 @@ struct Ranked {
 }
 
 /// All places, in their order.
-fn ranked_places(alloc: Global, triples: &[Triple]) -> Result<Vec<Ranked>, AllocError>
+fn ranked_places(
+    alloc: Global,
+    triples: &[Triple],
+    fronts: &Fronts,
+) -> Result<Vec<Ranked>, AllocError>
     requires { length triples.now ≤ most_triples }
     ensures { IfOk result (λ ranked. (place : ℕ)
         → Contains (places_of ranked.items) place ↔ (place < length triples.now)) }
 {
-    let fronts = Fronts::of_objects(triples);
     let mut ranked = Vec::with_capacity(alloc, triples.len())?;
     for place in 0..triples.len() as u32 {
         let rank = fronts.rank(&triples[place as usize].object);

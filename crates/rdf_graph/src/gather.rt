@@ -67,32 +67,35 @@ impl Gather {
             ↔ (most_triples < length (set_of self)) }
     {
         let mut triples = self.triples;
-        order(&mut triples);
+        let (subjects, objects) = Fronts::of(&triples);
+        order(&mut triples, &subjects);
         if MOST_TRIPLES < triples.len() {
             return Err(GraphFault::TooMany);
         }
-        let by_object = places_by_object(self.alloc, &triples)?;
+        let by_object = places_by_object(self.alloc, &triples, &objects)?;
         Ok(Graph { triples, by_object })
     }
 }
 
 /// Puts the triples in ascending order, each once.
-fn order(triples: &mut Vec<Triple>)
+fn order(triples: &mut Vec<Triple>, fronts: &Fronts)
     ensures { triples.new.items ≡ set_of triples.old.items }
 {
-    order_by_ranks(triples);
+    order_by_ranks(triples, fronts);
     // What ascends already is only gone through.
     arrange(triples);
 }
 
-/// Puts the triples in order, where there is memory for it.
-fn order_by_ranks(triples: &mut Vec<Triple>)
+/// Puts the triples in order, unless they are, where there is memory for it.
+fn order_by_ranks(triples: &mut Vec<Triple>, fronts: &Fronts)
     ensures { IsPermutation triples.old.items triples.new.items }
 {
-    let fronts = Fronts::of_subjects(triples);
+    if triples.is_sorted() {
+        return;
+    }
     let ranked = triples.sort_by_cached_key(|triple| fronts.rank(&triple.subject));
     if ranked.is_ok() {
-        order_ties(&mut *triples, &fronts);
+        order_ties(triples, fronts);
     }
 }
 

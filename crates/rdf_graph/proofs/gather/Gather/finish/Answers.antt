@@ -6,4 +6,4 @@ use Rattle.rdf_graph.proofs.gather.Gather.finish.Goals as goal
 pub invariant_of-result : goal.invariant_of-result
 invariant_of-result c =
     kept c.self.inside.triples.items c.order.new.triples.items c.in_ok-by_object.by_object.items c.self.invariant c.order.ensures (omega arith)
-    (subst (λ triples. IsIndex triples c.in_ok-by_object.by_object.items) c.deref.ensures.value c.in_ok-by_object.ensures)
+    (subst (λ triples. IsIndex triples c.in_ok-by_object.by_object.items) c.deref-2.ensures.value c.in_ok-by_object.ensures)
