@@ -64,7 +64,7 @@ axiom_predicates =
     word.PropertyChainAxiom ∷ word.EquivalentProperty ∷ word.PropertyDisjointWith ∷ word.InverseOf ∷ word.Domain ∷ word.Range ∷
     word.SameAs ∷ word.DifferentFrom ∷ []
 
-abbrev first_of : {A : Type 0} → (A → Site) → Site → List A → Site
+abbrev pub first_of : {A : Type 0} → (A → Site) → Site → List A → Site
 first_of site other [] = other
 first_of site other (a ∷ more) = site a
 
@@ -120,11 +120,11 @@ literal_leaf (Iri iri) = None
 literal_leaf (Blank label) = None
 literal_leaf (Literal literal) = Some (leaf tag.Literal (atom.Literal literal))
 
-abbrev or_else : Option Tree → Option Tree → Option Tree
+abbrev pub or_else : Option Tree → Option Tree → Option Tree
 or_else (Some t) other = Some t
 or_else None other = other
 
-abbrev named_individual : Term → Option Tree
+abbrev pub named_individual : Term → Option Tree
 named_individual (Iri iri) = Some (iri_leaf tag.NamedIndividual iri)
 named_individual (Blank label) = None
 named_individual (Literal literal) = None
@@ -169,7 +169,7 @@ simple g k sort.Number x = number_leaf x
 simple g k sort.FacetPair x = cond (is_role role.Facet (role_of g x)) (facet_pair (facets_of g x)) None
 simple g k _ x = None
 
-abbrev kind_of_entity : Tag → Option Kind
+abbrev pub kind_of_entity : Tag → Option Kind
 kind_of_entity tag.Class = Some kind.Class
 kind_of_entity tag.Datatype = Some kind.Datatype
 kind_of_entity tag.ObjectProperty = Some kind.ObjectProperty
@@ -178,7 +178,7 @@ kind_of_entity tag.AnnotationProperty = Some kind.AnnotationProperty
 kind_of_entity tag.NamedIndividual = Some kind.Individual
 kind_of_entity _ = None
 
-abbrev declared_kind : List Entity → Tag → List ℕ → Option Kind → Option Tree
+abbrev pub declared_kind : List Entity → Tag → List ℕ → Option Kind → Option Tree
 declared_kind k t iri None = None
 declared_kind k t iri (Some kind.Individual) = cond (may_be_declared kind.Individual iri) (Some (iri_leaf t iri)) None
 declared_kind k t iri (Some other) = cond (has_kind k other iri && may_be_declared other iri) (Some (iri_leaf t iri)) None
@@ -229,3 +229,13 @@ mutual
     no_parts : (b : Bearer) → Holds g k b [] []
     part : (b : Bearer) (p : Part) (ps : List Part) (x : Term) (ts us : List Tree) → select g b p.place ≡ x ∷ [] →
         Denotes g k x p.want ts → Holds g k b ps us → Holds g k b (p ∷ ps) (ts ++ us)
+
+-- the row, of this list, is one of the bearer
+pub record IsRowOf (g : List Triple) (k : List Entity) (b : Bearer) (rows : List Row) (row : Row) : Type 0 where
+  pub among : Contains rows row
+  pub fits : Fits g b row
+  pub kids : List Tree
+  pub holds : Holds g k b row.parts kids
+
+abbrev pub AtMostOne : {A : Type 0} → (A → Type 0) → Type 0
+AtMostOne {A} P = (a : A) → P a → (b : A) → P b → a ≡ b

@@ -5,7 +5,7 @@ use Rattle.std.specs.Str.{bytes_eq}
 use Rattle.rdf_terms.specs.Vocabulary.{is_reserved}
 use Rattle.owl_kind.specs.declared.kind.Kind.{Kind}
 use Rattle.owl_kind.specs.declared.kind.Kind.TheVariants.{Class, Datatype, ObjectProperty, DataProperty, AnnotationProperty, Individual}
-use Rattle.owl_kind.specs.Kinds.{Entity, is_built_in}
+use Rattle.owl_kind.specs.Kinds.{Entity, HasClash, is_built_in}
 
 abbrev pub is_kind : Kind → Kind → Bool
 is_kind Class Class = true
@@ -23,3 +23,7 @@ has_kind kinds kind iri = list_any (λ e. is_kind kind e.kind && bytes_eq e.iri 
 -- A reserved IRI may be declared as what it is built in as.
 unfoldable pub may_be_declared : Kind → List ℕ → Bool
 may_be_declared kind iri = not (is_reserved iri) || is_built_in kind iri
+
+-- no declared IRI has two kinds that it may not have
+abbrev pub HaveNoClash : List Entity → Type 0
+HaveNoClash kinds = (iri : List ℕ) → HasClash kinds iri → ⊥

@@ -4,3 +4,17 @@ pub mod Nodes
 pub mod Kinds
 pub mod Denotation
 pub mod Statements
+pub mod RowTests
+pub mod RowShapes
+pub mod ListLaws
+pub mod WordLaws
+pub mod KindLaws
+pub mod RowLaws
+pub mod NodeLaws
+pub mod DenotationLaws
+pub mod StatementLaws
+pub mod AxiomLaws
+pub mod ShapeLaws
+pub mod GroundLaws
+pub mod WorkedCases
+pub mod WorkedWhole

@@ -1,5 +1,5 @@
 -- What the triples of a graph make of its blank nodes, and what each triple is for (Mapping to RDF Graphs, section 3).
-use Rattle.std.specs.Prelude.{ℕ, Bool, true, false, not, ◌&&◌, ◌||◌, cond, nat_eq, nat_le, List, [], ◌∷◌, length, map, codes}
+use Rattle.std.specs.Prelude.{◌≡◌, ℕ, Bool, true, false, not, ◌&&◌, ◌||◌, cond, nat_eq, nat_le, List, [], ◌∷◌, Contains, length, map, codes}
 use Rattle.std.specs.List.{filter, list_any, starts_with}
 use Rattle.std.specs.Str.{bytes_eq}
 use Rattle.std.specs.Ordering.{eq_by_cmp}
@@ -58,6 +58,14 @@ of_subject g x = filter (λ t. is_same t.subject x) g
 unfoldable pub chosen : List Triple → Term → Word → List Term
 chosen g x w = map (λ t. t.object) (filter (carries w) (of_subject g x))
 
+-- the object of a triple of the node with the word
+pub record IsChosenBy (g : List Triple) (x : Term) (w : Word) (y : Term) : Type 0 where
+  pub triple : Triple
+  pub inside : Contains g triple
+  pub subject : triple.subject ≡ x
+  pub object : triple.object ≡ y
+  pub carries : carries w triple ≡ true
+
 -- a predicate of facets: one of XML Schema, or rdf:langRange
 unfoldable pub is_facet : List ℕ → Bool
 is_facet iri = starts_with nat_eq iri (xsd []) || bytes_eq iri (rdf (codes "langRange"))
@@ -82,7 +90,7 @@ marked_roles = role.List ∷ role.Property ∷ role.Class ∷ role.Range ∷ rol
 unfoldable pub roles_of : List Triple → Term → List Role
 roles_of g x = filter (λ r. list_any (marks_role r) (of_subject g x)) marked_roles
 
-abbrev first_role : List Role → Role
+abbrev pub first_role : List Role → Role
 first_role [] = role.Individual
 first_role (r ∷ rs) = r
 

@@ -98,6 +98,28 @@ mutual
         simple g k sort.AnnotationProperty (Iri t.predicate) ≡ Some p → simple g k sort.AnnotationValue t.object ≡ Some v →
         Variants g k t sets → Annotates g k ts us → Annotates g k (t ∷ ts) (annotated p v sets ++ us)
 
+-- the triple says an annotation
+pub record HasNote (g : List Triple) (k : List Entity) (t : Triple) : Type 0 where
+  pub property : Tree
+  pub value : Tree
+  pub is_property : simple g k sort.AnnotationProperty (Iri t.predicate) ≡ Some property
+  pub is_value : simple g k sort.AnnotationValue t.object ≡ Some value
+  pub sets : List Tree
+  pub variants : Variants g k t sets
+
+-- and it is this one, with one of the sets of its own annotations
+pub record IsNoteOf (g : List Triple) (k : List Entity) (t : Triple) (a : Tree) : Type 0 where
+  pub has : HasNote g k t
+  pub annotations : Tree
+  pub inside : Contains has.sets annotations
+  pub whole : a ≡ node tag.Annotation (kids_of (annotations ∷ has.property ∷ has.value ∷ []))
+
+-- some of these triples says the annotation
+pub record IsNoteOfSome (g : List Triple) (k : List Entity) (ts : List Triple) (a : Tree) : Type 0 where
+  pub triple : Triple
+  pub inside : Contains ts triple
+  pub note_of : IsNoteOf g k triple a
+
 -- an axiom of the tag with each set of annotations
 abbrev pub axioms_of : Tag → List Tree → List Tree → List Tree
 axioms_of t ts sets = map (λ ns. node t (kids_of (ns ∷ ts))) sets
@@ -109,6 +131,53 @@ pub record IsAxiomWith (g : List Triple) (k : List Entity) (b : Bearer) (t : Tag
   pub tag : row.tag ≡ t
   pub fits : Fits g b row
   pub parts : Holds g k b row.parts ts
+
+-- the triple is the axiom, with one of the sets of its annotations
+pub record IsAxiomOf (g : List Triple) (k : List Entity) (t : Triple) (a : Tree) : Type 0 where
+  pub tag : Tag
+  pub kids : List Tree
+  pub said : IsAxiomWith g k (of_triple t) tag kids
+  pub sets : List Tree
+  pub variants : Variants g k t sets
+  pub annotations : Tree
+  pub inside : Contains sets annotations
+  pub whole : a ≡ node tag (kids_of (annotations ∷ kids))
+
+-- the node stands for the axiom, with the annotations that it has
+pub record IsAxiomOfNode (g : List Triple) (k : List Entity) (x : Term) (a : Tree) : Type 0 where
+  pub tag : Tag
+  pub kids : List Tree
+  pub said : IsAxiomWith g k (of_node x) tag kids
+  pub annotations : List Tree
+  pub annotates : Annotates g k (notes_of g x) annotations
+  pub whole : a ≡ node tag (kids_of (notes annotations ∷ kids))
+
+-- the triple is an axiom, and its annotations say something
+pub record HasAxiom (g : List Triple) (k : List Entity) (t : Triple) : Type 0 where
+  pub tag : Tag
+  pub kids : List Tree
+  pub said : IsAxiomWith g k (of_triple t) tag kids
+  pub sets : List Tree
+  pub variants : Variants g k t sets
+
+-- and so the node
+pub record HasNodeAxiom (g : List Triple) (k : List Entity) (x : Term) : Type 0 where
+  pub tag : Tag
+  pub kids : List Tree
+  pub said : IsAxiomWith g k (of_node x) tag kids
+  pub annotations : List Tree
+  pub annotates : Annotates g k (notes_of g x) annotations
+
+-- some of these triples, or of these nodes, is the axiom
+pub record IsOfSome (g : List Triple) (k : List Entity) (ts : List Triple) (a : Tree) : Type 0 where
+  pub triple : Triple
+  pub inside : Contains ts triple
+  pub axiom_of : IsAxiomOf g k triple a
+
+pub record IsOfSomeNode (g : List Triple) (k : List Entity) (xs : List Term) (a : Tree) : Type 0 where
+  pub x : Term
+  pub inside : Contains xs x
+  pub axiom_of : IsAxiomOfNode g k x a
 
 -- the axioms that triples are
 pub data AreAxioms (g : List Triple) (k : List Entity) : List Triple → List Tree → Type 0 where
@@ -123,7 +192,7 @@ pub data AreNodeAxioms (g : List Triple) (k : List Entity) : List Term → List 
       Annotates g k (notes_of g x) notes_in → AreNodeAxioms g k more us →
       AreNodeAxioms g k (x ∷ more) (axioms_of a ts (notes notes_in ∷ []) ++ us)
 
-abbrev only : {A : Type 0} → List A → Option A → Type 0
+abbrev pub only : {A : Type 0} → List A → Option A → Type 0
 only [] None = Unit {0}
 only [] (Some a) = ⊥
 only (a ∷ []) None = ⊥
@@ -208,6 +277,10 @@ pub record IsDirectlyNotedUnder (g : List Triple) (s r : Term) : Type 0 where
 pub data InSteps (step : Term → Term → Type 0) : Term → Term → Type 0 where
   one_step : (y x : Term) → step y x → InSteps step y x
   one_more : (y z x : Term) → step y z → InSteps step z x → InSteps step y x
+
+-- no way down from the term goes on without end
+pub data IsGrounded (g : List Triple) : Term → Type 0 where
+  grounded : (x : Term) → ((y : Term) → IsDirectlyBelow g y x → IsGrounded g y) → IsGrounded g x
 
 -- the terms from which the axioms begin
 pub data IsRoot (g : List Triple) (k : List Entity) (header : Term) : Term → Type 0 where
