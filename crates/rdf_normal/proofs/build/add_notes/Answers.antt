@@ -1,0 +1,14 @@
+use Rattle.std.proofs.Common.{Err, ap, ◌∙◌}
+use Rattle.owl_doc.specs.declared.fault.AddFault.{AddFault}
+use Rattle.owl_doc.specs.declared.fault.AddFault.TheVariants.{TooHeavy}
+use Rattle.rdf_normal.proofs.Filling.{err_of, note_added, notes_too_heavy}
+use Rattle.rdf_normal.proofs.build.add_notes.Goals as goal
+
+pub returns-in-Err-TooHeavy-clause-too_heavy : goal.returns-in-Err-TooHeavy-clause-too_heavy
+returns-in-Err-TooHeavy-clause-too_heavy c = λ _.
+    notes_too_heavy c.args.builder.now c.ids.builder c.args.ids.now c.ids.id-index c.id-item.result c.ids.invariant c.ids-test.true c.id-item.is
+    (c.annotate.ensures.too_heavy.0 (err_of c.annotate.result TooHeavy (c.in-Err-TooHeavy.is ∙ ap (λ (e : AddFault). Err e) c.in-Err-TooHeavy.field-0-is))).1.heavy
+
+pub ids-preserved : goal.ids-preserved
+ids-preserved c =
+    note_added c.args.builder.now c.ids.builder c.annotate.new.self c.args.ids.now c.ids.id-index c.id-item.result c.in-Ok._new c.ids.invariant c.requires.apart c.ids-test.true c.id-item.is c.in-Ok.ensures.new c.in-Ok.ensures.added

@@ -1,0 +1,5 @@
+use Rattle.rdf_normal.specs.DeclaredLaws.{declares_same}
+use Rattle.rdf_normal.proofs.laws.declarations_stay.Goals as goal
+
+pub returns : goal.returns
+returns c = declares_same
