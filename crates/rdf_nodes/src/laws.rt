@@ -42,16 +42,20 @@ pub fn words_are_told_apart()
 /// has two kinds that it may not have (Structural Specification, section 5.8.1),
 /// no IRI has, whether it is declared or not.
 pub fn kinds_are_told_apart()
-    ensures has_kind { (kinds : List Entity) (kind : Kind) (iri : List ℕ) → (has_kind kinds kind iri ≡ true) ↔ HasKind kinds kind iri }
-    ensures no_shared { (kinds : List Entity) → HaveNoClash kinds → (iri : List ℕ) → SharesKinds kinds iri → ⊥ }
+    ensures has_kind { (kinds : List Entity) (kind : Kind) (iri : List ℕ) → (has_kind kinds kind iri
+        ≡ true) ↔ HasKind kinds kind iri }
+    ensures no_shared { (kinds : List Entity) → HaveNoClash kinds → (iri : List ℕ)
+        → SharesKinds kinds iri → ⊥ }
 {}
 
 /// Laws: what a word chooses of a node is the object of a triple of the node
 /// that carries the word. The blank nodes of a role, but for individuals, are
 /// the terms that have it.
 pub fn nodes_are_by_their_triples()
-    ensures chosen { (g : List Triple) (x : Term) (w : Word) (y : Term) → Contains (chosen g x w) y ↔ IsChosenBy g x w y }
-    ensures nodes { (g : List Triple) (r : Role) (x : Term) → (r ≡ role.Individual → ⊥) → Contains (nodes_of g r) x ↔ (role_of g x ≡ r) }
+    ensures chosen { (g : List Triple) (x : Term) (w : Word) (y : Term) → Contains (chosen g x w) y
+        ↔ IsChosenBy g x w y }
+    ensures nodes { (g : List Triple) (r : Role) (x : Term) → (r ≡ role.Individual → ⊥)
+        → Contains (nodes_of g r) x ↔ (role_of g x ≡ r) }
 {}
 
 /// Laws: where no IRI has a clash, a term denotes at most one tree, a list of
@@ -59,21 +63,32 @@ pub fn nodes_are_by_their_triples()
 /// an expression is of a node, so that a node denotes one tree whatever is asked
 /// for, and at most one of an axiom of a node or triple.
 pub fn terms_denote_one_tree()
-    ensures tree { (g : List Triple) (k : List Entity) → HaveNoClash k → (x : Term) (w : Want) → AtMostOne (Denotes g k x w) }
-    ensures list { (g : List Triple) (k : List Entity) → HaveNoClash k → (x : Term) (s : Sort) → AtMostOne (Lists g k x s) }
-    ensures keys { (g : List Triple) (k : List Entity) → HaveNoClash k → (x : Term) (os ds : List Tree) → AreKeys g k x os ds → (ps es : List Tree) → AreKeys g k x ps es → (os ≡ ps) × (ds ≡ es) }
-    ensures parts { (g : List Triple) (k : List Entity) → HaveNoClash k → (b : Bearer) (ps : List Part) → AtMostOne (Holds g k b ps) }
-    ensures row { (g : List Triple) (k : List Entity) → HaveNoClash k → (x : Term) → AtMostOne (IsRowOf g k (of_node x) node_rows) }
-    ensures any_sort { (g : List Triple) (k : List Entity) → HaveNoClash k → (x : Term) (s t : Sort) (ts us : List Tree) → has_row (role_of g x) ≡ true → Denotes g k x (One s) ts → Denotes g k x (One t) us → ts ≡ us }
-    ensures axiom_row { (g : List Triple) (k : List Entity) → HaveNoClash k → (b : Bearer) → AtMostOne (IsRowOf g k b axiom_rows) }
+    ensures tree { (g : List Triple) (k : List Entity) → HaveNoClash k → (x : Term) (w : Want)
+        → AtMostOne (Denotes g k x w) }
+    ensures list { (g : List Triple) (k : List Entity) → HaveNoClash k → (x : Term) (s : Sort)
+        → AtMostOne (Lists g k x s) }
+    ensures keys { (g : List Triple) (k : List Entity) → HaveNoClash k
+        → (x : Term) (os ds : List Tree) → AreKeys g k x os ds → (ps es : List Tree)
+        → AreKeys g k x ps es → (os ≡ ps) × (ds ≡ es) }
+    ensures parts { (g : List Triple) (k : List Entity) → HaveNoClash k
+        → (b : Bearer) (ps : List Part) → AtMostOne (Holds g k b ps) }
+    ensures row { (g : List Triple) (k : List Entity) → HaveNoClash k → (x : Term)
+        → AtMostOne (IsRowOf g k (of_node x) node_rows) }
+    ensures any_sort { (g : List Triple) (k : List Entity) → HaveNoClash k
+        → (x : Term) (s t : Sort) (ts us : List Tree) → has_row (role_of g x) ≡ true
+        → Denotes g k x (One s) ts → Denotes g k x (One t) us → ts ≡ us }
+    ensures axiom_row { (g : List Triple) (k : List Entity) → HaveNoClash k → (b : Bearer)
+        → AtMostOne (IsRowOf g k b axiom_rows) }
 {}
 
 /// Laws: two ontologies that one graph states under the same kinds are
 /// structurally equivalent (Structural Specification, section 2.1). So are two
 /// that it says.
 pub fn graphs_state_one_ontology()
-    ensures states { (g : List Triple) (k : List Entity) (o p : Ontology) → States g k o → States g k p → IsSameOntology o p }
-    ensures says { (g : List Triple) (k : List Entity) (o p : Ontology) → Says g k o → Says g k p → IsSameOntology o p }
+    ensures states { (g : List Triple) (k : List Entity) (o p : Ontology) → States g k o
+        → States g k p → IsSameOntology o p }
+    ensures says { (g : List Triple) (k : List Entity) (o p : Ontology) → Says g k o → Says g k p
+        → IsSameOntology o p }
 {}
 
 /// Laws: under kinds without a clash the axioms that triples are, as a list,
@@ -81,26 +96,39 @@ pub fn graphs_state_one_ontology()
 /// that nodes stand for are those of each node with its annotations. There is
 /// such a list exactly where each triple, and each node, has an axiom.
 pub fn axioms_are_of_triples_and_nodes()
-    ensures triples { (g : List Triple) (k : List Entity) → HaveNoClash k → (ts : List Triple) (us : List Tree) → AreAxioms g k ts us → (a : Tree) → Contains us a ↔ IsOfSome g k ts a }
-    ensures each_triple { (g : List Triple) (k : List Entity) (ts : List Triple) → ((us : List Tree) × AreAxioms g k ts us) ↔ ((t : Triple) → Contains ts t → HasAxiom g k t) }
-    ensures nodes { (g : List Triple) (k : List Entity) → HaveNoClash k → (xs : List Term) (us : List Tree) → AreNodeAxioms g k xs us → (a : Tree) → Contains us a ↔ IsOfSomeNode g k xs a }
-    ensures each_node { (g : List Triple) (k : List Entity) (xs : List Term) → ((us : List Tree) × AreNodeAxioms g k xs us) ↔ ((x : Term) → Contains xs x → HasNodeAxiom g k x) }
+    ensures triples { (g : List Triple) (k : List Entity) → HaveNoClash k
+        → (ts : List Triple) (us : List Tree) → AreAxioms g k ts us → (a : Tree) → Contains us a
+        ↔ IsOfSome g k ts a }
+    ensures each_triple { (g : List Triple) (k : List Entity) (ts : List Triple)
+        → ((us : List Tree) × AreAxioms g k ts us) ↔ ((t : Triple) → Contains ts t
+        → HasAxiom g k t) }
+    ensures nodes { (g : List Triple) (k : List Entity) → HaveNoClash k
+        → (xs : List Term) (us : List Tree) → AreNodeAxioms g k xs us → (a : Tree) → Contains us a
+        ↔ IsOfSomeNode g k xs a }
+    ensures each_node { (g : List Triple) (k : List Entity) (xs : List Term)
+        → ((us : List Tree) × AreNodeAxioms g k xs us) ↔ ((x : Term) → Contains xs x
+        → HasNodeAxiom g k x) }
 {}
 
 /// Laws: the annotations that triples say, as a list, are those of each triple
 /// with each set of its own annotations. There is such a list exactly where each
 /// triple says some.
 pub fn annotations_are_of_triples()
-    ensures triples { (g : List Triple) (k : List Entity) (ts : List Triple) (us : List Tree) → Annotates g k ts us → (a : Tree) → Contains us a ↔ IsNoteOfSome g k ts a }
-    ensures each_triple { (g : List Triple) (k : List Entity) (ts : List Triple) → ((us : List Tree) × Annotates g k ts us) ↔ ((t : Triple) → Contains ts t → HasNote g k t) }
+    ensures triples { (g : List Triple) (k : List Entity) (ts : List Triple) (us : List Tree)
+        → Annotates g k ts us → (a : Tree) → Contains us a ↔ IsNoteOfSome g k ts a }
+    ensures each_triple { (g : List Triple) (k : List Entity) (ts : List Triple)
+        → ((us : List Tree) × Annotates g k ts us) ↔ ((t : Triple) → Contains ts t
+        → HasNote g k t) }
 {}
 
 /// Laws: each way to write the kids of an expression (Structural Specification,
 /// sections 6 to 8) has its row, and its tag has no other. The tags with a row
 /// are those of such expressions, and in the other table those of axioms.
 pub fn rows_are_complete()
-    ensures expressions { (t : Tag) → is_expression t ≡ true → ways_of_rows node_rows t ≡ ways (row_of t) }
-    ensures expression_tags { (t : Tag) → list_any (λ row. is_tag row.tag t) node_rows ≡ is_expression t }
+    ensures expressions { (t : Tag) → is_expression t ≡ true → ways_of_rows node_rows t
+        ≡ ways (row_of t) }
+    ensures expression_tags { (t : Tag) → list_any (λ row. is_tag row.tag t) node_rows
+        ≡ is_expression t }
     ensures axiom_tags { (t : Tag) → list_any (λ row. is_tag row.tag t) axiom_rows ≡ is_axiom t }
 {}
 
@@ -109,23 +137,40 @@ pub fn rows_are_complete()
 /// annotations. So are the kids of a chain, of a group of keys, of an
 /// annotation, and of a set of annotations.
 pub fn rows_give_shapes()
-    ensures expression { (g : List Triple) (k : List Entity) (b : Bearer) (row : Row) (ts : List Tree) → Contains node_rows row → Holds g k b row.parts ts → fits (row_of row.tag) (map tag_of ts) ≡ true }
-    ensures axiom_kids { (g : List Triple) (k : List Entity) (b : Bearer) (row : Row) (ts : List Tree) → Contains axiom_rows row → Holds g k b row.parts ts → (n : Tree) → tag_of n ≡ tag.Notes → fits (row_of row.tag) (map tag_of (n ∷ ts)) ≡ true }
-    ensures chain { (g : List Triple) (k : List Entity) (x : Term) (ts : List Tree) → 2 ≤ length ts → Lists g k x sort.ObjectPropertyExpression ts → fits (row_of tag.ObjectPropertyChain) (map tag_of ts) ≡ true }
-    ensures object_keys { (g : List Triple) (k : List Entity) (x : Term) (os ds : List Tree) → AreKeys g k x os ds → fits (row_of tag.ObjectKeys) (map tag_of os) ≡ true }
-    ensures data_keys { (g : List Triple) (k : List Entity) (x : Term) (os ds : List Tree) → AreKeys g k x os ds → fits (row_of tag.DataKeys) (map tag_of ds) ≡ true }
-    ensures annotation { (g : List Triple) (k : List Entity) (x y : Term) (n p v : Tree) → tag_of n ≡ tag.Notes → simple g k sort.AnnotationProperty x ≡ Some p → simple g k sort.AnnotationValue y ≡ Some v → fits (row_of tag.Annotation) (map tag_of (n ∷ p ∷ v ∷ [])) ≡ true }
-    ensures annotations { (g : List Triple) (k : List Entity) (ts : List Triple) (us : List Tree) → Annotates g k ts us → fits (row_of tag.Notes) (map tag_of us) ≡ true }
+    ensures expression { (g : List Triple) (k : List Entity) (b : Bearer) (row : Row) (ts : List Tree)
+        → Contains node_rows row → Holds g k b row.parts ts → fits (row_of row.tag) (map tag_of ts)
+        ≡ true }
+    ensures axiom_kids { (g : List Triple) (k : List Entity) (b : Bearer) (row : Row) (ts : List Tree)
+        → Contains axiom_rows row → Holds g k b row.parts ts → (n : Tree) → tag_of n ≡ tag.Notes
+        → fits (row_of row.tag) (map tag_of (n ∷ ts)) ≡ true }
+    ensures chain { (g : List Triple) (k : List Entity) (x : Term) (ts : List Tree) → 2 ≤ length ts
+        → Lists g k x sort.ObjectPropertyExpression ts
+        → fits (row_of tag.ObjectPropertyChain) (map tag_of ts) ≡ true }
+    ensures object_keys { (g : List Triple) (k : List Entity) (x : Term) (os ds : List Tree)
+        → AreKeys g k x os ds → fits (row_of tag.ObjectKeys) (map tag_of os) ≡ true }
+    ensures data_keys { (g : List Triple) (k : List Entity) (x : Term) (os ds : List Tree)
+        → AreKeys g k x os ds → fits (row_of tag.DataKeys) (map tag_of ds) ≡ true }
+    ensures annotation { (g : List Triple) (k : List Entity) (x y : Term) (n p v : Tree) → tag_of n
+        ≡ tag.Notes → simple g k sort.AnnotationProperty x ≡ Some p
+        → simple g k sort.AnnotationValue y ≡ Some v
+        → fits (row_of tag.Annotation) (map tag_of (n ∷ p ∷ v ∷ [])) ≡ true }
+    ensures annotations { (g : List Triple) (k : List Entity) (ts : List Triple) (us : List Tree)
+        → Annotates g k ts us → fits (row_of tag.Notes) (map tag_of us) ≡ true }
 {}
 
 /// Laws: from a term that denotes a tree, no way down over structural triples
 /// goes on without end. So it is on no cycle.
 pub fn denoted_nodes_are_grounded()
-    ensures term { (g : List Triple) (k : List Entity) (x : Term) (s : Sort) (ts : List Tree) → Denotes g k x (One s) ts → IsGrounded g x }
-    ensures list { (g : List Triple) (k : List Entity) (x : Term) (s : Sort) (ts : List Tree) → Lists g k x s ts → IsGrounded g x }
-    ensures keys { (g : List Triple) (k : List Entity) (x : Term) (os ds : List Tree) → AreKeys g k x os ds → IsGrounded g x }
-    ensures axiom_node { (g : List Triple) (k : List Entity) (x : Term) (t : Tag) (ts : List Tree) → IsAxiomWith g k (of_node x) t ts → IsGrounded g x }
-    ensures no_cycle { (g : List Triple) (x : Term) → IsGrounded g x → InSteps (IsDirectlyBelow g) x x → ⊥ }
+    ensures term { (g : List Triple) (k : List Entity) (x : Term) (s : Sort) (ts : List Tree)
+        → Denotes g k x (One s) ts → IsGrounded g x }
+    ensures list { (g : List Triple) (k : List Entity) (x : Term) (s : Sort) (ts : List Tree)
+        → Lists g k x s ts → IsGrounded g x }
+    ensures keys { (g : List Triple) (k : List Entity) (x : Term) (os ds : List Tree)
+        → AreKeys g k x os ds → IsGrounded g x }
+    ensures axiom_node { (g : List Triple) (k : List Entity) (x : Term) (t : Tag) (ts : List Tree)
+        → IsAxiomWith g k (of_node x) t ts → IsGrounded g x }
+    ensures no_cycle { (g : List Triple) (x : Term) → IsGrounded g x
+        → InSteps (IsDirectlyBelow g) x x → ⊥ }
 {}
 
 /// Worked cases: `_:u a owl:Class ; owl:unionOf ( :A [ a owl:Class ;
@@ -134,8 +179,10 @@ pub fn denoted_nodes_are_grounded()
 /// that is written as its own complement denotes nothing; and a graph says a
 /// declaration and a subclass axiom whose annotation is annotated.
 pub fn graphs_are_worked_out()
-    ensures union { Denotes union classes u (One sort.ClassExpression) (over tag.ObjectUnionOf (A ∷ complement ∷ []) ∷ []) }
+    ensures union { Denotes union classes u (One sort.ClassExpression)
+        (over tag.ObjectUnionOf (A ∷ complement ∷ []) ∷ []) }
     ensures restriction { Denotes restriction of_data u (One sort.ClassExpression) (some_values ∷ []) }
-    ensures cycle { (k : List Entity) (ts : List Tree) → Denotes cycle k c (One sort.ClassExpression) ts → ⊥ }
+    ensures cycle { (k : List Entity) (ts : List Tree)
+        → Denotes cycle k c (One sort.ClassExpression) ts → ⊥ }
     ensures says { Says small classes stated }
 {}
