@@ -1,0 +1,13 @@
+pub mod WordTexts
+pub mod Taking
+pub mod Terms
+pub mod Cells
+pub mod Writing
+pub mod Nodes
+pub mod Counting
+pub mod FarDigits
+pub mod Annotations
+pub mod Axioms
+pub mod Placing
+pub mod Headers
+pub mod Bare

@@ -1,0 +1,100 @@
+-- What the walk over the arena adds to the triples.
+use Rattle.std.specs.Prelude.{◌≡◌, ◌<◌, ℕ, ◌+◌, Bool, true, false, not, max, List, [], ◌∷◌, ◌++◌, map}
+use Rattle.std.specs.List.{AllByRecursion}
+use Rattle.owl_arena.specs.Held.{tree_at}
+use Rattle.owl_tree.specs.declared.tag.Tag.{Tag}
+use Rattle.owl_tree.specs.Trees.{Tree, tag_of}
+use Rattle.rdf_graph.specs.declared.term.Term.{Term}
+use Rattle.rdf_graph.specs.declared.term.Term.TheVariants.{Iri, Blank, Literal}
+use Rattle.rdf_graph.specs.declared.triple.Triple.{Triple}
+use Rattle.rdf_nodes.specs.Words.{word_iri}
+use Rattle.rdf_nodes.specs.Nodes.{nil_iri}
+use Rattle.rdf_nodes.specs.Denotation.{true_literal}
+use Rattle.rdf_nodes.specs.declared.row.Part.{Part}
+use Rattle.rdf_forward.specs.declared.drawn.Drawn.{Drawn}
+use Rattle.rdf_forward.specs.declared.drawn.Drawn.TheVariants as drawn
+use Rattle.rdf_forward.specs.declared.labels.FreshLabels.{FreshLabels}
+use Rattle.rdf_forward.specs.declared.writer.Writer.{Writer}
+use Rattle.rdf_forward.specs.FreshLabels.{far_ones, greatest_number, numbered_label}
+use Rattle.rdf_forward.specs.Forms.{Form, Arcs, plain, arc_nodes, arc_triples, first_iri, link, list_form, nodes, rest_iri, triples}
+use Rattle.rdf_forward.specs.Drawing.{Kid, form_of, kid_of, listed, placed_at, placed_by, Placed}
+
+-- the trees with these numbers, as rows look at them
+abbrev pub kids_at : List Tree → List ℕ → List Kid
+kids_at trees ids = map (λ id. kid_of (tree_at trees id)) ids
+
+abbrev pub tags_at : List Tree → List ℕ → List Tag
+tags_at trees ids = map (λ id. tag_of (tree_at trees id)) ids
+
+abbrev pub forms_at : List Tree → List ℕ → List Form
+forms_at trees ids = map (λ id. form_of (tree_at trees id)) ids
+
+abbrev pub drawn_form : List Tree → Drawn → Form
+drawn_form trees (drawn.Kid id) = form_of (tree_at trees id)
+drawn_form trees (drawn.Trees least ids) = listed least (forms_at trees ids.now)
+drawn_form trees (drawn.Keys objects others) = list_form (forms_at trees objects.now ++ forms_at trees others.now)
+drawn_form trees (drawn.Class word) = plain (Iri (word_iri word))
+drawn_form trees drawn.True = plain (Literal true_literal)
+
+-- the trees have numbers below this one
+abbrev pub IsDrawnBelow : ℕ → Drawn → Type 0
+IsDrawnBelow above (drawn.Kid id) = id < above
+IsDrawnBelow above (drawn.Trees least ids) = AllByRecursion (λ id. id < above) ids.now
+IsDrawnBelow above (drawn.Keys objects others) =
+    AllByRecursion (λ id. id < above) objects.now × AllByRecursion (λ id. id < above) others.now
+IsDrawnBelow above (drawn.Class word) = Unit {0}
+IsDrawnBelow above drawn.True = Unit {0}
+
+-- What stands at a part whatever the parts behind it are, and which kids they get.
+pub record Takes (trees : List Tree) (part : Part) (left : ℕ) (ids : List ℕ) (d : Drawn) (others : List ℕ) : Type 0 where
+  pub placed : (behind : List Kid → List Placed) → placed_by part.want part.place left behind (kids_at trees ids)
+      ≡ placed_at part.place (drawn_form trees d) ∷ behind (kids_at trees others)
+
+abbrev pub TakesNone : List Tree → Part → ℕ → List ℕ → Type 0
+TakesNone trees part left ids = (behind : List Kid → List Placed) → placed_by part.want part.place left behind (kids_at trees ids) ≡ []
+
+abbrev pub names : Writer → ℕ → List ℕ
+names w n = numbered_label w.labels.greatest w.labels.taken.items n
+
+-- a list of trees begins at its first cell, or is rdf:nil
+abbrev pub list_term : (ℕ → List ℕ) → List ℕ → ℕ → Term
+list_term name [] n = Iri nil_iri
+list_term name (id ∷ ids) n = Blank (name n)
+
+-- what a cell leads to: the next one, or the end
+abbrev pub rest_term : (ℕ → List ℕ) → Bool → ℕ → Term
+rest_term name true n = Blank (name n)
+rest_term name false n = Iri nil_iri
+
+-- a cell leads to a second one, with this element, which ends the list
+abbrev pub second_cell : (ℕ → List ℕ) → ℕ → ℕ → Term → List Triple
+second_cell name cell n element =
+    link (Blank (name cell)) rest_iri (Blank (name n)) ∷ link (Blank (name n)) first_iri element ∷
+    link (Blank (name n)) rest_iri (Iri nil_iri) ∷ []
+
+-- so many nodes more, and these triples
+pub record Writes (old new : Writer) (count : ℕ) (ts : List Triple) : Type 0 where
+  pub labels : new.labels ≡ old.labels
+  pub counted : new.next ≡ old.next + count
+  pub added : new.gather ≡ old.gather ++ ts
+
+abbrev pub WritesForm : Writer → Writer → Form → Type 0
+WritesForm old new f = Writes old new (nodes f) (triples (names old) f old.next)
+
+abbrev pub WritesArcs : Writer → Writer → Term → Arcs → Type 0
+WritesArcs old new x arcs = Writes old new (arc_nodes arcs) (arc_triples (names old) x arcs old.next)
+
+abbrev pub is_none : List Form → Bool
+is_none [] = true
+is_none (f ∷ fs) = false
+
+-- Whatever stands in the list behind these elements: once that is written, the whole is. A list that goes on has more elements.
+abbrev pub Leads : Writer → Writer → Bool → List Form → Type 0
+Leads old new goes_on fs =
+    (others : List Form) (last : Writer) → is_none others ≡ not goes_on → WritesForm new last (list_form others) →
+    WritesForm old last (list_form (fs ++ others))
+
+-- these labels more
+pub record Counts (old new : FreshLabels) (ls : List (List ℕ)) : Type 0 where
+  pub greatest : new.greatest ≡ max old.greatest (greatest_number ls)
+  pub far : new.taken.items ≡ old.taken.items ++ far_ones ls
