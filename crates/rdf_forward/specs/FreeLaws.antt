@@ -121,7 +121,7 @@ property_free k is p m =
       no_facet = no_true (is_facet p) (λ h. facet_undeclared k is p m h);
     }
 
-predicate_of : (w : Word) (t : Triple) → carries w t ≡ true → (t.predicate ≡ type_iri) ⊎ (t.predicate ≡ word_iri w)
+pub predicate_of : (w : Word) (t : Triple) → carries w t ≡ true → (t.predicate ≡ type_iri) ⊎ (t.predicate ≡ word_iri w)
 unfolding carries
 predicate_of w t h =
     elim (cases_Bool (is_type w)) [

@@ -41,6 +41,7 @@ pub mod GraphEntries
 pub mod GraphEntryLaws
 pub mod Asides
 pub mod AsideLaws
+pub mod NoAxiomLaws
 pub mod WholeLaws
 pub mod GroupLaws
 pub mod PlaceLaws
@@ -48,6 +49,13 @@ pub mod GraphLaws
 pub mod Sorts
 pub mod SortLaws
 pub mod FreeLaws
+pub mod MainLaws
+pub mod RoleLaws
+pub mod HeaderLaws
+pub mod FormSorts
+pub mod FormSortLaws
+pub mod RowSortLaws
+pub mod TreeSortLaws
 pub mod WorkedCases
 pub mod NoteWalks
 pub mod AxiomWalks

@@ -72,7 +72,7 @@ module _ (g : List Triple) (k : List Entity) (header : Term) where
       let parts = and_parts (is_same t.subject header) (carries_some header_words t) h in
       both_ways (carries_some header_words t) (m.of_no_header (same_term t.subject header parts.0)) parts.1)
 
-  not_annotation : (t : Triple) → IsMain g k header t → is_annotation_triple g k header t ≡ false
+  pub not_annotation : (t : Triple) → IsMain g k header t → is_annotation_triple g k header t ≡ false
   unfolding is_annotation_triple
   not_annotation t m =
       no_true _ (λ h.

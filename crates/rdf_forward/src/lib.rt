@@ -17,7 +17,11 @@ mod statement;
 mod words;
 mod writer;
 
-pub use graph_laws::{graphs_are_sorted, graphs_hold_what_is_made, properties_are_free};
+pub use graph_laws::{
+    annotations_are_no_axioms, axioms_are_main_triples, forms_make_their_nodes, graphs_are_sorted,
+    graphs_hold_what_is_made, headers_are_read_back, properties_are_free, roles_are_read_back,
+    rows_make_their_nodes, trees_make_their_nodes,
+};
 pub use laws::{
     axioms_are_told_by_their_triples, axioms_with_nodes_are_drawn, expressions_have_rows,
     forms_are_kept_apart, fresh_labels_are_told_apart, graphs_keep_their_groups,
