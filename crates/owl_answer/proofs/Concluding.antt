@@ -68,7 +68,7 @@ wanted_once (compares first second) (d ∷ x ∷ []) (e ∷ []) s a b v w = absu
 wanted_once (compares first second) (d ∷ x ∷ []) (e ∷ y ∷ z ∷ es) s a b v w = absurd w
 wanted_once (compares first second) (d ∷ x ∷ []) (e ∷ y ∷ []) s a b v w = comparison_same d x e y s.0 s.1.0 a b v w
 
-limited_once : (V W : Outcome → Type 0) → ((a b : Outcome) → V a → W b → a ≡ b) → (a b : Outcome) → IsLimited V a → IsLimited W b → a ≡ b
+pub limited_once : (V W : Outcome → Type 0) → ((a b : Outcome) → V a → W b → a ≡ b) → (a b : Outcome) → IsLimited V a → IsLimited W b → a ≡ b
 limited_once V W once a b (fits v l) (fits w m) = once a b v w
 limited_once V W once a b (fits v l) (passes wanted w m e) =
     let same = ap (λ (o : Outcome). length o.text) (once a wanted v w) in

@@ -1,6 +1,9 @@
 pub mod Answering
 pub mod Concluding
+pub mod KindsAt
 pub mod Lines
+pub mod TurtleOnce
+pub mod Turtles
 pub mod Typings
 pub mod Unreached
 pub mod Wanting

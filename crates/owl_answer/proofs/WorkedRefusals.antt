@@ -12,6 +12,7 @@ use Rattle.owl_tree.specs.Trees.{Tree, kids_of, leaf, node}
 use Rattle.rdf_sayable.specs.Parts.{of_axiom, of_header}
 use Rattle.rdf_sayable.specs.Reasons.{inverse_subject, reserved}
 use Rattle.owl_answer.specs.Refusals.{two_kinds, undeclared, unsayable}
+use Rattle.owl_answer.specs.TurtleOutcome.{too_heavy_output, too_many_triples}
 
 abbrev over : Tag → List Tree → Tree
 over t kids = node t (kids_of kids)
@@ -46,3 +47,9 @@ of_an_iri = refl
 of_no_iri : (unsayable (of_header []) inverse_subject).line ≡ codes "target: InverseSubject: header\n"
 unfolding encode
 of_no_iri = refl
+
+of_weight : too_heavy_output.line ≡ codes "limit: Weight: output\n"
+of_weight = refl
+
+of_triples : too_many_triples.line ≡ codes "limit: Triples: output\n"
+of_triples = refl

@@ -1,7 +1,9 @@
 pub mod Answers
+pub mod KindsAt
 pub mod Outcome
 pub mod Refusals
 pub mod Summary
+pub mod TurtleOutcome
 pub mod Typing
 pub mod TypingLaws
 pub mod Unreached

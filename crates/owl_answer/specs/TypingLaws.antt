@@ -91,6 +91,9 @@ pub same_kinds_clash : (kinds others : List Entity) (iri : List ℕ) → Declare
 same_kinds_clash kinds others iri same h =
     record { clash = clash_of_same kinds others same iri h.clash; first = λ other clash less. h.first other (clash_of_same others kinds (back kinds others same) other clash) less }
 
+pub same_kinds_apart : (kinds others : List Entity) → DeclareSame kinds others → ((iri : List ℕ) → HasClash kinds iri → ⊥) → (iri : List ℕ) → HasClash others iri → ⊥
+same_kinds_apart kinds others same apart iri h = apart iri (clash_of_same others kinds (back kinds others same) iri h)
+
 -- there is one first clash at most
 tied : (a b : List ℕ) (o : Ordering) → text_cmp a b ≡ o → (text_cmp a b ≡ Less → ⊥) → (text_cmp b a ≡ Less → ⊥) → a ≡ b
 tied a b Less e h k = absurd (h e)

@@ -2,7 +2,7 @@
 
 ghost use Rattle.std.specs.Prelude.{◌≡◌, [], string_bytes, IfOk, IsErr};
 ghost use Rattle.std.specs.Str.{encode_utf8_all};
-ghost use Rattle.owl_answer.specs.Outcome.{too_long_output};
+ghost use Rattle.owl_answer.specs.Outcome.{done_line, too_long_output};
 ghost use Rattle.owl_answer.specs.Answers.{outcome_of};
 
 use owl_characters::{NoMemory, Text};
@@ -49,6 +49,13 @@ pub fn said(alloc: Global, status: Status, line: &str) -> Result<Answer, NoMemor
     ensures { IfOk result (λ answer. outcome_of answer ≡ record { status = status; text = line.now; line = line.now }) }
 {
     told(alloc, status, Text::of(alloc, line)?, line)
+}
+
+/// How many axioms were written, and how many are said in others.
+pub fn done_line(alloc: Global, axioms: u64, absorbed: u64) -> Result<String, AllocError>
+    ensures { IfOk result (λ line. string_bytes line ≡ done_line axioms absorbed) }
+{
+    format!(in alloc; "translated; axioms {axioms}; absorbed {absorbed}\n")
 }
 
 /// The answer where the text would have more than 2^27 bytes.

@@ -1,16 +1,16 @@
 //! What is answered for documents that are read.
 
-ghost use Rattle.std.specs.Prelude.{◌≡◌, ◌<◌, IfOk, length, map, string_bytes};
+ghost use Rattle.std.specs.Prelude.{◌≡◌, ◌<◌, IfOk, length, map};
 ghost use Rattle.std.specs.Str.{encode_utf8_all};
 ghost use Rattle.owl_doc.specs.Documents.{ontology_of};
 ghost use Rattle.owl_command.specs.Commands.{names_of, request_of};
 ghost use Rattle.owl_command.specs.declared.command.Target.TheVariants.{Fss};
 ghost use Rattle.owl_documents.specs.Documents.{said_of};
 ghost use Rattle.fss_write.specs.Text.{text_of};
-ghost use Rattle.owl_answer.specs.Outcome.{IsBack, IsComparison, IsLimited, IsSuccess, IsWanted, ReadsIn, done_line, normal_form, shown, translation};
+ghost use Rattle.owl_answer.specs.Outcome.{IsBack, IsComparison, IsLimited, IsSuccess, IsWanted, ReadsIn, normal_form, shown, translation};
 ghost use Rattle.owl_answer.specs.Answers.{IsConclusion, outcome_of};
 
-use crate::answer::{Answer, said, told, too_long_output};
+use crate::answer::{Answer, done_line, said, told, too_long_output};
 use crate::imports::first_missing;
 use crate::refusal::refuse_import;
 use crate::summary::summary;
@@ -18,7 +18,7 @@ use fss_write::{WriteFault, write};
 use owl_characters::{MOST_BYTES, NoMemory, Text};
 use owl_command::{Command, Status};
 use owl_doc::Doc;
-use std::alloc::{AllocError, Global};
+use std::alloc::Global;
 
 /// The answer with the text of a document.
 fn translated(alloc: Global, doc: &Doc, text: Text) -> Result<Answer, NoMemory>
@@ -32,13 +32,6 @@ fn translated(alloc: Global, doc: &Doc, text: Text) -> Result<Answer, NoMemory>
         text,
         line,
     })
-}
-
-/// How many axioms were written, and how many are said in others.
-fn done_line(alloc: Global, axioms: u64, absorbed: u64) -> Result<String, AllocError>
-    ensures { IfOk result (λ line. string_bytes line ≡ done_line axioms absorbed) }
-{
-    format!(in alloc; "translated; axioms {axioms}; absorbed {absorbed}\n")
 }
 
 /// The translation of a document to Functional-Style Syntax.

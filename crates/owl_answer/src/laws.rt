@@ -1,9 +1,12 @@
 //! Laws of what is answered, as functions that do nothing.
 
 ghost use Rattle.std.specs.Prelude.{◌≡◌, ℕ, List};
+ghost use Rattle.owl_answer.specs.Outcome.{Outcome};
+ghost use Rattle.owl_answer.specs.TurtleOutcome.{IsTurtleTranslation};
 ghost use Rattle.owl_answer.specs.Typing.{AllAreWellTyped, DeclareSame, IsFirstUntyped};
 ghost use Rattle.owl_answer.specs.Unreached.{UnreachedChangeNothing};
 ghost use Rattle.owl_kind.specs.Kinds.{Entity, IsFirstClash};
+ghost use Rattle.owl_documents.specs.Documents.{IsSame, Said};
 ghost use Rattle.owl_tree.specs.Ontologies.{IsSameOntology, Ontology};
 ghost use Rattle.rdf_sayable.specs.Parts.{Part};
 
@@ -44,4 +47,17 @@ pub fn typing_depends_on_what_is_declared()
         DeclareSame kinds others → AllAreWellTyped kinds o → AllAreWellTyped others o }
     ensures untyped { (kinds others : List Entity) (o : Ontology) (part : Part) (e : Entity) →
         DeclareSame kinds others → IsFirstUntyped kinds o part e → IsFirstUntyped others o part e }
+{}
+
+/// Laws: one thing at most becomes of a document that is translated to Turtle.
+/// It depends on what the kinds declare, on the document's prefixes, and on its
+/// ontology up to structural equivalence (Structural Specification, section
+/// 2.1), and on nothing else.
+pub fn turtle_translations_are_one()
+    ensures once { (kinds : List Entity) (main : Said) (outcome other : Outcome) →
+        IsTurtleTranslation kinds main outcome → IsTurtleTranslation kinds main other →
+        outcome ≡ other }
+    ensures same { (kinds others : List Entity) (main other : Said) (outcome : Outcome) →
+        DeclareSame kinds others → IsSame main other →
+        IsTurtleTranslation kinds main outcome → IsTurtleTranslation others other outcome }
 {}

@@ -1,7 +1,7 @@
 //! What is answered where a document is not read.
 
 ghost use Rattle.std.specs.Prelude.{◌≡◌, ◌≢◌, ◌++◌, string_bytes, codes, decimal, IfOk};
-ghost use Rattle.owl_answer.specs.Outcome.{defect_outcome, missing_import, reason_word, refusal_outcome};
+ghost use Rattle.owl_answer.specs.Outcome.{defect_outcome, missing_import, passed_limit, reason_word, refusal_outcome};
 ghost use Rattle.owl_answer.specs.Answers.{outcome_of, trouble_outcome};
 
 use crate::answer::{Answer, refused};
@@ -50,6 +50,13 @@ fn limit_line(alloc: Global, count: &str, name: &str) -> Result<String, AllocErr
     ensures { IfOk result (λ line. string_bytes line ≡ codes "limit: " ++ (count.now ++ (codes ": " ++ (name.now ++ codes "\n")))) }
 {
     format!(in alloc; "limit: {count}: {name}\n")
+}
+
+/// What is answered where what is to be written would pass this limit.
+pub fn refuse_output(alloc: Global, count: &str) -> Result<Answer, NoMemory>
+    ensures { IfOk result (λ answer. outcome_of answer ≡ passed_limit count.now (codes "output")) }
+{
+    refused(alloc, Status::Limit, limit_line(alloc, count, "output"))
 }
 
 /// What is answered where the document of this name has this defect.

@@ -1,0 +1,61 @@
+-- The translation to Turtle, step by step.
+use Rattle.std.proofs.Common.{◌≡◌, ◌<◌, ◌≤◌, ℕ, List, length, sym, subst}
+use Rattle.std.specs.Str.{encode_utf8_all}
+use Rattle.owl_characters.specs.Limit.{most_bytes}
+use Rattle.owl_arena.specs.Shared.{heaviest}
+use Rattle.owl_atom.specs.declared.prefixes.Prefix.{Prefix}
+use Rattle.owl_kind.specs.Kinds.{Entity, IsFirstClash}
+use Rattle.owl_tree.specs.Ontologies.{canonical_ontology, ontology_weight}
+use Rattle.owl_doc.specs.Documents.{Document, ontology_of}
+use Rattle.owl_documents.specs.Documents.{Said, said_of}
+use Rattle.rdf_graph.specs.Graphs.{IsGraph, most_triples}
+use Rattle.rdf_graph.specs.declared.triple.Triple.{Triple}
+use Rattle.rdf_sayable.specs.Parts.{Part}
+use Rattle.rdf_sayable.specs.Reasons.{Objection}
+use Rattle.rdf_sayable.specs.Sayable.{CanSayAll, IsFirstUnsayable}
+use Rattle.rdf_normal.specs.NormalForms.{absorbed_count, normal_form}
+use Rattle.rdf_forward.specs.Graphs.{graph_of}
+use Rattle.ttl_write.specs.Text.{turtle_text}
+use Rattle.owl_answer.specs.Outcome.{IsLimited, IsSuccess, Outcome, too_long_output}
+use Rattle.owl_answer.specs.Refusals.{two_kinds, undeclared, unsayable}
+use Rattle.owl_answer.specs.Typing.{IsFirstUntyped}
+use Rattle.owl_answer.specs.TurtleOutcome.{HasNoClash, IsFormTold, IsGraphTold, IsToldBack, IsTold, IsTurtleTranslation, IsTyped, ReadsGraph, clashes, few, graph_translation, light, ready, turtle_form, unsaid, untyped}
+use Rattle.owl_answer.proofs.Wanting.{passed}
+
+-- what is refused isn't read back
+unread : (wanted outcome : Outcome) (form : Said) → outcome ≡ wanted → (IsSuccess wanted.status → ⊥) → IsSuccess outcome.status → ReadsGraph outcome.text form
+unread wanted outcome form e quiet s = absurd (quiet (subst (λ (o : Outcome). IsSuccess o.status) e s))
+
+pub long_told : (form : Said) (absorbed : ℕ) (prefixes : List Prefix) (graph : List Triple) (outcome : Outcome) → prefixes ≡ form.prefixes → graph ≡ graph_of form.ontology → most_bytes < length (encode_utf8_all (turtle_text prefixes graph)) → outcome ≡ too_long_output → IsToldBack (IsLimited (λ (wanted : Outcome). wanted ≡ graph_translation form absorbed)) form outcome
+long_told form absorbed prefixes graph outcome p g l e = record {
+  is = passed (graph_translation form absorbed) outcome (subst (λ (text : List ℕ). most_bytes < length text) (λ i. encode_utf8_all (turtle_text (p i) (g i))) l) e;
+  back = unread too_long_output outcome form e (λ s. s);
+}
+
+pub few_told : (form : Said) (absorbed : ℕ) (graph : List Triple) (outcome : Outcome) → graph ≡ graph_of form.ontology → IsGraph graph → IsToldBack (IsLimited (λ (wanted : Outcome). wanted ≡ graph_translation form absorbed)) form outcome → IsToldBack (IsFormTold form absorbed) form outcome
+few_told form absorbed graph outcome e g h = record { is = few (subst (λ (triples : List Triple). length triples ≤ most_triples) e g.few) h.is; back = h.back }
+
+pub light_told : (main : Said) (form : Document) (absorbed : ℕ) (outcome : Outcome) → ontology_of form ≡ normal_form main.ontology → form.prefixes ≡ main.prefixes → absorbed ≡ absorbed_count main.ontology → ontology_weight (normal_form main.ontology) ≤ heaviest → IsToldBack (IsFormTold (said_of form) absorbed) (said_of form) outcome → IsToldBack (IsGraphTold main) (turtle_form main) outcome
+light_told main form absorbed outcome o p a l h =
+    let same : said_of form ≡ turtle_form main = λ i. record { prefixes = p i; ontology = o i } in
+    record {
+      is = light l (subst (λ (n : ℕ). IsFormTold (turtle_form main) n outcome) a (subst (λ (said : Said). IsFormTold said absorbed outcome) same h.is));
+      back = λ s. subst (ReadsGraph outcome.text) same (h.back s);
+    }
+
+module _ (kinds : List Entity) (main : Said) (outcome : Outcome) where
+  pub clash_told : (iri : List ℕ) → IsFirstClash kinds iri → outcome ≡ two_kinds iri → IsToldBack (IsTold kinds main) (turtle_form main) outcome
+  clash_told iri h e = record { is = clashes iri h e; back = unread (two_kinds iri) outcome (turtle_form main) e (λ s. s) }
+
+  pub untyped_told : HasNoClash kinds → (part : Part) (entity : Entity) → IsFirstUntyped kinds main.ontology part entity → outcome ≡ undeclared part entity → IsToldBack (IsTold kinds main) (turtle_form main) outcome
+  untyped_told apart part entity h e = record { is = untyped apart part entity h e; back = unread (undeclared part entity) outcome (turtle_form main) e (λ s. s) }
+
+  pub unsaid_told : IsTyped kinds main.ontology → (part : Part) (why : Objection) → IsFirstUnsayable main.ontology part why → outcome ≡ unsayable part why → IsToldBack (IsTold kinds main) (turtle_form main) outcome
+  unsaid_told typed part why h e = record { is = unsaid typed part why h e; back = unread (unsayable part why) outcome (turtle_form main) e (λ s. s) }
+
+  pub ready_told : IsTyped kinds main.ontology → CanSayAll main.ontology → IsToldBack (IsGraphTold main) (turtle_form main) outcome → IsToldBack (IsTold kinds main) (turtle_form main) outcome
+  ready_told t said h = record { is = ready (record { typed = t; sayable = said }) h.is; back = h.back }
+
+  -- in canonical form
+  pub canonical_told : canonical_ontology main.ontology ≡ main.ontology → IsToldBack (IsTold kinds main) (turtle_form main) outcome → IsTurtleTranslation kinds main outcome
+  canonical_told e h = subst (λ (said : Said). IsTold kinds said outcome) (λ i. record { prefixes = main.prefixes; ontology = sym e i }) h.is

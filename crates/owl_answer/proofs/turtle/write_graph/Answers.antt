@@ -1,0 +1,11 @@
+use Rattle.std.proofs.Common.{Err, ap}
+use Rattle.std.proofs.lemmas.Result.{IfOk-weaker}
+use Rattle.owl_documents.specs.Documents.{said_of}
+use Rattle.owl_answer.specs.Answers.{outcome_of}
+use Rattle.owl_answer.specs.declared.answer.Answer.{Answer}
+use Rattle.owl_answer.proofs.Turtles.{long_told}
+use Rattle.owl_answer.proofs.turtle.write_graph.Goals as goal
+
+pub returns-in-Err-TooLong : goal.returns-in-Err-TooLong
+returns-in-Err-TooLong c =
+    IfOk-weaker c.too_long_output.result _ _ (λ (a : Answer) e. long_told (said_of c.args.form.now) c.args.absorbed c.prefixes.result.now c.args.graph.now (outcome_of a) c.prefixes.ensures c.requires (c.in-Err-TooLong.ensures.too_long (ap Err c.in-Err-TooLong.field-0-is)) e) c.too_long_output.ensures

@@ -1,0 +1,89 @@
+-- What becomes of a main document that is translated to Turtle, under the kinds of its imports closure.
+use Rattle.std.specs.Prelude.{◌≡◌, ◌<◌, ◌≤◌, ℕ, List, length, codes}
+use Rattle.std.specs.Str.{encode_utf8_all}
+use Rattle.owl_arena.specs.Shared.{heaviest}
+use Rattle.owl_kind.specs.Kinds.{Entity, HasClash, IsFirstClash}
+use Rattle.owl_tree.specs.Ontologies.{Ontology, canonical_ontology, ontology_weight}
+use Rattle.owl_doc.specs.Counts.{axiom_count}
+use Rattle.owl_writing.specs.Tables.{written_prefixes}
+use Rattle.rdf_graph.specs.Graphs.{most_triples}
+use Rattle.rdf_sayable.specs.Parts.{Part}
+use Rattle.rdf_sayable.specs.Reasons.{Objection}
+use Rattle.rdf_sayable.specs.Sayable.{CanSayAll, IsFirstUnsayable}
+use Rattle.rdf_normal.specs.NormalForms.{absorbed_count, normal_form}
+use Rattle.rdf_forward.specs.Graphs.{graph_of}
+use Rattle.ttl_grammar.specs.Documents.{ReadsTurtle}
+use Rattle.ttl_write.specs.Text.{turtle_text}
+use Rattle.owl_command.specs.declared.status.Status.TheVariants.{Done}
+use Rattle.owl_documents.specs.Documents.{Said}
+use Rattle.owl_answer.specs.Outcome.{IsLimited, IsSuccess, Outcome, done_line, passed_limit}
+use Rattle.owl_answer.specs.Refusals.{two_kinds, undeclared, unsayable}
+use Rattle.owl_answer.specs.Typing.{AllAreWellTyped, IsFirstUntyped}
+
+-- the same document in canonical form, which equivalent ones have in common
+abbrev pub canonical_said : Said → Said
+canonical_said said = record { prefixes = said.prefixes; ontology = canonical_ontology said.ontology }
+
+-- the normal form that a graph says, in the document's prefixes
+abbrev pub turtle_form : Said → Said
+turtle_form said = record { prefixes = said.prefixes; ontology = normal_form said.ontology }
+
+-- The normal form has more than 2^24 nodes and leaves.
+abbrev pub too_heavy_output : Outcome
+too_heavy_output = passed_limit (codes "Weight") (codes "output")
+
+-- Its graph has more than 2^24 triples.
+abbrev pub too_many_triples : Outcome
+too_many_triples = passed_limit (codes "Triples") (codes "output")
+
+-- A translation writes the graph of the normal form, and says how many axioms that has, and how many are absorbed.
+abbrev pub graph_translation : Said → ℕ → Outcome
+graph_translation form absorbed = record {
+  status = Done;
+  text = encode_utf8_all (turtle_text form.prefixes (graph_of form.ontology));
+  line = done_line (axiom_count form.ontology) absorbed;
+}
+
+-- the bytes are read in Turtle to the graph of this form
+abbrev pub ReadsGraph : List ℕ → Said → Type 0
+ReadsGraph text form = ReadsTurtle text (written_prefixes form.prefixes) (graph_of form.ontology)
+
+-- no IRI has two kinds that no IRI may share
+abbrev pub HasNoClash : List Entity → Type 0
+HasNoClash kinds = (iri : List ℕ) → HasClash kinds iri → ⊥
+
+-- The kinds have no clash, and under them all is well typed.
+pub record IsTyped (kinds : List Entity) (o : Ontology) : Type 0 where
+  pub no_clash : HasNoClash kinds
+  pub typed : AllAreWellTyped kinds o
+
+-- All is well typed and can be said in a graph.
+pub record IsReady (kinds : List Entity) (o : Ontology) : Type 0 where
+  pub typed : IsTyped kinds o
+  pub sayable : CanSayAll o
+
+-- What becomes of a normal form, which a graph has to say.
+pub data IsFormTold (form : Said) (absorbed : ℕ) (outcome : Outcome) : Type 0 where
+  many : most_triples < length (graph_of form.ontology) → outcome ≡ too_many_triples → IsFormTold form absorbed outcome
+  few : length (graph_of form.ontology) ≤ most_triples → IsLimited (λ wanted. wanted ≡ graph_translation form absorbed) outcome → IsFormTold form absorbed outcome
+
+-- What becomes of a document of which all can be said.
+pub data IsGraphTold (main : Said) (outcome : Outcome) : Type 0 where
+  heavy : heaviest < ontology_weight (normal_form main.ontology) → outcome ≡ too_heavy_output → IsGraphTold main outcome
+  light : ontology_weight (normal_form main.ontology) ≤ heaviest → IsFormTold (turtle_form main) (absorbed_count main.ontology) outcome → IsGraphTold main outcome
+
+-- What becomes of a document in canonical form: the first condition that fails, or what becomes of its graph.
+pub data IsTold (kinds : List Entity) (main : Said) (outcome : Outcome) : Type 0 where
+  clashes : (iri : List ℕ) → IsFirstClash kinds iri → outcome ≡ two_kinds iri → IsTold kinds main outcome
+  untyped : HasNoClash kinds → (part : Part) (e : Entity) → IsFirstUntyped kinds main.ontology part e → outcome ≡ undeclared part e → IsTold kinds main outcome
+  unsaid : IsTyped kinds main.ontology → (part : Part) (why : Objection) → IsFirstUnsayable main.ontology part why → outcome ≡ unsayable part why → IsTold kinds main outcome
+  ready : IsReady kinds main.ontology → IsGraphTold main outcome → IsTold kinds main outcome
+
+-- What becomes of a document.
+abbrev pub IsTurtleTranslation : List Entity → Said → Outcome → Type 0
+IsTurtleTranslation kinds main outcome = IsTold kinds (canonical_said main) outcome
+
+-- It is such an outcome, and the text of a success reads back to the graph of this form.
+pub record IsToldBack (IsOne : Outcome → Type 0) (form : Said) (outcome : Outcome) : Type 0 where
+  pub is : IsOne outcome
+  pub back : IsSuccess outcome.status → ReadsGraph outcome.text form

@@ -1,0 +1,41 @@
+//! What documents declare.
+
+ghost use Rattle.std.specs.Prelude.{[], IfOk, OnOk, map};
+ghost use Rattle.owl_documents.specs.Documents.{said_of};
+ghost use Rattle.owl_answer.specs.KindsAt.{AddsAt, AreKindsAt};
+
+use owl_characters::NoMemory;
+use owl_doc::{Doc, declared};
+use owl_tree::Kinds;
+use std::alloc::Global;
+
+/// The kinds that the documents at these places declare (Structural
+/// Specification, section 5.8). A place where none stands declares nothing.
+pub fn kinds_of(alloc: Global, docs: &[Doc], places: &[usize]) -> Result<Kinds, NoMemory>
+    ensures { IfOk result (AreKindsAt (map said_of docs.now) places.now) }
+{
+    let mut kinds = Kinds::new(alloc);
+    declare_all(docs, places, &mut kinds)?;
+    Ok(kinds)
+}
+
+/// Declares what the documents at these places declare.
+fn declare_all(docs: &[Doc], places: &[usize], kinds: &mut Kinds) -> Result<(), NoMemory>
+    requires { AreKindsAt (map said_of docs.now) [] kinds.old }
+    ensures { OnOk result (AreKindsAt (map said_of docs.now) places.now kinds.new) }
+{
+    'places: for place in places {
+        declare_at(docs, *place, kinds)?;
+    }
+    Ok(())
+}
+
+/// Declares what the document at this place declares, besides what is declared.
+fn declare_at(docs: &[Doc], place: usize, kinds: &mut Kinds) -> Result<(), NoMemory>
+    ensures { OnOk result (AddsAt (map said_of docs.now) place kinds.old kinds.new) }
+{
+    match docs.get(place) {
+        Some(doc) => declared(doc, kinds),
+        None => Ok(()),
+    }
+}
