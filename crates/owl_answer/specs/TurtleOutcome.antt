@@ -11,7 +11,7 @@ use Rattle.rdf_sayable.specs.Parts.{Part}
 use Rattle.rdf_sayable.specs.Reasons.{Objection}
 use Rattle.rdf_sayable.specs.Sayable.{CanSayAll, IsFirstUnsayable}
 use Rattle.rdf_normal.specs.NormalForms.{absorbed_count, normal_form}
-use Rattle.rdf_forward.specs.Graphs.{graph_of}
+use Rattle.rdf_mapping.specs.Graphs.{graph_of}
 use Rattle.ttl_grammar.specs.Documents.{ReadsTurtle}
 use Rattle.ttl_write.specs.Text.{turtle_text}
 use Rattle.owl_command.specs.declared.status.Status.TheVariants.{Done}

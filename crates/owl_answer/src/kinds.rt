@@ -24,7 +24,7 @@ fn declare_all(docs: &[Doc], places: &[usize], kinds: &mut Kinds) -> Result<(), 
     requires { AreKindsAt (map said_of docs.now) [] kinds.old }
     ensures { OnOk result (AreKindsAt (map said_of docs.now) places.now kinds.new) }
 {
-    'places: for place in places {
+    for place in places {
         declare_at(docs, *place, kinds)?;
     }
     Ok(())

@@ -6,7 +6,7 @@ ghost use Rattle.owl_command.specs.declared.status.Status.TheVariants.{Done};
 ghost use Rattle.owl_doc.specs.Counts.{axiom_count};
 ghost use Rattle.owl_doc.specs.Documents.{ontology_of};
 ghost use Rattle.owl_documents.specs.Documents.{said_of};
-ghost use Rattle.rdf_forward.specs.Graphs.{graph_of};
+ghost use Rattle.rdf_mapping.specs.Graphs.{graph_of};
 ghost use Rattle.owl_answer.specs.Answers.{outcome_of};
 ghost use Rattle.owl_answer.specs.Outcome.{IsLimited, done_line};
 ghost use Rattle.owl_answer.specs.TurtleOutcome.{IsToldBack, graph_translation};

@@ -10,10 +10,10 @@ use Rattle.rdf_graph.specs.declared.triple.Triple.{Triple}
 use Rattle.rdf_nodes.specs.declared.word.Word.TheVariants as word
 use Rattle.rdf_forward.specs.declared.notes.Holder.TheVariants as holder
 use Rattle.rdf_forward.specs.declared.writer.Writer.{Writer}
-use Rattle.rdf_forward.specs.Forms.{Form, Arcs, arc_nodes, arc_triples, blank, link, made, nodes, term_of, triples}
-use Rattle.rdf_forward.specs.Drawing.{linked, linked_back, looped, standing}
-use Rattle.rdf_forward.specs.Notes.{Notes, note_nodes, note_triples, notes_of, reified, reified_nodes}
-use Rattle.rdf_forward.specs.Graphs.{axiom_notes, main_triple, set_nodes, set_triples, standing_nodes, standing_triples}
+use Rattle.rdf_mapping.specs.Forms.{Form, Arcs, arc_nodes, arc_triples, blank, link, made, nodes, term_of, triples}
+use Rattle.rdf_mapping.specs.Drawing.{linked, linked_back, looped, standing}
+use Rattle.rdf_mapping.specs.Notes.{Notes, note_nodes, note_triples, notes_of, reified, reified_nodes}
+use Rattle.rdf_mapping.specs.Graphs.{axiom_notes, main_triple, set_nodes, set_triples, standing_nodes, standing_triples}
 use Rattle.rdf_forward.specs.NoteWalks.{WritesNotes, notes_at}
 use Rattle.rdf_forward.specs.AxiomWalks.{AreEnds, WritesEnds, WritesMain, WritesSets, WritesStatement, sets_at}
 use Rattle.rdf_forward.specs.Walks.{Writes, WritesArcs, WritesForm, names}

@@ -11,7 +11,7 @@ use Rattle.owl_tree.specs.declared.tag.Tag.{Tag}
 use Rattle.owl_tree.specs.declared.tag.Tag.TheVariants as tag
 use Rattle.owl_tree.specs.Trees.{Tree, Kids, leaf, node, no_kids, kid, kids_in, kids_of, list_of, tag_of}
 use Rattle.owl_tree.specs.TreeLaws.{kids_of_list_of, list_of_kids_of}
-use Rattle.rdf_forward.specs.Graphs.{bare}
+use Rattle.rdf_mapping.specs.Graphs.{bare}
 
 bare_kids : (t n : Tree) (ts : List Tree) → n ∷ ts ≡ kids_in t → bare t ≡ node (tag_of t) (kid (node tag.Notes no_kids) (kids_of ts))
 bare_kids (leaf g a) n ts e = cc

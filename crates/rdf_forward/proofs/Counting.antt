@@ -8,8 +8,8 @@ use Rattle.owl_arena.specs.Held.{Held, tree_at, trees_at}
 use Rattle.owl_doc.specs.Documents.{Document, ontology_of}
 use Rattle.owl_tree.specs.Trees.{Tree, Kids, leaf, node, no_kids, kid, atom_in, kids_in, list_of}
 use Rattle.rdf_forward.specs.declared.labels.FreshLabels.{FreshLabels}
-use Rattle.rdf_forward.specs.FreshLabels.{far_number, far_ones, greatest_number, or_none}
-use Rattle.rdf_forward.specs.Graphs.{all_labels_in, labels_in, labels_of}
+use Rattle.rdf_mapping.specs.FreshLabels.{far_number, far_ones, greatest_number, or_none}
+use Rattle.rdf_mapping.specs.Graphs.{all_labels_in, labels_in, labels_of}
 use Rattle.rdf_forward.specs.Walks.{Counts}
 
 -- all of these numbers are below it

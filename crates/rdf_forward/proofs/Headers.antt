@@ -14,9 +14,9 @@ use Rattle.rdf_nodes.specs.Words.{word_iri}
 use Rattle.rdf_nodes.specs.Nodes.{type_iri}
 use Rattle.rdf_forward.specs.declared.notes.Holder.{Holder}
 use Rattle.rdf_forward.specs.declared.writer.Writer.{Writer}
-use Rattle.rdf_forward.specs.Forms.{blank, link}
-use Rattle.rdf_forward.specs.Notes.{Notes, annotation_in, note_nodes, note_triples}
-use Rattle.rdf_forward.specs.Graphs.{head_triples, header_nodes, header_term, import_triples, notes_from, version_of, version_triples}
+use Rattle.rdf_mapping.specs.Forms.{blank, link}
+use Rattle.rdf_mapping.specs.Notes.{Notes, annotation_in, note_nodes, note_triples}
+use Rattle.rdf_mapping.specs.Graphs.{head_triples, header_nodes, header_term, import_triples, notes_from, version_of, version_triples}
 use Rattle.rdf_forward.specs.NoteWalks.{WritesNotes, holder_term, notes_among, notes_at}
 use Rattle.rdf_forward.specs.HeaderWalks.{WritesBelow, WritesHeader}
 use Rattle.rdf_forward.specs.Walks.{Writes, names}

@@ -1,4 +1,3 @@
-pub mod WordTexts
 pub mod Taking
 pub mod Terms
 pub mod Cells

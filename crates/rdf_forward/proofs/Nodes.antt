@@ -12,15 +12,14 @@ use Rattle.owl_tree.specs.Trees.{Tree, Kids, leaf, node, no_kids, kid, atom_in, 
 use Rattle.rdf_nodes.specs.declared.row.Part.{Part}
 use Rattle.rdf_nodes.specs.Rows.{Row, node_rows, row_seen}
 use Rattle.rdf_nodes.specs.declared.row.Row as held
-use Rattle.rdf_forward.specs.Forms.{made, no_arcs}
-use Rattle.rdf_forward.specs.Drawing.{Kid, arcs_of, facet_arcs, form_of, kid_of, kids_seen, node_form, placed, placed_at, placed_by, row_for, singles, tags_of}
+use Rattle.rdf_mapping.specs.Forms.{made, no_arcs}
+use Rattle.rdf_mapping.specs.Drawing.{Kid, arcs_of, facet_arcs, form_of, kid_of, kids_seen, node_form, placed, placed_at, placed_by, row_for, singles, tags_of}
 use Rattle.rdf_forward.specs.declared.drawn.Drawn.{Drawn}
 use Rattle.rdf_forward.specs.declared.drawn.Drawn.TheVariants as drawn
-use Rattle.rdf_forward.specs.Walks.{IsDrawnBelow, Takes, TakesNone, drawn_form, kids_at, tags_at}
-
-pub seen_each : (ks : Kids) → kids_seen ks ≡ map kid_of (list_of ks)
-seen_each no_kids = refl
-seen_each (kid t ks) = ap (λ (l : List Kid). kid_of t ∷ l) (seen_each ks)
+use Rattle.rdf_mapping.specs.Arenas.{kids_at, tags_at}
+use Rattle.rdf_forward.specs.Walks.{IsDrawnBelow, Takes, TakesNone, drawn_form}
+use Rattle.rdf_mapping.specs.NodeDrawingLaws.{seen_each, row_form}
+use Rattle.rdf_mapping.specs.TreeSortLaws.{facet_form}
 
 form_by_kids : (t : Tree) (ks : List Kid) → atom_in t ≡ None → map kid_of (kids_in t) ≡ ks → form_of t ≡ node_form (tag_of t) ks
 form_by_kids (leaf t a) ks e h = cc
@@ -40,12 +39,6 @@ tag_seen (node t ks) = refl
 pub tags_seen : (trees : List Tree) (ids : List ℕ) → tags_of (kids_at trees ids) ≡ tags_at trees ids
 tags_seen trees [] = refl
 tags_seen trees (id ∷ ids) = let e = tag_seen (tree_at trees id) in let f = tags_seen trees ids in cc
-
-pub facet_form : (t : Tag) (ks : List Kid) → is_tag tag.FacetPair t ≡ true → node_form t ks ≡ made (facet_arcs ks)
-facet_form t ks e = rw e refl
-
-pub row_form : (t : Tag) (ks : List Kid) (r : Row) → is_tag tag.FacetPair t ≡ false → row_for node_rows t (tags_of ks) ≡ Some r → node_form t ks ≡ made (arcs_of (placed r.parts ks))
-row_form t ks r e h = rw (e, h) refl
 
 pub no_row_form : (t : Tag) (ks : List Kid) → is_tag tag.FacetPair t ≡ false → row_for node_rows t (tags_of ks) ≡ None → node_form t ks ≡ made no_arcs
 no_row_form t ks e h = rw (e, h) refl

@@ -15,13 +15,15 @@ use Rattle.rdf_nodes.specs.Words.{word_iri}
 use Rattle.rdf_nodes.specs.Nodes.{type_iri}
 use Rattle.rdf_nodes.specs.Rows.{axiom_rows}
 use Rattle.rdf_forward.specs.declared.writer.Writer.{Writer}
-use Rattle.rdf_forward.specs.Forms.{Form, made, plain, term_of, twice}
-use Rattle.rdf_forward.specs.Drawing.{Kid, Placed, Statement, between, by_kids, by_predicate, by_triple, is_pair, kid_of, linked, linked_back, placed, placed_by, row_for, singles, stated_by, statement_of, tags_of, unsaid}
-use Rattle.rdf_forward.specs.Notes.{Notes}
+use Rattle.rdf_mapping.specs.Forms.{Form, made, plain, term_of, twice}
+use Rattle.rdf_mapping.specs.Drawing.{Kid, Placed, Statement, between, by_kids, by_predicate, by_triple, is_pair, kid_of, linked, linked_back, placed, placed_by, row_for, singles, stated_by, statement_of, tags_of, unsaid}
+use Rattle.rdf_mapping.specs.Notes.{Notes}
 use Rattle.rdf_forward.specs.AxiomWalks.{WritesStatement, by_two, is_nothing}
-use Rattle.rdf_forward.specs.Walks.{TakesNone, kids_at, tags_at}
+use Rattle.rdf_mapping.specs.Arenas.{kids_at, tags_at}
+use Rattle.rdf_forward.specs.Walks.{TakesNone}
 use Rattle.rdf_forward.proofs.Cells.{writes_nothing}
-use Rattle.rdf_forward.proofs.Nodes.{seen_each, tags_seen}
+use Rattle.rdf_forward.proofs.Nodes.{tags_seen}
+use Rattle.rdf_mapping.specs.NodeDrawingLaws.{seen_each}
 
 pub nothing_at : (parts : List Part) (ks : List Kid) → length parts < 1 → placed parts ks ≡ []
 unfolding placed

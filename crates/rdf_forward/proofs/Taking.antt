@@ -12,9 +12,9 @@ use Rattle.rdf_nodes.specs.declared.row.Want.TheVariants.{Many, Whole, Keys}
 use Rattle.rdf_nodes.specs.declared.row.Part.{Part}
 use Rattle.owl_tree.specs.declared.row.Sort.{Sort}
 use Rattle.owl_tree.specs.declared.tag.Tag.{Tag}
-use Rattle.rdf_forward.specs.Forms.{Form, list_form}
-use Rattle.rdf_forward.specs.Drawing.{Kid, Placed, form_of, forms_of, kid_of, kids_seen, listed, placed_at, placed_by}
-use Rattle.rdf_forward.specs.Walks.{forms_at, kids_at}
+use Rattle.rdf_mapping.specs.Forms.{Form, list_form}
+use Rattle.rdf_mapping.specs.Drawing.{Kid, Placed, form_of, forms_of, kid_of, kids_seen, listed, placed_at, placed_by}
+use Rattle.rdf_mapping.specs.Arenas.{forms_at, kids_at}
 
 -- a slice, by its first items and the others
 pub first_and : {X : Type 0} (xs : List X) (x : X) → 1 ≤ length xs → x ≡ get_or xs 0 x → xs ≡ x ∷ take (length xs - 1) (drop 1 xs)

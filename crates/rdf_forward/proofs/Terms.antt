@@ -4,9 +4,10 @@ use Rattle.std.specs.Prelude.{nat_le}
 use Rattle.std.proofs.lemmas.Bool.{cond_both}
 use Rattle.owl_arena.specs.Held.{tree_at}
 use Rattle.owl_tree.specs.Trees.{Tree}
-use Rattle.rdf_forward.specs.Forms.{Form, blank, list_form, term_of, twice}
-use Rattle.rdf_forward.specs.Drawing.{form_of, listed}
-use Rattle.rdf_forward.specs.Walks.{forms_at, list_term}
+use Rattle.rdf_mapping.specs.Forms.{Form, blank, list_form, term_of, twice}
+use Rattle.rdf_mapping.specs.Drawing.{form_of, listed}
+use Rattle.rdf_mapping.specs.Arenas.{forms_at}
+use Rattle.rdf_forward.specs.Walks.{list_term}
 
 pub listed_term : (name : ℕ → List ℕ) (least : ℕ) (trees : List Tree) (ids : List ℕ) (n : ℕ) → term_of name (listed least (forms_at trees ids)) n ≡ list_term name ids n
 listed_term name least trees [] n = refl

@@ -12,9 +12,10 @@ use Rattle.rdf_nodes.specs.declared.word.Word.{Word}
 use Rattle.rdf_nodes.specs.declared.row.Place.{Place}
 use Rattle.rdf_nodes.specs.declared.row.Place.TheVariants.{At, Subject, Predicate, Object}
 use Rattle.rdf_forward.specs.declared.writer.Writer.{Writer}
-use Rattle.rdf_forward.specs.Forms.{Form, Arcs, arc, arc_nodes, arc_triples, blank, first_iri, link, list_form, made, no_arcs, nodes, rest_iri, term_of, triples, twice}
-use Rattle.rdf_forward.specs.Drawing.{Placed, arc_iri, arcs_of, facet_arcs, form_of, kid_of, listed, placed_at}
-use Rattle.rdf_forward.specs.Walks.{Leads, Writes, WritesArcs, WritesForm, forms_at, is_none, kids_at, names, rest_term, second_cell}
+use Rattle.rdf_mapping.specs.Forms.{Form, Arcs, arc, arc_nodes, arc_triples, blank, first_iri, link, list_form, made, no_arcs, nodes, rest_iri, term_of, triples, twice}
+use Rattle.rdf_mapping.specs.Drawing.{Placed, arc_iri, arcs_of, facet_arcs, form_of, kid_of, listed, placed_at}
+use Rattle.rdf_mapping.specs.Arenas.{forms_at, kids_at}
+use Rattle.rdf_forward.specs.Walks.{Leads, Writes, WritesArcs, WritesForm, is_none, names, rest_term, second_cell}
 use Rattle.rdf_forward.proofs.Cells.{cell_leads, same_names, writes_nothing}
 
 -- What depends on names and the next number is as if it were told beforehand.

@@ -9,10 +9,10 @@ use Rattle.rdf_nodes.specs.Nodes.{type_iri}
 use Rattle.rdf_forward.specs.declared.statement.Predicate.{Predicate}
 use Rattle.rdf_forward.specs.declared.statement.Predicate.TheVariants as predicate
 use Rattle.rdf_forward.specs.declared.writer.Writer.{Writer}
-use Rattle.rdf_forward.specs.Forms.{Form, link, nodes, term_of, triples}
-use Rattle.rdf_forward.specs.Drawing.{Placed, Statement, between, unsaid}
-use Rattle.rdf_forward.specs.Notes.{Notes}
-use Rattle.rdf_forward.specs.Graphs.{axiom_notes, main_triple, set_nodes, set_triples, statement_nodes, statement_triples}
+use Rattle.rdf_mapping.specs.Forms.{Form, link, nodes, term_of, triples}
+use Rattle.rdf_mapping.specs.Drawing.{Placed, Statement, between, unsaid}
+use Rattle.rdf_mapping.specs.Notes.{Notes}
+use Rattle.rdf_mapping.specs.Graphs.{axiom_notes, main_triple, set_nodes, set_triples, statement_nodes, statement_triples}
 use Rattle.rdf_forward.specs.Walks.{Writes, names}
 
 -- the annotations of each of these axioms

@@ -3,8 +3,8 @@ use Rattle.std.specs.Prelude.{◌+◌, ◌++◌}
 use Rattle.owl_tree.specs.Ontologies.{Ontology}
 use Rattle.rdf_graph.specs.declared.term.Term.{Term}
 use Rattle.rdf_forward.specs.declared.writer.Writer.{Writer}
-use Rattle.rdf_forward.specs.Notes.{note_nodes, note_triples}
-use Rattle.rdf_forward.specs.Graphs.{head_triples, header_nodes, header_term, notes_from}
+use Rattle.rdf_mapping.specs.Notes.{note_nodes, note_triples}
+use Rattle.rdf_mapping.specs.Graphs.{head_triples, header_nodes, header_term, notes_from}
 use Rattle.rdf_forward.specs.Walks.{Writes, names}
 
 -- the triples of the ontology that the term is

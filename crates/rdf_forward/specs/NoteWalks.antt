@@ -8,9 +8,9 @@ use Rattle.rdf_forward.specs.declared.notes.Holder.{Holder}
 use Rattle.rdf_forward.specs.declared.notes.Holder.TheVariants as holder
 use Rattle.rdf_forward.specs.declared.notes.Annotation.{Annotation}
 use Rattle.rdf_forward.specs.declared.writer.Writer.{Writer}
-use Rattle.rdf_forward.specs.Forms.{blank}
-use Rattle.rdf_forward.specs.Drawing.{atom_term}
-use Rattle.rdf_forward.specs.Notes.{Notes, annotation_in, no_notes, note, note_nodes, note_triples, notes_of}
+use Rattle.rdf_mapping.specs.Forms.{blank}
+use Rattle.rdf_mapping.specs.Drawing.{atom_term}
+use Rattle.rdf_mapping.specs.Notes.{Notes, annotation_in, no_notes, note, note_nodes, note_triples, notes_of}
 use Rattle.rdf_forward.specs.Walks.{Writes, names}
 
 abbrev pub holder_term : (ℕ → List ℕ) → Holder → Term

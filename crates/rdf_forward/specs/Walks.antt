@@ -11,23 +11,14 @@ use Rattle.rdf_nodes.specs.Words.{word_iri}
 use Rattle.rdf_nodes.specs.Nodes.{nil_iri}
 use Rattle.rdf_nodes.specs.Denotation.{true_literal}
 use Rattle.rdf_nodes.specs.declared.row.Part.{Part}
+use Rattle.rdf_mapping.specs.Arenas.{forms_at, kids_at}
 use Rattle.rdf_forward.specs.declared.drawn.Drawn.{Drawn}
 use Rattle.rdf_forward.specs.declared.drawn.Drawn.TheVariants as drawn
 use Rattle.rdf_forward.specs.declared.labels.FreshLabels.{FreshLabels}
 use Rattle.rdf_forward.specs.declared.writer.Writer.{Writer}
-use Rattle.rdf_forward.specs.FreshLabels.{far_ones, greatest_number, numbered_label}
-use Rattle.rdf_forward.specs.Forms.{Form, Arcs, plain, arc_nodes, arc_triples, first_iri, link, list_form, nodes, rest_iri, triples}
-use Rattle.rdf_forward.specs.Drawing.{Kid, form_of, kid_of, listed, placed_at, placed_by, Placed}
-
--- the trees with these numbers, as rows look at them
-abbrev pub kids_at : List Tree → List ℕ → List Kid
-kids_at trees ids = map (λ id. kid_of (tree_at trees id)) ids
-
-abbrev pub tags_at : List Tree → List ℕ → List Tag
-tags_at trees ids = map (λ id. tag_of (tree_at trees id)) ids
-
-abbrev pub forms_at : List Tree → List ℕ → List Form
-forms_at trees ids = map (λ id. form_of (tree_at trees id)) ids
+use Rattle.rdf_mapping.specs.FreshLabels.{far_ones, greatest_number, numbered_label}
+use Rattle.rdf_mapping.specs.Forms.{Form, Arcs, plain, arc_nodes, arc_triples, first_iri, link, list_form, nodes, rest_iri, triples}
+use Rattle.rdf_mapping.specs.Drawing.{Kid, form_of, kid_of, listed, placed_at, placed_by, Placed}
 
 abbrev pub drawn_form : List Tree → Drawn → Form
 drawn_form trees (drawn.Kid id) = form_of (tree_at trees id)

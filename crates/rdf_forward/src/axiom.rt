@@ -3,12 +3,13 @@
 ghost use Rattle.std.specs.Prelude.{◌≡◌, ◌<◌, [], IfOk, OnOk, length};
 ghost use Rattle.std.specs.List.{AllByRecursion};
 ghost use Rattle.owl_arena.specs.Held.{AreHeld, tree_at};
-ghost use Rattle.rdf_forward.specs.Forms as forms;
-ghost use Rattle.rdf_forward.specs.Drawing as drawing;
-ghost use Rattle.rdf_forward.specs.Graphs.{axiom_notes, main_triple};
+ghost use Rattle.rdf_mapping.specs.Forms as forms;
+ghost use Rattle.rdf_mapping.specs.Drawing as drawing;
+ghost use Rattle.rdf_mapping.specs.Graphs.{axiom_notes, main_triple};
 ghost use Rattle.rdf_forward.specs.NoteWalks.{notes_at};
 ghost use Rattle.rdf_forward.specs.AxiomWalks.{AreEnds, WritesEnds, WritesMain, WritesSets, WritesStatement, sets_at};
-ghost use Rattle.rdf_forward.specs.Walks.{IsDrawnBelow, Writes, drawn_form, kids_at, names};
+ghost use Rattle.rdf_mapping.specs.Arenas.{kids_at};
+ghost use Rattle.rdf_forward.specs.Walks.{IsDrawnBelow, Writes, drawn_form, names};
 
 use crate::drawn::Drawn;
 use crate::notes::Holder;

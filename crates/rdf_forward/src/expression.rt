@@ -4,12 +4,13 @@ ghost use Rattle.std.specs.Prelude.{◌≡◌, ◌<◌, ◌∷◌, [], None, OnO
 ghost use Rattle.std.specs.List.{AllByRecursion};
 ghost use Rattle.owl_arena.specs.Held.{tree_at};
 ghost use Rattle.owl_tree.specs.Trees.{atom_in};
-ghost use Rattle.rdf_forward.specs.Forms as forms;
-ghost use Rattle.rdf_forward.specs.Drawing.{arcs_of, facet_arcs, form_of, listed, placed, placed_at};
-ghost use Rattle.rdf_forward.specs.Walks.{IsDrawnBelow, Leads, WritesArcs, WritesForm, drawn_form, forms_at, kids_at, names};
+ghost use Rattle.rdf_mapping.specs.Forms as forms;
+ghost use Rattle.rdf_mapping.specs.Drawing.{arcs_of, facet_arcs, form_of, listed, placed, placed_at};
+ghost use Rattle.rdf_mapping.specs.Arenas.{forms_at, kids_at};
+ghost use Rattle.rdf_forward.specs.Walks.{IsDrawnBelow, Leads, WritesArcs, WritesForm, drawn_form, names};
 
 use crate::drawn::{Drawn, take_part};
-use crate::rows::{row_for, singles};
+use rdf_mapping::{row_for, singles};
 use crate::writer::Writer;
 use owl_arena::{Arena, ExprId};
 use owl_characters::NoMemory;

@@ -1,7 +1,7 @@
 //! Labels whose numbers have 19 digits, and numbers that pass over them.
 
 ghost use Rattle.std.specs.Prelude.{◌≡◌, ◌≤◌, IfSome};
-ghost use Rattle.rdf_forward.specs.FreshLabels.{are_far, far_in, far_number, passing};
+ghost use Rattle.rdf_mapping.specs.FreshLabels.{are_far, far_in, far_number, passing};
 
 use rdf_terms::Label;
 

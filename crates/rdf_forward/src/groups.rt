@@ -2,7 +2,7 @@
 
 ghost use Rattle.std.specs.Prelude.{◌≡◌, ◌↔◌, ◌<◌, IsTrue, length};
 ghost use Rattle.owl_arena.specs.Held.{tree_at};
-ghost use Rattle.rdf_forward.specs.Graphs.{bare};
+ghost use Rattle.rdf_mapping.specs.Graphs.{bare};
 
 use owl_arena::{Arena, ExprId};
 

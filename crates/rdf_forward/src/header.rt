@@ -6,14 +6,14 @@ ghost use Rattle.rdf_graph.specs.declared.term.Term.TheVariants as held;
 ghost use Rattle.rdf_nodes.specs.declared.word.Word.TheVariants as word_of;
 ghost use Rattle.rdf_nodes.specs.Nodes as nodes;
 ghost use Rattle.rdf_nodes.specs.Words as words;
-ghost use Rattle.rdf_forward.specs.Forms as forms;
-ghost use Rattle.rdf_forward.specs.Graphs.{import_triples, version_triples};
+ghost use Rattle.rdf_mapping.specs.Forms as forms;
+ghost use Rattle.rdf_mapping.specs.Graphs.{import_triples, version_triples};
 ghost use Rattle.rdf_forward.specs.NoteWalks.{holder_term};
 ghost use Rattle.rdf_forward.specs.HeaderWalks.{WritesBelow, WritesHeader};
 ghost use Rattle.rdf_forward.specs.Walks.{Writes, names};
 
 use crate::notes::Holder;
-use crate::words::{type_iri, word_iri};
+use rdf_mapping::{type_iri, word_iri};
 use crate::writer::Writer;
 use owl_characters::NoMemory;
 use owl_doc::Doc;

@@ -4,8 +4,8 @@ ghost use Rattle.std.specs.Prelude.{◌≡◌, ◌<◌, ◌+◌, ◌∷◌, [], 
 ghost use Rattle.std.specs.List.{flat_map};
 ghost use Rattle.owl_arena.specs.Held.{AreHeld, tree_at, trees_at};
 ghost use Rattle.owl_doc.specs.Documents.{ontology_of};
-ghost use Rattle.rdf_forward.specs.FreshLabels.{far_numbers, greatest_number, numbered_label, passing};
-ghost use Rattle.rdf_forward.specs.Graphs.{labels_in, labels_of};
+ghost use Rattle.rdf_mapping.specs.FreshLabels.{far_numbers, greatest_number, numbered_label, passing};
+ghost use Rattle.rdf_mapping.specs.Graphs.{labels_in, labels_of};
 ghost use Rattle.rdf_forward.specs.Walks.{Counts};
 
 use crate::far::{far_number, passing};
@@ -27,7 +27,7 @@ pub struct FreshLabels {
 
 impl FreshLabels {
     /// Those of a document.
-    #[tactic(auto, unfolding(crate::specs::FreshLabels::far_numbers))]
+    #[tactic(auto, unfolding(rdf_mapping::specs::FreshLabels::far_numbers))]
     pub fn beside(alloc: Global, doc: &Doc) -> Result<FreshLabels, NoMemory>
         ensures greatest { IfOk result (λ labels. labels.greatest
             ≡ greatest_number (labels_of (ontology_of doc.now))) }
@@ -44,7 +44,7 @@ impl FreshLabels {
     }
 
     /// The label of the blank node with this number.
-    #[tactic(auto, unfolding(crate::specs::FreshLabels::numbered_label))]
+    #[tactic(auto, unfolding(rdf_mapping::specs::FreshLabels::numbered_label))]
     pub fn label(&self, alloc: Global, number: u64) -> Result<Label, NoMemory>
         ensures { IfOk result (λ label. label
             ≡ numbered_label self.now.greatest self.now.taken.items number) }

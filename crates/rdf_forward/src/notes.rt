@@ -7,13 +7,13 @@ ghost use Rattle.rdf_graph.specs.declared.term.Term.TheVariants as held;
 ghost use Rattle.rdf_nodes.specs.declared.word.Word.TheVariants as word_of;
 ghost use Rattle.rdf_nodes.specs.Nodes as nodes;
 ghost use Rattle.rdf_nodes.specs.Words as words;
-ghost use Rattle.rdf_forward.specs.Forms as forms;
-ghost use Rattle.rdf_forward.specs.Drawing.{atom_term};
-ghost use Rattle.rdf_forward.specs.Notes.{annotation_in, no_notes, reified, reified_nodes, reifying};
+ghost use Rattle.rdf_mapping.specs.Forms as forms;
+ghost use Rattle.rdf_mapping.specs.Drawing.{atom_term};
+ghost use Rattle.rdf_mapping.specs.Notes.{annotation_in, no_notes, reified, reified_nodes, reifying};
 ghost use Rattle.rdf_forward.specs.NoteWalks.{IsNoNote, IsNote, WritesNotes, are_some, holder_term, notes_at};
 ghost use Rattle.rdf_forward.specs.Walks.{Writes, names};
 
-use crate::words::{type_iri, word_iri};
+use rdf_mapping::{type_iri, word_iri};
 use crate::writer::Writer;
 use owl_arena::{Arena, ExprId};
 use owl_characters::NoMemory;

@@ -5,13 +5,13 @@ ghost use Rattle.std.specs.List.{AllByRecursion};
 ghost use Rattle.owl_arena.specs.Held.{AreHeld, tree_at};
 ghost use Rattle.rdf_nodes.specs.declared.row.Site.TheVariants as sites;
 ghost use Rattle.rdf_nodes.specs.Rows as rows;
-ghost use Rattle.rdf_forward.specs.Drawing as drawing;
+ghost use Rattle.rdf_mapping.specs.Drawing as drawing;
 ghost use Rattle.rdf_forward.specs.AxiomWalks.{WritesStatement, by_two, is_nothing, predicate_iri, sets_at};
-ghost use Rattle.rdf_forward.specs.Walks.{kids_at, tags_at};
+ghost use Rattle.rdf_mapping.specs.Arenas.{kids_at, tags_at};
 
 use crate::drawn::{Drawn, take_part};
-use crate::rows::{row_for, singles};
-use crate::words::{type_iri, word_iri};
+use rdf_mapping::{row_for, singles};
+use rdf_mapping::{type_iri, word_iri};
 use crate::writer::Writer;
 use owl_arena::{Arena, ExprId};
 use owl_characters::NoMemory;
@@ -30,7 +30,7 @@ pub enum Predicate {
 }
 
 /// Whether the axiom is of a set of which two members make a triple.
-#[tactic(auto, unfolding(crate::specs::Drawing::is_pair))]
+#[tactic(auto, unfolding(rdf_mapping::specs::Drawing::is_pair))]
 fn is_pair(tag: Tag) -> bool
     ensures { result ≡ drawing.is_pair tag }
 {

@@ -3,13 +3,13 @@
 ghost use Rattle.std.specs.Prelude.{◌≡◌, ◌<◌, ◌∷◌, [], IfOk, OnOk, length};
 ghost use Rattle.owl_arena.specs.Held.{tree_at};
 ghost use Rattle.rdf_graph.specs.Terms.{IsSubject};
-ghost use Rattle.rdf_forward.specs.Forms as forms;
-ghost use Rattle.rdf_forward.specs.Drawing.{arc_iri, atom_term, form_of};
+ghost use Rattle.rdf_mapping.specs.Forms as forms;
+ghost use Rattle.rdf_mapping.specs.Drawing.{arc_iri, atom_term, form_of};
 ghost use Rattle.rdf_forward.specs.Walks.{IsDrawnBelow, Writes, drawn_form, list_term, names, rest_term, second_cell};
 
 use crate::drawn::Drawn;
 use crate::labels::FreshLabels;
-use crate::words::{arc_iri, nil, number_literal, true_literal, word_iri};
+use rdf_mapping::{arc_iri, nil, number_literal, true_literal, word_iri};
 use owl_arena::{Arena, ExprId};
 use owl_characters::NoMemory;
 use owl_tree::Atom;

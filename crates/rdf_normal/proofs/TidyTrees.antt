@@ -22,10 +22,7 @@ use Rattle.owl_tree.specs.Trees.{Tree, Kids, leaf, node, no_kids, kid, atom_in, 
 use Rattle.rdf_normal.specs.Makings.{AreMade, IsMade, image}
 use Rattle.rdf_normal.specs.NormalForms.{is_needless, needed, needed_in, over, tidied, tidieds}
 use Rattle.rdf_normal.proofs.Extending.{are_made_at, forms_at, made_at, made_more, tree_later}
-
-pub tidieds_map : (ks : Kids) → tidieds ks ≡ map tidied (list_of ks)
-tidieds_map no_kids = refl
-tidieds_map (kid t ks) = ap (λ (xs : List Tree). tidied t ∷ xs) (tidieds_map ks)
+use Rattle.rdf_normal.specs.TidiedLaws.{tidieds_map}
 
 -- a leaf stays
 pub leaf_tidied : (t : Tree) → (None ≡ atom_in t → ⊥) → t ≡ tidied t

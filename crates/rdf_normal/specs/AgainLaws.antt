@@ -28,8 +28,8 @@ use Rattle.owl_tree.specs.Trees.{Tree, Kids, leaf, node, no_kids, kid, kids_in, 
 use Rattle.rdf_normal.specs.DeclaredLaws.{tag_told, tidied_tag}
 use Rattle.rdf_normal.specs.NeedlessLaws.{all_pass, first_of, from_filter, not_false, not_true}
 use Rattle.rdf_normal.specs.NormalForms.{annotation_of, are_equals, assertion_of, inverted, iri_at, is_about, is_needless, is_paired, is_same_iri, needed, needed_in, normal_form, only, over, own_assertions, pairs, pairs_in, settled, spread, spread_axioms, subject_in, tidied, tidieds, turned, turned_from, turned_kids, unsettled_annotations, unsettled_axioms}
-use Rattle.rdf_normal.specs.NormalFormLaws.{nothing_else}
-use Rattle.rdf_normal.specs.TidiedLaws.{settled_again, settled_form}
+use Rattle.rdf_normal.specs.NormalFormLaws.{nothing_else, all_forms}
+use Rattle.rdf_normal.specs.TidiedLaws.{settled_again, settled_form, tidieds_map}
 
 -- the first two steps have nothing to do
 pub record IsPlain (t : Tree) : Type 0 where
@@ -164,10 +164,6 @@ canonical_each (node u ks) e f =
 
 pub canonical_keeps : KeepsKids canonical
 canonical_keeps = record { tags = canonical_tag; fewer = canonical_fewer; each = canonical_each }
-
-tidieds_map : (ks : Kids) → tidieds ks ≡ map tidied (list_of ks)
-tidieds_map no_kids = refl
-tidieds_map (kid t ks) = ap (λ (xs : List Tree). tidied t ∷ xs) (tidieds_map ks)
 
 filter_by : (b : Bool) (t : Tree) (ts us : List Tree) → length us ≤ length ts → length (cond b (t ∷ us) us) ≤ length ts + 1
 filter_by true t ts us h = omega arith
@@ -304,9 +300,6 @@ all_joined (t ∷ ts) us h k = (h.0, all_joined ts us h.1 k)
 flat_plain : (ts : List Tree) → AllByRecursion IsShaped ts → AllByRecursion IsPlain (flat_map spread ts)
 flat_plain [] h = tt
 flat_plain (t ∷ ts) h = subst (AllByRecursion IsPlain) (sym (flat_map-cons spread t ts)) (all_joined (spread t) (flat_map spread ts) (spread_plain t h.0) (flat_plain ts h.1))
-
-all_forms : (fact : Tree → Type 0) (f : Tree → Tree) → ((t : Tree) → fact t → fact (f t)) → (ts : List Tree) → AllByRecursion fact ts → AllByRecursion fact (ascending tree_cmp (map f ts))
-all_forms fact f step ts h = all_ascending fact tree_cmp (map f ts) (all_map f fact ts (all_later fact (λ t. fact (f t)) step ts h))
 
 normal_plain : (o : Ontology) → AllByRecursion IsShaped o.axioms → AllByRecursion IsPlain (normal_form o).axioms
 normal_plain o h =

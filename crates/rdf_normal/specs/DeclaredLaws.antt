@@ -24,7 +24,7 @@ use Rattle.owl_tree.specs.Tags.{number_of}
 use Rattle.owl_tree.specs.Trees.{Tree, Kids, leaf, node, no_kids, kid, kids_in, tag_of}
 use Rattle.rdf_normal.specs.NeedlessLaws.{from_filter, in_filter, not_false}
 use Rattle.rdf_normal.specs.NormalForms.{assertion_of, bare, is_about, is_paired, is_same_iri, normal_form, over, pairs, pairs_in, spread, spread_axioms, subject_in, tidied, turned, turned_kids, unsettled_axioms}
-use Rattle.rdf_normal.specs.NormalFormLaws.{nothing_else, stays}
+use Rattle.rdf_normal.specs.NormalFormLaws.{nothing_else, stays, holds}
 
 -- Tags.
 
@@ -220,9 +220,6 @@ from_flat (t ∷ ts) x m =
       | inl k ↦ record { tree = t; inside = in_head t ts; part = k }
       | inr n ↦ let s = from_flat ts x n in record { tree = s.tree; inside = in_tail t ts s.tree s.inside; part = s.part }
     ]
-
-holds : (ts : List Tree) → HoldSame (ascending tree_cmp ts) ts
-holds ts = ascending_holds tree_cmp trees_total only_equal_trees_tie ts
 
 form_declares : (ts : List Tree) (e : Entity) → DeclaresIn ts e → DeclaresIn (canonical_list ts) e
 form_declares ts e d = record {

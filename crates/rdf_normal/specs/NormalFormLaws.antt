@@ -75,7 +75,7 @@ kept_or_said ts t true e m =
       same = s.same;
     })
 
-holds : (ts : List Tree) → HoldSame (ascending tree_cmp ts) ts
+pub holds : (ts : List Tree) → HoldSame (ascending tree_cmp ts) ts
 holds ts = ascending_holds tree_cmp trees_total only_equal_trees_tie ts
 
 -- each tree is there when it is tidied, or one says it with annotations
@@ -111,7 +111,7 @@ all_spread fact step (t ∷ ts) h = subst (AllByRecursion fact) (sym (flat_map-c
 all_kept : (fact : Tree → Type 0) (test : Tree → Bool) (ts : List Tree) → AllByRecursion fact ts → AllByRecursion fact (filter test ts)
 all_kept fact test ts h = all_from fact (filter test ts) (λ t m. all_in fact ts t h (from_filter test ts t m).0)
 
-all_forms : (fact : Tree → Type 0) (f : Tree → Tree) → ((t : Tree) → fact t → fact (f t)) → (ts : List Tree) → AllByRecursion fact ts → AllByRecursion fact (ascending tree_cmp (map f ts))
+pub all_forms : (fact : Tree → Type 0) (f : Tree → Tree) → ((t : Tree) → fact t → fact (f t)) → (ts : List Tree) → AllByRecursion fact ts → AllByRecursion fact (ascending tree_cmp (map f ts))
 all_forms fact f step ts h = all_ascending fact tree_cmp (map f ts) (all_map f fact ts (all_later fact (λ t. fact (f t)) step ts h))
 
 all_settled : (fact : Tree → Type 0) → ((t : Tree) → fact t → fact (tidied t)) → (ts : List Tree) → AllByRecursion fact ts → AllByRecursion fact (settled ts)

@@ -30,17 +30,9 @@ use Rattle.rdf_normal.specs.NeedlessLaws.{both_true, first_of, from_filter, seco
 use Rattle.rdf_normal.specs.NormalForms.{annotation_of, are_equals, asserted, assertion_of, inverted, is_about, is_needless, is_paired, is_same_iri, needed, needed_in, normal_form, only, over, pairs, pairs_in, spread, subject_in, tidied, tidieds, turned, turned_from, turned_kids}
 use Rattle.rdf_normal.specs.NormalFormLaws.{IsLasting, annotations_last, axioms_last}
 use Rattle.rdf_normal.specs.AgainLaws.{inverted_property}
-use Rattle.rdf_normal.specs.TidiedLaws.{tidied_tidy}
+use Rattle.rdf_normal.specs.TidiedLaws.{tidied_tidy, tidieds_of, tidieds_map}
 
 -- A canonical form is tidied to the same tree.
-
-tidieds_of : (ts : List Tree) → tidieds (kids_of ts) ≡ map tidied ts
-tidieds_of [] = refl
-tidieds_of (t ∷ ts) = ap (λ (us : List Tree). tidied t ∷ us) (tidieds_of ts)
-
-tidieds_map : (ks : Kids) → tidieds ks ≡ map tidied (list_of ks)
-tidieds_map no_kids = refl
-tidieds_map (kid t ks) = ap (λ (xs : List Tree). tidied t ∷ xs) (tidieds_map ks)
 
 module _ (f g : Tree → Tree) where
   mapped : (xs : List Tree) → AllByRecursion (λ x. f (g x) ≡ f x) xs → map f (map g xs) ≡ map f xs

@@ -12,7 +12,7 @@ use Rattle.owl_tree.specs.CanonicalLaws.{arranged_holds, node_of_forms}
 use Rattle.owl_tree.specs.Order.{tree_cmp}
 use Rattle.owl_tree.specs.OrderLaws.{only_equal_trees_tie, trees_total}
 use Rattle.owl_tree.specs.Rows.{is_tag, row_of, set_start}
-use Rattle.owl_tree.specs.Trees.{Tree, Kids, leaf, node, no_kids, kid, kids_of}
+use Rattle.owl_tree.specs.Trees.{Tree, Kids, leaf, node, no_kids, kid, kids_of, list_of}
 use Rattle.rdf_normal.specs.DeclaredLaws.{tag_told}
 use Rattle.rdf_normal.specs.NeedlessLaws.{all_pass, any_if, any_told, both_true, first_of, from_filter, not_false, not_true, second_of}
 use Rattle.rdf_normal.specs.NormalForms.{is_needless, needed, needed_in, over, says_more, settled, tidied, tidieds}
@@ -91,9 +91,13 @@ pub tidied_stay : (ts : List Tree) → AllByRecursion IsTidy ts → map tidied t
 tidied_stay [] h = refl
 tidied_stay (t ∷ ts) h = let first = h.0.tidied in let rest = tidied_stay ts h.1 in cc
 
-tidieds_of : (ts : List Tree) → tidieds (kids_of ts) ≡ map tidied ts
+pub tidieds_of : (ts : List Tree) → tidieds (kids_of ts) ≡ map tidied ts
 tidieds_of [] = refl
 tidieds_of (t ∷ ts) = ap (λ (us : List Tree). tidied t ∷ us) (tidieds_of ts)
+
+pub tidieds_map : (ks : Kids) → tidieds ks ≡ map tidied (list_of ks)
+tidieds_map no_kids = refl
+tidieds_map (kid t ks) = ap (λ (us : List Tree). tidied t ∷ us) (tidieds_map ks)
 
 tidy_node : (t : Tag) (ts : List Tree) → AllByRecursion IsTidy ts → IsTidy (over t (needed_in t (arranged (set_start (row_of t)) ts)))
 tidy_node t ts h =

@@ -3,5 +3,5 @@ use Rattle.owl_documents.specs.Documents.{said_of}
 use Rattle.owl_answer.specs.KindsAt.{AreKindsAt}
 use Rattle.owl_answer.proofs.kinds.declare_all.Given as goal
 
-abbrev pub invariant-places : goal.invariant-places
-invariant-places l = AreKindsAt (map said_of l.docs) (take l.place-index l.places) l.kinds
+abbrev pub invariant-loop-place : goal.invariant-loop-place
+invariant-loop-place l = AreKindsAt (map said_of l.docs) (take l.place-index l.places) l.kinds

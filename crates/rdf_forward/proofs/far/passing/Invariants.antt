@@ -1,5 +1,5 @@
 use Rattle.std.proofs.Common.{◌≡◌, ◌≤◌, length}
-use Rattle.rdf_forward.specs.FreshLabels.{passing}
+use Rattle.rdf_mapping.specs.FreshLabels.{passing}
 use Rattle.rdf_forward.proofs.far.passing.Given as goal
 
 abbrev pub invariant-loop-left : goal.invariant-loop-left

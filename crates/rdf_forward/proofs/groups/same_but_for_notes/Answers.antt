@@ -6,7 +6,7 @@ use Rattle.owl_arena.specs.Held.{tree_at}
 use Rattle.owl_arena.specs.HeldLaws.{below_later}
 use Rattle.owl_tree.specs.OrderLaws.{same_tag}
 use Rattle.owl_tree.specs.Trees.{kids_in}
-use Rattle.rdf_forward.specs.Graphs.{bare}
+use Rattle.rdf_mapping.specs.Graphs.{bare}
 use Rattle.rdf_forward.proofs.Bare.{AreSameParts, are_same, none_beside, pointwise_itself, pointwise_same, same_parts}
 use Rattle.rdf_forward.proofs.Taking.{first_and, none_left}
 use Rattle.rdf_forward.proofs.groups.same_but_for_notes.Goals as goal

@@ -3,9 +3,10 @@ use Rattle.std.specs.Prelude.{not}
 use Rattle.std.specs.List.{AllByRecursion}
 use Rattle.std.proofs.lemmas.Result.{on_ok_weaker}
 use Rattle.owl_arena.specs.HeldLaws.{below_later}
-use Rattle.rdf_forward.specs.Walks.{WritesArcs, WritesForm, forms_at, kids_at, names}
-use Rattle.rdf_forward.specs.Drawing.{Placed, arcs_of, listed, placed}
-use Rattle.rdf_forward.specs.Forms.{blank, list_form}
+use Rattle.rdf_mapping.specs.Arenas.{forms_at, kids_at}
+use Rattle.rdf_forward.specs.Walks.{WritesArcs, WritesForm, names}
+use Rattle.rdf_mapping.specs.Drawing.{Placed, arcs_of, listed, placed}
+use Rattle.rdf_mapping.specs.Forms.{blank, list_form}
 use Rattle.rdf_forward.proofs.Cells.{LeadsOn, leads_next, leads_end}
 use Rattle.rdf_forward.proofs.Nodes.{drawn_below, facet_at, no_parts, no_row_at, none_placed, row_at, some_placed, tag_told}
 use Rattle.rdf_forward.proofs.Taking.{first_and, first_at, none_left, only_one, only_two}

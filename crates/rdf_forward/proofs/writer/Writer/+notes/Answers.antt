@@ -2,7 +2,7 @@ use Rattle.std.proofs.Common.{rules, ◌≡◌, ℕ, ◌-◌, ◌<◌, ◌≤◌
 use Rattle.std.specs.List.{AllByRecursion}
 use Rattle.std.proofs.lemmas.Result.{on_ok_weaker}
 use Rattle.owl_arena.specs.HeldLaws.{below_later}
-use Rattle.rdf_forward.specs.Notes.{no_notes}
+use Rattle.rdf_mapping.specs.Notes.{no_notes}
 use Rattle.rdf_forward.proofs.Counting.{above_all, above_first, above_kids, above_rest}
 use Rattle.rdf_forward.proofs.Taking.{first_and, none_left}
 use Rattle.rdf_forward.specs.declared.notes.Holder.TheVariants as holder

@@ -1,7 +1,7 @@
 use Rattle.std.proofs.Common.{◌≡◌, IfOk, sym, subst, ap, ◌∙◌}
 use Rattle.rdf_graph.specs.declared.term.Term.{Term}
 use Rattle.rdf_forward.specs.Walks.{drawn_form, names}
-use Rattle.rdf_forward.specs.Forms.{term_of}
+use Rattle.rdf_mapping.specs.Forms.{term_of}
 use Rattle.rdf_forward.proofs.Terms.{listed_term}
 use Rattle.rdf_forward.proofs.writer.Writer.drawn_term.Goals as goal
 

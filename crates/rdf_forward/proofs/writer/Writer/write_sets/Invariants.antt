@@ -1,6 +1,6 @@
 use Rattle.std.proofs.Common.{length}
 use Rattle.owl_arena.specs.Held.{AreHeld}
-use Rattle.rdf_forward.specs.Forms.{link}
+use Rattle.rdf_mapping.specs.Forms.{link}
 use Rattle.rdf_forward.proofs.Axioms.{SetsOn}
 use Rattle.rdf_forward.proofs.writer.Writer.write_sets.Given as goal
 

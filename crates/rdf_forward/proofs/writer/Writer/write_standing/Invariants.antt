@@ -1,7 +1,7 @@
 use Rattle.std.proofs.Common.{length}
 use Rattle.owl_arena.specs.Held.{AreHeld}
-use Rattle.rdf_forward.specs.Drawing.{arcs_of, placed}
-use Rattle.rdf_forward.specs.Walks.{kids_at}
+use Rattle.rdf_mapping.specs.Drawing.{arcs_of, placed}
+use Rattle.rdf_mapping.specs.Arenas.{kids_at}
 use Rattle.rdf_forward.proofs.Axioms.{StandingOn}
 use Rattle.rdf_forward.proofs.writer.Writer.write_standing.Given as goal
 

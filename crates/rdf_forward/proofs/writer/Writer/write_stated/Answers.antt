@@ -1,7 +1,7 @@
 use Rattle.std.proofs.Common.{◌-◌, length, take, drop, refl}
 use Rattle.std.proofs.lemmas.Result.{on_ok_weaker}
 use Rattle.rdf_nodes.specs.declared.row.Site.TheVariants as site
-use Rattle.rdf_forward.specs.Drawing.{by_triple}
+use Rattle.rdf_mapping.specs.Drawing.{by_triple}
 use Rattle.rdf_forward.specs.AxiomWalks.{sets_at}
 use Rattle.rdf_forward.specs.Walks.{names}
 use Rattle.rdf_forward.proofs.Cells.{writes_nothing}

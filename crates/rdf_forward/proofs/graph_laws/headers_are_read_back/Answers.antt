@@ -1,8 +1,0 @@
-use Rattle.rdf_forward.specs.HeaderLaws.{notes_are, one_header}
-use Rattle.rdf_forward.proofs.graph_laws.headers_are_read_back.Goals as goal
-
-pub returns-clause-header : goal.returns-clause-header
-returns-clause-header c = one_header
-
-pub returns-clause-notes : goal.returns-clause-notes
-returns-clause-notes c = notes_are

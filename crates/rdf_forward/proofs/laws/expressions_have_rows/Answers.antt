@@ -1,5 +1,0 @@
-use Rattle.rdf_forward.specs.RowForLaws.{has_row_for}
-use Rattle.rdf_forward.proofs.laws.expressions_have_rows.Goals as goal
-
-pub returns : goal.returns
-returns c = has_row_for

@@ -1,5 +1,0 @@
-use Rattle.rdf_forward.specs.RowDrawingLaws.{parts_drawn}
-use Rattle.rdf_forward.proofs.laws.parts_are_drawn.Goals as goal
-
-pub returns : goal.returns
-returns c = parts_drawn

@@ -1,5 +1,0 @@
-use Rattle.rdf_forward.specs.WrittenLaws.{written_equivalent}
-use Rattle.rdf_forward.proofs.laws.trees_are_written_as_equivalent_ones.Goals as goal
-
-pub returns : goal.returns
-returns c = written_equivalent

@@ -1,8 +1,0 @@
-use Rattle.rdf_forward.specs.NoteTreeLaws.{entry_read, notes_read}
-use Rattle.rdf_forward.proofs.note_laws.annotation_trees_are_read_back.Goals as goal
-
-pub returns-clause-notes : goal.returns-clause-notes
-returns-clause-notes c = notes_read
-
-pub returns-clause-entry : goal.returns-clause-entry
-returns-clause-entry c = entry_read

@@ -1,8 +1,0 @@
-use Rattle.rdf_forward.specs.GraphEntryLaws.{made_drawn, statement_drawn}
-use Rattle.rdf_forward.proofs.note_laws.graphs_are_drawn_by_entries.Goals as goal
-
-pub returns-clause-statement : goal.returns-clause-statement
-returns-clause-statement c = statement_drawn
-
-pub returns-clause-graph : goal.returns-clause-graph
-returns-clause-graph c = made_drawn

@@ -1,0 +1,222 @@
+-- The graph of an ontology has the entries that are drawn, and no other reifications.
+use Rattle.std.proofs.Common.{◌≡◌, ◌≤◌, ◌<◌, ◌+◌, ◌*◌, ◌^◌, ◌⊎◌, ℕ, suc, true, List, [], ◌∷◌, ◌++◌, length, inl, inr, refl, sym, ap, ◌∙◌, subst, arith}
+use Rattle.std.specs.Prelude.{Contains, Option, None, Some, map}
+use Rattle.std.specs.List.{list_any}
+use Rattle.std.proofs.lemmas.List.Elements.{Contains-append_cases}
+use Rattle.owl_list.specs.Ascending.{AreApart}
+use Rattle.owl_list.specs.AscendingLaws.{ascending_apart, from_map, in_cases, in_head, in_none, in_tail}
+use Rattle.owl_tree.specs.Ontologies.{Head, Ontology, OntologyName}
+use Rattle.rdf_graph.specs.declared.term.Term.{Term}
+use Rattle.rdf_graph.specs.declared.term.Term.TheVariants.{Iri, Blank, Literal}
+use Rattle.rdf_graph.specs.declared.triple.Triple.{Triple}
+use Rattle.rdf_graph.specs.GraphLaws.{set_holds}
+use Rattle.rdf_graph.specs.Terms.{triple_cmp}
+use Rattle.rdf_graph.specs.TermLaws.{triples_total}
+use Rattle.rdf_nodes.specs.declared.role.Role.{Role}
+use Rattle.rdf_nodes.specs.declared.role.Role.TheVariants as role
+use Rattle.rdf_nodes.specs.ListLaws.{from_filter, some_passes}
+use Rattle.rdf_nodes.specs.NodeLaws.{from_subject}
+use Rattle.rdf_nodes.specs.declared.word.Word.TheVariants as word
+use Rattle.rdf_nodes.specs.Words.{word_iri}
+use Rattle.rdf_nodes.specs.Nodes.{first_role, marked_roles, marks_role, of_subject, role_of, roles_of, type_iri}
+use Rattle.rdf_mapping.specs.Forms.{Arcs, arc_nodes, blank, link, nodes, term_of}
+use Rattle.rdf_mapping.specs.Drawing.{Statement, linked, linked_back, looped, standing, unsaid}
+use Rattle.rdf_mapping.specs.Frames.{AreNamedApart, Keeps}
+use Rattle.rdf_mapping.specs.FreshLabels.{fresh_name}
+use Rattle.rdf_mapping.specs.FreshLabelLaws.{fresh_apart}
+use Rattle.rdf_mapping.specs.Notes.{Notes, note_nodes}
+use Rattle.rdf_mapping.specs.Graphs.{Group, graph_of, groups_of, head_triples, header_nodes, header_term, labels_of, made_triples, notes_from, statement_nodes}
+use Rattle.rdf_mapping.specs.Entries.{AreAllBeside, AreEntries, Entry, IsAny, IsSaid, entry_node, note_entries, note_links, note_roots}
+use Rattle.rdf_mapping.specs.EntryLaws.{entry_subjects, link_subjects, notes_drawn}
+use Rattle.rdf_mapping.specs.NoterLaws.{entries_are, root_subjects}
+use Rattle.rdf_mapping.specs.SetLaws.{notes_said, sets_said}
+use Rattle.rdf_mapping.specs.GraphEntries.{group_entries, group_nodes, group_others, group_roots, made_entries, made_nodes, made_others, made_roots, standing_entries, statement_entries}
+use Rattle.rdf_mapping.specs.GraphEntryLaws.{made_drawn}
+use Rattle.rdf_mapping.specs.Asides.{HaveForeignSubjects, IsForeign, IsFree}
+use Rattle.rdf_mapping.specs.AsideLaws.{groups_aside}
+
+-- entries of statements are said
+
+standing_said : (name : ℕ → List ℕ) (arcs : Arcs) (sets : List Notes) (n : ℕ) → ((ns : Notes) → Contains sets ns → AreAllBeside ns) → (e : Entry) → Contains (standing_entries name arcs sets n) e → IsSaid e
+standing_said name arcs [] n b e m = absurd (in_none e m)
+standing_said name arcs (ns ∷ sets) n b e m =
+    let a = n + suc (arc_nodes arcs) in
+    let c = n + (suc (arc_nodes arcs) + note_nodes ns) in
+    elim (Contains-append_cases (note_entries name (blank name n) ns a) (standing_entries name arcs sets c) e m) [
+      | inl i ↦ notes_said name (blank name n) ns a (b ns (in_head ns sets)) e i
+      | inr i ↦ standing_said name arcs sets c (λ ms j. b ms (in_tail ns sets ms j)) e i
+    ]
+
+statement_said : (name : ℕ → List ℕ) (s : Statement) (sets : List Notes) (n : ℕ) → ((ns : Notes) → Contains sets ns → AreAllBeside ns) → (e : Entry) → Contains (statement_entries name s sets n) e → IsSaid e
+statement_said name (linked f p g) sets n b e m = sets_said name (link (term_of name f n) p (term_of name g (n + nodes f))) sets (n + (nodes f + nodes g)) b e m
+statement_said name (linked_back f p g) sets n b e m = sets_said name (link (term_of name g (n + nodes f)) p (term_of name f n)) sets (n + (nodes f + nodes g)) b e m
+statement_said name (looped p f) sets n b e m = sets_said name (link (term_of name f n) p (term_of name f n)) sets (n + nodes f) b e m
+statement_said name (standing arcs) sets n b e m = standing_said name arcs sets n b e m
+statement_said name unsaid sets n b e m = absurd (in_none e m)
+
+groups_said : (name : ℕ → List ℕ) (gs : List Group) (n : ℕ) → ((g : Group) (ns : Notes) → Contains gs g → Contains g.sets ns → AreAllBeside ns) → (e : Entry) → Contains (group_entries name gs n) e → IsSaid e
+groups_said name [] n b e m = absurd (in_none e m)
+groups_said name (g ∷ gs) n b e m =
+    let mid = n + statement_nodes g.statement g.sets in
+    elim (Contains-append_cases (statement_entries name g.statement g.sets n) (group_entries name gs mid) e m) [
+      | inl i ↦ statement_said name g.statement g.sets n (λ ns j. b g ns (in_head g gs) j) e i
+      | inr i ↦ groups_said name gs mid (λ h ns j k. b h ns (in_tail g gs h j) k) e i
+    ]
+
+-- a node with the role of a reification has a mark of it
+
+no_note : role.Individual ≡ role.Note → ⊥
+no_note e = cc
+
+first_is : (rs : List Role) → first_role rs ≡ role.Note → Contains rs role.Note
+first_is [] e = absurd (no_note e)
+first_is (r ∷ rs) e = subst (λ (q : Role). Contains (r ∷ rs) q) e (in_head r rs)
+
+record HasMark (g : List Triple) (x : Term) : Type 0 where
+  pub triple : Triple
+  pub inside : Contains g triple
+  pub subject : triple.subject ≡ x
+  pub marks : marks_role role.Note triple ≡ true
+
+marked : (g : List Triple) (x : Term) → role_of g x ≡ role.Note → HasMark g x
+unfolding roles_of
+marked g (Iri iri) e = absurd (no_note e)
+marked g (Literal literal) e = absurd (no_note e)
+marked g (Blank label) e =
+    let x = Blank label in
+    let k = from_filter (λ r. list_any (marks_role r) (of_subject g x)) marked_roles role.Note (first_is (roles_of g x) e) in
+    let p = some_passes (marks_role role.Note) (of_subject g x) k.passes in
+    let at = from_subject g x p.element p.inside in
+    record { triple = p.element; inside = at.0; subject = at.1; marks = p.passes }
+
+same_label : (a b : List ℕ) → Blank a ≡ Blank b → a ≡ b
+same_label a b e = cc
+
+no_blank : (iri label : List ℕ) → Iri iri ≡ Blank label → ⊥
+no_blank iri label e = cc
+
+-- the header is no node of an entry
+
+header_aside : (name : ℕ → List ℕ) (most : ℕ) → AreNamedApart name most → (n : Option OntologyName) (k : ℕ) → header_nodes n ≤ k → k < most → header_term name n ≡ blank name k → ⊥
+header_aside name most differ None k from below e = let same = differ 0 k (omega (arith, below)) below (same_label (name 0) (name k) e) in omega (arith, from, same)
+header_aside name most differ (Some n) k from below e = no_blank n.iri (name k) e
+
+subject_at : (x : Term) (t u : Triple) → t ≡ u → t.subject ≡ x → u.subject ≡ x
+subject_at x t u e h = ap (λ (v : Triple). v.subject) (sym e) ∙ h
+
+import_subjects : (x : Term) (imports : List (List ℕ)) (t : Triple) → Contains (map (λ i. link x (word_iri word.Imports) (Iri i)) imports) t → t.subject ≡ x
+import_subjects x imports t m =
+    let v = from_map (λ i. link x (word_iri word.Imports) (Iri i)) imports t m in
+    subject_at x (link x (word_iri word.Imports) (Iri v.element)) t v.value refl
+
+named_subjects : (x : Term) (iri : List ℕ) (version : Option (List ℕ)) (imports : List (List ℕ)) (t : Triple) → Contains (head_triples x (record { name = Some (record { iri = iri; version = version }); imports = imports })) t → t.subject ≡ x
+named_subjects x iri None imports t m =
+    let first = link x type_iri (Iri (word_iri word.Ontology)) in
+    elim (in_cases first (map (λ i. link x (word_iri word.Imports) (Iri i)) imports) t m) [ inl e ↦ subject_at x first t e refl | inr k ↦ import_subjects x imports t k ]
+named_subjects x iri (Some v) imports t m =
+    let first = link x type_iri (Iri (word_iri word.Ontology)) in
+    let second = link x (word_iri word.VersionIri) (Iri v) in
+    let others = map (λ i. link x (word_iri word.Imports) (Iri i)) imports in
+    elim (in_cases first (second ∷ others) t m) [
+      | inl e ↦ subject_at x first t e refl
+      | inr k ↦ elim (in_cases second others t k) [ inl e ↦ subject_at x second t e refl | inr l ↦ import_subjects x imports t l ]
+    ]
+
+head_subjects_by : (x : Term) (n : Option OntologyName) (imports : List (List ℕ)) (t : Triple) → Contains (head_triples x (record { name = n; imports = imports })) t → t.subject ≡ x
+head_subjects_by x None imports t m =
+    let first = link x type_iri (Iri (word_iri word.Ontology)) in
+    elim (in_cases first (map (λ i. link x (word_iri word.Imports) (Iri i)) imports) t m) [ inl e ↦ subject_at x first t e refl | inr k ↦ import_subjects x imports t k ]
+head_subjects_by x (Some n) imports t m = named_subjects x n.iri n.version imports t m
+
+head_subjects : (x : Term) (h : Head) (t : Triple) → Contains (head_triples x h) t → t.subject ≡ x
+head_subjects x h t m = head_subjects_by x h.name h.imports t m
+
+-- The graph keeps all that is drawn.
+pub graph_keeps : (name : ℕ → List ℕ) (o : Ontology) (low high : ℕ) → name ≡ fresh_name (labels_of o) → Keeps name IsAny (graph_of o) (made_triples name o) low high
+unfolding graph_of
+graph_keeps name o low high e =
+    subst (λ (f : ℕ → List ℕ). Keeps f IsAny (graph_of o) (made_triples f o) low high) (sym e)
+    (record {
+      there = λ t m. (set_holds (made_triples (fresh_name (labels_of o)) o) t).1 m;
+      back = λ t l c m. (set_holds (made_triples (fresh_name (labels_of o)) o) t).0 m;
+    })
+
+pub graph_apart : (o : Ontology) → AreApart (graph_of o)
+unfolding graph_of
+graph_apart o = ascending_apart triple_cmp triples_total (made_triples (fresh_name (labels_of o)) o)
+
+in_made : (o : Ontology) (t : Triple) → Contains (graph_of o) t → Contains (made_triples (fresh_name (labels_of o)) o) t
+unfolding graph_of
+in_made o t m = (set_holds (made_triples (fresh_name (labels_of o)) o) t).0 m
+
+graph_named : (o : Ontology) → made_nodes o + length (labels_of o) ≤ 9 * 10 ^ 18 → AreNamedApart (fresh_name (labels_of o)) (made_nodes o)
+graph_named o few m n a b e = fresh_apart (labels_of o) m n (omega (arith, few, a)) (omega (arith, few, b)) e
+
+-- Where nothing beside the entries is a mark of a reification, they are the entries of the graph.
+module _ (o : Ontology) (few : made_nodes o + length (labels_of o) ≤ 9 * 10 ^ 18) (foreign : HaveForeignSubjects (fresh_name (labels_of o)) (made_nodes o) (groups_of o.axioms)) where
+  aside : (e : Entry) (x : Term) → Contains (made_entries (fresh_name (labels_of o)) o) e → (x ≡ header_term (fresh_name (labels_of o)) o.head.name) ⊎ (IsForeign (fresh_name (labels_of o)) (made_nodes o) x ⊎ IsFree (fresh_name (labels_of o)) (made_nodes o) (header_nodes o.head.name + note_nodes (notes_from o.annotations)) (header_nodes o.head.name + note_nodes (notes_from o.annotations) + group_nodes (groups_of o.axioms)) (group_entries (fresh_name (labels_of o)) (groups_of o.axioms) (header_nodes o.head.name + note_nodes (notes_from o.annotations))) x) → x ≡ entry_node (fresh_name (labels_of o)) e → ⊥
+  aside e x m place is =
+      let name = fresh_name (labels_of o) in
+      let most = made_nodes o in
+      let a = header_nodes o.head.name in
+      let ns = notes_from o.annotations in
+      let b = a + note_nodes ns in
+      let h = header_term name o.head.name in
+      let differ = graph_named o few in
+      let d = made_drawn name o in
+      let below = d.below e m in
+      let from = d.from e m in
+      elim place [
+        | inl i ↦ header_aside name most differ o.head.name e.number from below (sym i ∙ is)
+        | inr rest ↦
+            elim rest [
+              | inl i ↦ i e.number below is
+              | inr f ↦
+                  let under = f.below in
+                  let over = f.from in
+                  let same = differ e.number f.number below (omega (arith, under)) (same_label (name e.number) (name f.number) (sym is ∙ f.is)) in
+                  elim (Contains-append_cases (note_entries name h ns a) (group_entries name (groups_of o.axioms) b) e m) [
+                    | inl j ↦ let up = (notes_drawn name h ns a).below e j in omega (arith, up, over, same)
+                    | inr j ↦ f.none e j same
+                  ]
+            ]
+      ]
+
+  pub graph_entries : AreAllBeside (notes_from o.annotations) → ((g : Group) (ns : Notes) → Contains (groups_of o.axioms) g → Contains g.sets ns → AreAllBeside ns) → ((t : Triple) → Contains (made_others (fresh_name (labels_of o)) o) t → marks_role role.Note t ≡ true → ⊥) → AreEntries (fresh_name (labels_of o)) (graph_of o) (made_entries (fresh_name (labels_of o)) o)
+  graph_entries beside each no_marks =
+      let name = fresh_name (labels_of o) in
+      let most = made_nodes o in
+      let a = header_nodes o.head.name in
+      let ns = notes_from o.annotations in
+      let gs = groups_of o.axioms in
+      let b = a + note_nodes ns in
+      let h = header_term name o.head.name in
+      let es = made_entries name o in
+      let d = made_drawn name o in
+      let groups = groups_aside name most gs b foreign in
+      entries_are name most (graph_named o few) (graph_of o) a most (made_others name o) (made_roots name o) es (made_triples name o) (omega arith) d (graph_keeps name o a most refl)
+      (λ e t m k i.
+      elim (Contains-append_cases (head_triples h o.head) (note_links h ns ++ group_others name gs b) t k) [
+        | inl j ↦ aside e t.subject m (inl (head_subjects h o.head t j)) i
+        | inr j ↦
+            elim (Contains-append_cases (note_links h ns) (group_others name gs b) t j) [
+              | inl l ↦ aside e t.subject m (inl (link_subjects h ns t l)) i
+              | inr l ↦ aside e t.subject m (inr (groups.other t l)) i
+            ]
+      ])
+      (λ e f m k i.
+      elim (Contains-append_cases (note_roots h ns a) (group_roots name gs b) f k) [
+        | inl j ↦ aside e f.triple.subject m (inl (root_subjects h ns a f j)) i
+        | inr j ↦ aside e f.triple.subject m (inr (groups.root f j)) i
+      ])
+      (λ e m.
+      elim (Contains-append_cases (note_entries name h ns a) (group_entries name gs b) e m) [
+        | inl j ↦ notes_said name h ns a beside e j
+        | inr j ↦ groups_said name gs b each e j
+      ])
+      (λ x r.
+      let k = marked (graph_of o) x r in
+      elim (d.cases k.triple (in_made o k.triple k.inside)) [
+        | inl j ↦ absurd (no_marks k.triple j k.marks)
+        | inr j ↦ record { entry = j.entry; among = j.among; is = sym k.subject ∙ entry_subjects name j.entry k.triple j.inside }
+      ])
