@@ -15,6 +15,8 @@ pub mod DenotationLaws
 pub mod StatementLaws
 pub mod AxiomLaws
 pub mod ShapeLaws
+pub mod Sound
+pub mod SoundLaws
 pub mod GroundLaws
 pub mod WorkedCases
 pub mod WorkedWhole

@@ -15,7 +15,9 @@ ghost use Rattle.rdf_graph.specs.declared.triple.Triple.{Triple};
 ghost use Rattle.rdf_nodes.specs.declared.row.Part.{Part};
 ghost use Rattle.rdf_nodes.specs.declared.row.Want.{Want};
 ghost use Rattle.rdf_nodes.specs.declared.row.Want.TheVariants.{One};
-ghost use Rattle.rdf_nodes.specs.Denotation.{AreKeys, AtMostOne, Bearer, Denotes, Holds, IsRowOf, Lists, of_node, simple};
+ghost use Rattle.rdf_nodes.specs.Denotation.{AreKeys, AtMostOne, Bearer, Denotes, Holds, IsRowOf, Lists, of_node, of_triple, simple};
+ghost use Rattle.rdf_nodes.specs.Sound.{IsSoundBelow, LeadsToSound};
+ghost use Rattle.rdf_nodes.specs.SoundLaws.{HasSoundEnds};
 ghost use Rattle.rdf_nodes.specs.Kinds.{HaveNoClash, has_kind};
 ghost use Rattle.rdf_nodes.specs.Rows.{Row, axiom_rows, node_rows};
 ghost use Rattle.owl_tree.specs.Tags.{is_axiom};
@@ -171,6 +173,19 @@ pub fn denoted_nodes_are_grounded()
         → IsAxiomWith g k (of_node x) t ts → IsGrounded g x }
     ensures no_cycle { (g : List Triple) (x : Term) → IsGrounded g x
         → InSteps (IsDirectlyBelow g) x x → ⊥ }
+{}
+
+/// Laws: the nodes of which a tree is denoted are sound, down to the last, and
+/// so are the ends of a triple that is an axiom, and what a node leads to that
+/// stands for one.
+pub fn denoted_nodes_are_sound()
+    ensures term { (g : List Triple) (k : List Entity) (x : Term) (s : Sort) (ts : List Tree)
+        → Denotes g k x (One s) ts → IsSoundBelow g x }
+    ensures ends { (g : List Triple) (k : List Entity) (t : Triple) (a : Tag) (ts : List Tree)
+        → IsAxiomWith g k (of_triple t) a ts → HasSoundEnds g t }
+    ensures axiom_node { (g : List Triple) (k : List Entity) (x : Term) (t : Tag) (ts : List Tree)
+        → IsAxiomWith g k (of_node x) t ts → LeadsToSound g x }
+    ensures grounded { (g : List Triple) (x : Term) → IsSoundBelow g x → IsGrounded g x }
 {}
 
 /// Worked cases: `_:u a owl:Class ; owl:unionOf ( :A [ a owl:Class ;

@@ -9,9 +9,9 @@ mod word;
 
 pub use laws::{
     annotations_are_of_triples, axioms_are_of_triples_and_nodes, denoted_nodes_are_grounded,
-    graphs_are_worked_out, graphs_state_one_ontology, kinds_are_told_apart,
-    nodes_are_by_their_triples, rows_are_complete, rows_give_shapes, terms_denote_one_tree,
-    words_are_told_apart,
+    denoted_nodes_are_sound, graphs_are_worked_out, graphs_state_one_ontology,
+    kinds_are_told_apart, nodes_are_by_their_triples, rows_are_complete, rows_give_shapes,
+    terms_denote_one_tree, words_are_told_apart,
 };
 pub use role::Role;
 pub use row::{Part, Place, Row, Site, Want};
