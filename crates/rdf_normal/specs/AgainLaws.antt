@@ -301,7 +301,7 @@ flat_plain : (ts : List Tree) → AllByRecursion IsShaped ts → AllByRecursion 
 flat_plain [] h = tt
 flat_plain (t ∷ ts) h = subst (AllByRecursion IsPlain) (sym (flat_map-cons spread t ts)) (all_joined (spread t) (flat_map spread ts) (spread_plain t h.0) (flat_plain ts h.1))
 
-normal_plain : (o : Ontology) → AllByRecursion IsShaped o.axioms → AllByRecursion IsPlain (normal_form o).axioms
+pub normal_plain : (o : Ontology) → AllByRecursion IsShaped o.axioms → AllByRecursion IsPlain (normal_form o).axioms
 normal_plain o h =
     let shaped = all_forms IsShaped canonical (λ t. (canonical_shape t).0) o.axioms h in
     let spread_ones = all_forms IsPlain canonical (plain_stays canonical canonical_keeps) (flat_map spread (canonical_list o.axioms)) (flat_plain (canonical_list o.axioms) shaped) in
@@ -341,7 +341,7 @@ about_stays : (name : Option (List ℕ)) (t : Tree) → is_about name (tidied t)
 about_stays name t =
     ap (λ v. is_tag tag.AnnotationAssertion v && is_same_iri name (subject_in (kids_in (tidied t)))) (tidied_tag t) ∙ about_by (is_tag tag.AnnotationAssertion (tag_of t)) name t refl
 
-normal_not_about : (o : Ontology) (u : Tree) → Contains (normal_form o).axioms u → is_about (iri_in o.head.name) u ≡ false
+pub normal_not_about : (o : Ontology) (u : Tree) → Contains (normal_form o).axioms u → is_about (iri_in o.head.name) u ≡ false
 normal_not_about o u m =
     let t = nothing_else (unsettled_axioms o) u m in
     let p = from_filter (λ v. not (is_about (iri_in o.head.name) v)) (spread_axioms o) t.tree t.inside in
