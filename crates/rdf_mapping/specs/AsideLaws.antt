@@ -60,7 +60,7 @@ module _ (name : ℕ → List ℕ) (most : ℕ) where
 
   -- the triples of a link
 
-  set_root_triples : (t : Triple) (sets : List Notes) (n : ℕ) (f : Entry) → Contains (set_roots t sets n) f → t ≡ f.triple
+  pub set_root_triples : (t : Triple) (sets : List Notes) (n : ℕ) (f : Entry) → Contains (set_roots t sets n) f → t ≡ f.triple
   set_root_triples t [] n f m = absurd (in_none f m)
   set_root_triples t (ns ∷ sets) n f m =
       elim (Contains-append_cases (reified_roots word.Axiom t ns n) (set_roots t sets (n + reified_nodes ns)) f m) [
@@ -76,7 +76,7 @@ module _ (name : ℕ → List ℕ) (most : ℕ) where
   end_aside (made arcs) n h = inr (lies_at n (n + nodes (made arcs)) (blank name n) (omega arith) refl)
   end_aside (twice f) n h = inr (lies_at n (n + nodes (twice f)) (blank name n) (omega arith) refl)
 
-  main_subject : (s : Term) (p : List ℕ) (o : Term) (t : Triple) → Contains (main_triple name s p o []) t → t.subject ≡ s
+  pub main_subject : (s : Term) (p : List ℕ) (o : Term) (t : Triple) → Contains (main_triple name s p o []) t → t.subject ≡ s
   main_subject (Iri s) p o t m = elim (in_cases (link (Iri s) p o) [] t m) [ inl e ↦ ap (λ (u : Triple). u.subject) (sym e) | inr z ↦ absurd (in_none t z) ]
   main_subject (Blank s) p o t m = elim (in_cases (link (Blank s) p o) [] t m) [ inl e ↦ ap (λ (u : Triple). u.subject) (sym e) | inr z ↦ absurd (in_none t z) ]
   main_subject (Literal s) p o t m = absurd (in_none t m)

@@ -92,7 +92,7 @@ fit [] [] = true
 fit [] (t ∷ ts) = false
 fit (p ∷ ps) ts = fits_here p.want (singles ps) (λ us. fit ps us) ts
 
-abbrev first_row : List Row → Option Row
+abbrev pub first_row : List Row → Option Row
 first_row [] = None
 first_row (r ∷ rs) = Some r
 

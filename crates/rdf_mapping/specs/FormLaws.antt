@@ -99,7 +99,7 @@ keeps_part name Cares g ts part low high a b k l h within all =
 
 -- The triples of a node, among those that are drawn of it and below it.
 
-own_there : (name : ℕ → List ℕ) (x : Term) (arcs : Arcs) (n : ℕ) (t : Triple) → Contains (own_triples name x arcs n) t → Contains (arc_triples name x arcs n) t
+pub own_there : (name : ℕ → List ℕ) (x : Term) (arcs : Arcs) (n : ℕ) (t : Triple) → Contains (own_triples name x arcs n) t → Contains (arc_triples name x arcs n) t
 own_there name x no_arcs n t m = m
 own_there name x (arc p f more) n t m =
     elim (in_cases (link x p (term_of name f n)) (own_triples name x more (n + nodes f)) t m) [
@@ -107,7 +107,7 @@ own_there name x (arc p f more) n t m =
       | inr k ↦ in_tail (link x p (term_of name f n)) (triples name f n ++ arc_triples name x more (n + nodes f)) t (Contains-append_right (triples name f n) (arc_triples name x more (n + nodes f)) t (own_there name x more (n + nodes f) t k))
     ]
 
-own_subject : (name : ℕ → List ℕ) (x : Term) (arcs : Arcs) (n : ℕ) (t : Triple) → Contains (own_triples name x arcs n) t → t.subject ≡ x
+pub own_subject : (name : ℕ → List ℕ) (x : Term) (arcs : Arcs) (n : ℕ) (t : Triple) → Contains (own_triples name x arcs n) t → t.subject ≡ x
 own_subject name x no_arcs n t m = absurd (in_none t m)
 own_subject name x (arc p f more) n t m =
     elim (in_cases (link x p (term_of name f n)) (own_triples name x more (n + nodes f)) t m) [
@@ -115,7 +115,7 @@ own_subject name x (arc p f more) n t m =
       | inr k ↦ own_subject name x more (n + nodes f) t k
     ]
 
-own_or_below : (name : ℕ → List ℕ) (x : Term) (arcs : Arcs) (n : ℕ) (t : Triple) → Contains (arc_triples name x arcs n) t → Contains (own_triples name x arcs n) t ⊎ Lies name n (n + arc_nodes arcs) t.subject
+pub own_or_below : (name : ℕ → List ℕ) (x : Term) (arcs : Arcs) (n : ℕ) (t : Triple) → Contains (arc_triples name x arcs n) t → Contains (own_triples name x arcs n) t ⊎ Lies name n (n + arc_nodes arcs) t.subject
 own_or_below name x no_arcs n t m = absurd (in_none t m)
 own_or_below name x (arc p f more) n t m =
     elim (in_cases (link x p (term_of name f n)) (triples name f n ++ arc_triples name x more (n + nodes f)) t m) [

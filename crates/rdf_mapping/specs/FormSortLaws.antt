@@ -57,7 +57,7 @@ module _ (name : ℕ → List ℕ) (most : ℕ) (differ : AreNamedApart name mos
   pub plain_sort : (x : Term) → IsOfNodes name most g (plain x)
   plain_sort x n few k t m = absurd (in_none t m)
 
-  arcs_sort : (x : Term) (arcs : Arcs) (n : ℕ) → n + arc_nodes arcs ≤ most → EachKept name IsOfNode g arcs n → AllForms (IsOfNodes name most g) arcs → AreOfNode g (own_triples name x arcs n) → AreOfNode g (arc_triples name x arcs n)
+  pub arcs_sort : (x : Term) (arcs : Arcs) (n : ℕ) → n + arc_nodes arcs ≤ most → EachKept name IsOfNode g arcs n → AllForms (IsOfNodes name most g) arcs → AreOfNode g (own_triples name x arcs n) → AreOfNode g (arc_triples name x arcs n)
   arcs_sort x no_arcs n few k all own t m = absurd (in_none t m)
   arcs_sort x (arc p f more) n few k all own t m =
       let first = link x p (term_of name f n) in

@@ -45,7 +45,7 @@ number_read n small =
 
 module _ (g : List Triple) (k : List Entity) where
   -- what the leaf of a tag stands for where a tree of the sort stands
-  abbrev IsSimple : Tag → Type 0
+  abbrev pub IsSimple : Tag → Type 0
   IsSimple t =
       (s : Sort) (a : Atom) → (is_wanted s && admits s t) ≡ true → takes (row_of t) a ≡ true → IsAtom a →
       AreWellTyped k (entities (leaf t a)) → AreIndividuals g (leaf t a) → simple g k s (atom_term a) ≡ Some (leaf t a)
@@ -140,7 +140,7 @@ module _ (g : List Triple) (k : List Entity) where
   facet_simple sort.Class a w h v ty ind = absurd (both_ways false refl w)
   facet_simple _ a w h v ty ind = absurd (both_ways false refl w)
 
-  leaf_simple : (t : Tag) → IsSimple t
+  pub leaf_simple : (t : Tag) → IsSimple t
   unfolding row_of
   leaf_simple tag.Class = class_simple
   leaf_simple tag.Datatype = datatype_simple

@@ -79,17 +79,17 @@ module _ (g : List Triple) (k : List Entity) (s : Sort) (label : List ℕ) (firs
   spelled : SpellParts (cell_triples (Blank label) first rest) (cell_row s).parts
   spelled = (carries_first (Blank label) first, (carries_rest (Blank label) rest, tt))
 
-  cell_role : role_of g (Blank label) ≡ role.List
+  pub cell_role : role_of g (Blank label) ≡ role.List
   unfolding word_number
   cell_role = role_is g k label (cell_triples (Blank label) first rest) (cell_row s) apart is spelled
 
-  cell_first : chosen g (Blank label) word.First ≡ first ∷ []
+  pub cell_first : chosen g (Blank label) word.First ≡ first ∷ []
   unfolding word_number is_node_word
   cell_first =
       select_one g k label (cell_triples (Blank label) first rest) (cell_row s) apart is spelled (At word.First) (link (Blank label) first_iri first)
       (carries_first (Blank label) first) (in_head (link (Blank label) first_iri first) (link (Blank label) rest_iri rest ∷ [])) refl
 
-  cell_rest : chosen g (Blank label) word.Rest ≡ rest ∷ []
+  pub cell_rest : chosen g (Blank label) word.Rest ≡ rest ∷ []
   unfolding word_number is_node_word
   cell_rest =
       select_one g k label (cell_triples (Blank label) first rest) (cell_row s) apart is spelled (At word.Rest) (link (Blank label) rest_iri rest)

@@ -91,8 +91,9 @@ one_inverse w m n =
       | inr b ↦ same_word w word.InverseOf b
     ]
 
--- the words that such a triple carries: none of the header, and those of nodes at IRIs alone
-record IsHarmless (t : Triple) (v : Word) : Type 0 where
+-- the words that such a triple carries: they tell axioms, none is of the header, and those of nodes are at IRIs alone
+pub record IsHarmless (t : Triple) (v : Word) : Type 0 where
+  pub tells : list_any (is_word v) axiom_types || list_any (is_word v) axiom_predicates ≡ true
   pub no_header : list_any (is_word v) header_words ≡ false
   pub at_iri : is_node_word v ≡ true → is_iri t.subject ≡ true
 
@@ -111,10 +112,14 @@ by_predicate t w v m p h =
       | inr n ↦ same_iri v w (n ∙ sym (not_false (is_type w) no.0)) (sym (linked v t n h) ∙ p)
     ]
 
-harmless : (t : Triple) → SaysAxiom t → (v : Word) → carries v t ≡ true → IsHarmless t v
+pub harmless : (t : Triple) → SaysAxiom t → (v : Word) → carries v t ≡ true → IsHarmless t v
 harmless t (by_type w m p o i) v h =
     let is = and_parts (is_type w) (not (list_any (is_word w) header_words)) (passes (λ w. is_type w && not (list_any (is_word w) header_words)) axiom_types w type_words m) in
-    harmless_as t w v (one_word w v t (carries_type w t is.0 p o) h) (record { no_header = not_false (list_any (is_word w) header_words) is.1; at_iri = i })
+    harmless_as t w v (one_word w v t (carries_type w t is.0 p o) h) (record {
+      tells = or_left (list_any (is_word w) axiom_types) (list_any (is_word w) axiom_predicates) (any_from (is_word w) axiom_types w m (own_number w));
+      no_header = not_false (list_any (is_word w) header_words) is.1;
+      at_iri = i;
+    })
 harmless t (by_class p o) v h =
     elim (cases_Bool (is_type v)) [
       | inl y ↦ absurd (o v (typed_object v t y h))
@@ -124,6 +129,7 @@ harmless t (by_link w m p i) v h =
     let no = and_parts (not (is_type w)) (not (list_any (is_word w) header_words)) (passes (λ w. not (is_type w) && not (list_any (is_word w) header_words)) axiom_predicates w link_words m) in
     let same = by_predicate t w v m p h in
     harmless_as t w v (sym same) (record {
+      tells = or_right (list_any (is_word w) axiom_types) (list_any (is_word w) axiom_predicates) (any_from (is_word w) axiom_predicates w m (own_number w));
       no_header = not_false (list_any (is_word w) header_words) no.1;
       at_iri = λ n.
           elim (i n) [
@@ -159,7 +165,8 @@ says_tells t (by_class p o) = inl (ap is_axiom_predicate p ∙ type_tells)
 says_tells t (by_link w m p i) = inl (ap is_axiom_predicate p ∙ link_tells w m)
 says_tells t (by_free f) = inr f
 
-node_iri : (t : Triple) → SaysAxiom t → IsOfNode t → is_iri t.subject ≡ true
+-- where it would make its subject what it is, that is an IRI
+pub node_iri : (t : Triple) → SaysAxiom t → IsOfNode t → is_iri t.subject ≡ true
 node_iri t s (by_word v n h) = (harmless t s v h).at_iri n
 node_iri t s (by_facet h) = absurd (both_ways (is_facet t.predicate) (says_no_facet t s) h)
 

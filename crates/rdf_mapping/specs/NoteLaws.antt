@@ -1,10 +1,11 @@
 -- A node of an entry reifies the triple of its entry alone, and has its annotations.
-use Rattle.std.proofs.Common.{◌≡◌, ◌≤◌, ◌⊎◌, ℕ, Bool, true, false, cond, List, [], ◌∷◌, ◌++◌, length, inl, inr, refl, sym, ap, ◌∙◌, subst, arith}
+use Rattle.std.proofs.Common.{◌≡◌, ◌≤◌, ◌+◌, ◌⊎◌, ℕ, Bool, true, false, cond, List, [], ◌∷◌, ◌++◌, length, length-append, inl, inr, refl, sym, ap, ◌∙◌, subst, arith}
 use lib.Utf8.{encode}
 use Rattle.std.specs.Prelude.{◌↔◌, Contains, map, not, ◌&&◌, ◌||◌}
 use Rattle.std.specs.List.{filter, list_all, list_any}
 use Rattle.std.proofs.lemmas.Bool.{and_from, and_parts, both_ways, cases_Bool, or_cases, or_left}
-use Rattle.std.proofs.lemmas.List.Elements.{Contains-append_cases, Contains-append_right}
+use Rattle.std.proofs.lemmas.List.{length-map}
+use Rattle.std.proofs.lemmas.List.Elements.{Contains-append_cases, Contains-append_left, Contains-append_right}
 use Rattle.owl_list.specs.Ascending.{AreApart}
 use Rattle.owl_list.specs.AscendingLaws.{in_cases, in_head, in_none}
 use Rattle.rdf_graph.specs.declared.term.Term.{Term}
@@ -98,6 +99,29 @@ targets : (w : Word) (x : Term) (t : Triple) → filter (carries word.AnnotatedT
 unfolding carries is_type word_iri word_number encode
 targets w x t = refl
 
+abbrev type_count : Word → Term → Triple → ℕ
+type_count w x t = length (filter (carries word.Axiom) (reifying w x t)) + length (filter (carries word.Annotation) (reifying w x t))
+
+axiom_count : (x : Term) (t : Triple) → type_count word.Axiom x t ≡ 1
+unfolding carries is_type word_iri word_number encode
+axiom_count x t = refl
+
+annotation_count : (x : Term) (t : Triple) → type_count word.Annotation x t ≡ 1
+unfolding carries is_type word_iri word_number encode
+annotation_count x t = refl
+
+one_type : (w : Word) (x : Term) (t : Triple) → (w ≡ word.Axiom) ⊎ (w ≡ word.Annotation) → type_count w x t ≡ 1
+one_type w x t (inl e) = subst (λ (v : Word). type_count v x t ≡ 1) (sym e) (axiom_count x t)
+one_type w x t (inr e) = subst (λ (v : Word). type_count v x t ≡ 1) (sym e) (annotation_count x t)
+
+axiom_is_word : is_node_word word.Axiom ≡ true
+unfolding is_node_word word_number
+axiom_is_word = refl
+
+annotation_is_word : is_node_word word.Annotation ≡ true
+unfolding is_node_word word_number
+annotation_is_word = refl
+
 all_node_words : list_all is_node_word (words_of role.Note) ≡ true
 unfolding words_of is_node_word word_number
 all_node_words = refl
@@ -162,6 +186,24 @@ module _ (name : ℕ → List ℕ) (g : List Triple) (apart : AreApart g) (e : E
   pub target_is : chosen g (entry_node name e) word.AnnotatedTarget ≡ e.triple.object ∷ []
   target_is = let x = entry_node name e in chosen_one word.AnnotatedTarget (link x (word_iri word.AnnotatedTarget) e.triple.object) target_is_word (targets e.word x e.triple)
 
+  chosen_few : (w : Word) → is_node_word w ≡ true → length (filter (carries w) (reifying e.word (entry_node name e) e.triple)) ≤ 1 → length (chosen g (entry_node name e) w) ≡ length (filter (carries w) (reifying e.word (entry_node name e) e.triple))
+  chosen_few w n h =
+      let x = entry_node name e in
+      let one = filter_first (carries w) (reifying e.word x e.triple) (note_links x e.notes) (λ u m k. beside u m (by_word w n k)) in
+      let few : length (filter (carries w) (entry_triples name e)) ≤ 1 = omega (arith, ap (λ (ts : List Triple). length ts) one, h) in
+      ap (λ (ys : List Term). length ys) (chosen_own g x (entry_triples name e) is_of_node apart w n few)
+      ∙ length-map (filter (carries w) (entry_triples name e)) (λ (u : Triple). u.object)
+      ∙ ap (λ (ts : List Triple). length ts) one
+
+  -- it has one type
+  pub one_type_chosen : length (chosen g (entry_node name e) word.Axiom ++ chosen g (entry_node name e) word.Annotation) ≡ 1
+  one_type_chosen =
+      let x = entry_node name e in
+      let count = one_type e.word x e.triple said.word in
+      let first = chosen_few word.Axiom axiom_is_word (omega (arith, count)) in
+      let second = chosen_few word.Annotation annotation_is_word (omega (arith, count)) in
+      omega (arith, length-append (chosen g x word.Axiom) (chosen g x word.Annotation), first, second, count)
+
   reifies_to : (t : Triple) → reifies g (entry_node name e) t ≡ true → e.triple ≡ t
   unfolding reifies
   reifies_to t h =
@@ -187,6 +229,13 @@ module _ (name : ℕ → List ℕ) (g : List Triple) (apart : AreApart g) (e : E
 
   structural_at : (t : Triple) → t.subject ≡ entry_node name e → is_structural g t ≡ carries_some (words_of role.Note) t
   structural_at t i = structural_is g t (ap (role_of g) i ∙ note_role)
+
+  -- what makes it so is structural
+  pub reifying_structural : (t : Triple) → Contains (reifying e.word (entry_node name e) e.triple) t → is_structural g t ≡ true
+  reifying_structural t m =
+      let x = entry_node name e in
+      structural_at t (is.subject t (Contains-append_left (reifying e.word x e.triple) (note_links x e.notes) t m))
+      ∙ passes (carries_some (words_of role.Note)) (reifying e.word x e.triple) t (note_words e.word x e.triple said.word) m
 
   notes_to : (t : Triple) → Contains (notes_of g (entry_node name e)) t → Contains (note_links (entry_node name e) e.notes) t
   unfolding notes_of

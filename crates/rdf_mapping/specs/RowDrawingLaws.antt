@@ -31,7 +31,7 @@ use Rattle.rdf_mapping.specs.ListDrawingLaws.{carries_link, listed_drawn}
 use Rattle.rdf_mapping.specs.Spelling.{DenoteParts, SpellParts, no_parts, one_part}
 use Rattle.rdf_mapping.specs.Written.{IsDrawn, IsDrawnWell, doubled, draws_at, draws_part, given, is_object_property, is_wanted, written}
 
-tag_seen : (t : Tree) → (kid_of t).tag ≡ tag_of t
+pub tag_seen : (t : Tree) → (kid_of t).tag ≡ tag_of t
 tag_seen (leaf t a) = refl
 tag_seen (node t ks) = refl
 

@@ -1,6 +1,6 @@
 -- Each expression has a row that its kids fit.
 use Rattle.std.proofs.Common.{◌≡◌, ◌-◌, ℕ, suc, Bool, true, false, List, [], ◌∷◌, ◌++◌, length, drop, take, refl, sym, ap, ◌∙◌, subst, arith}
-use Rattle.std.specs.Prelude.{Contains, map, min, ◌&&◌, nat_le, Option, None, Some}
+use Rattle.std.specs.Prelude.{Contains, map, min, ◌&&◌, nat_le, Some}
 use Rattle.std.specs.List.{filter, list_all}
 use Rattle.std.proofs.lemmas.Bool.{and_from, and_parts, both_ways, le-leb, leb-true}
 use Rattle.std.proofs.Math.Seq.{take-length, drop-length}
@@ -19,16 +19,16 @@ use Rattle.rdf_nodes.specs.declared.row.Place.TheVariants.{Subject}
 use Rattle.rdf_nodes.specs.declared.row.Want.{Want}
 use Rattle.rdf_nodes.specs.declared.row.Want.TheVariants.{One, Many, Whole, Keys, Declared, Mark, True}
 use Rattle.rdf_nodes.specs.ListLaws.{from_filter, in_filter}
-use Rattle.rdf_nodes.specs.RowShapes.{is_expression, kid_wants, ways, ways_behind}
+use Rattle.rdf_nodes.specs.RowShapes.{is_expression, kid_wants, ways, ways_behind, ways_of_rows}
 use Rattle.rdf_nodes.specs.Rows.{Row, node_rows}
 use Rattle.rdf_nodes.specs.ShapeLaws.{each_way_has_a_row}
-use Rattle.rdf_mapping.specs.Drawing.{fit, row_for, singles, takes_one}
+use Rattle.rdf_mapping.specs.Drawing.{first_row, fit, row_for, singles, takes_one}
 
 -- parts with these wants, wherever they stand
-abbrev part : Want → Part
+abbrev pub part : Want → Part
 part w = record { place = Subject; want = w }
 
-abbrev parts_for : List Want → List Part
+abbrev pub parts_for : List Want → List Part
 parts_for ws = map part ws
 
 -- Marks take no kid.
@@ -53,8 +53,7 @@ same_taking (p ∷ ps) = taking_by p.place p.want ps (same_taking ps)
 same_singles : (ps : List Part) → singles ps ≡ singles (parts_for (kid_wants ps))
 same_singles ps = sym (length-filter (λ (p : Part). takes_one p.want) ps) ∙ same_taking ps ∙ length-filter (λ (p : Part). takes_one p.want) (parts_for (kid_wants ps))
 
--- the same is asked of tags by parts and by their wants
-abbrev SameFit : List Part → Type 0
+abbrev pub SameFit : List Part → Type 0
 SameFit ps = (ts : List Tag) → fit ps ts ≡ fit (parts_for (kid_wants ps)) ts
 
 fit_by : (pl : Place) (w : Want) (ps : List Part) → SameFit ps → SameFit (record { place = pl; want = w } ∷ ps)
@@ -75,7 +74,8 @@ fit_by pl (Declared u) ps same (t ∷ ts) = λ i. is_tag u t && same ts i
 fit_by pl Mark ps same ts = same ts
 fit_by pl True ps same ts = same ts
 
-same_fit : (ps : List Part) → SameFit ps
+-- the same is asked by parts and by their wants
+pub same_fit : (ps : List Part) → SameFit ps
 unfolding fit
 same_fit [] = λ ts. refl
 same_fit (p ∷ ps) = fit_by p.place p.want ps (same_fit ps)
@@ -118,10 +118,11 @@ ends_fit s l t u ts h =
     (ap (λ (i : ℕ). list_all (admits s) (take i (t ∷ u ∷ ts))) e ∙ both.0)
     (ap (λ (i : ℕ). fit (part (One l) ∷ []) (drop i (t ∷ u ∷ ts))) e ∙ both.1))
 
-record FitsWay (all : List (List Want)) (front : List Want) (ts : List Tag) : Type 0 where
-  behind : List Want
-  among : Contains all behind
-  fits_way : fit (parts_for (front ++ behind)) ts ≡ true
+-- they fit the parts of a way, with these in front
+pub record FitsWay (all : List (List Want)) (front : List Want) (ts : List Tag) : Type 0 where
+  pub behind : List Want
+  pub among : Contains all behind
+  pub fits_way : fit (parts_for (front ++ behind)) ts ≡ true
 
 at_least_one : (n m : ℕ) → nat_le n m ≡ true → nat_le (min n 1) m ≡ true
 at_least_one n m h = le-leb (min n 1) m (omega (arith, leb-true n m h))
@@ -148,7 +149,7 @@ rest_fits (Set s n) ts h =
     let both = and_parts (nat_le (min n 1) (length ts)) (list_all (admits s) ts) h in
     record { behind = Many s n ∷ []; among = in_head (Many s n ∷ []) []; fits_way = many_fits s n ts both.0 both.1 }
 
-front_fits : (front : List Sort) (rest : Rest) (ts : List Tag) → fits_front front rest ts ≡ true → FitsWay (ways_behind rest) (map One front) ts
+pub front_fits : (front : List Sort) (rest : Rest) (ts : List Tag) → fits_front front rest ts ≡ true → FitsWay (ways_behind rest) (map One front) ts
 unfolding fit
 front_fits [] rest ts h = rest_fits rest ts h
 front_fits (s ∷ front) rest [] h = absurd (both_ways false refl h)
@@ -174,40 +175,44 @@ some_way (tree.Node front rest) ts h =
 
 -- The first row that kids with these tags fit.
 
-abbrev first : List Row → Option Row
-first [] = None
-first (r ∷ rs) = Some r
-
 record FirstOf (rows : List Row) : Type 0 where
   row : Row
-  is : first rows ≡ Some row
+  is : first_row rows ≡ Some row
   among : Contains rows row
 
 first_of : (rows : List Row) (q : Row) → Contains rows q → FirstOf rows
 first_of [] q m = absurd (in_none q m)
 first_of (r ∷ rs) q m = record { row = r; is = refl; among = in_head r rs }
 
-pub record HasRowFor (t : Tag) (ts : List Tag) : Type 0 where
+pub record HasRowIn (rows : List Row) (t : Tag) (ts : List Tag) : Type 0 where
   pub row : Row
-  pub is : row_for node_rows t ts ≡ Some row
-  pub among : Contains node_rows row
+  pub is : row_for rows t ts ≡ Some row
+  pub among : Contains rows row
   pub tag : is_tag row.tag t ≡ true
   pub fits : fit row.parts ts ≡ true
 
-row_of_first : (t : Tag) (ts : List Tag) → FirstOf (filter (λ r. is_tag r.tag t && fit r.parts ts) node_rows) → HasRowFor t ts
+abbrev pub HasRowFor : Tag → List Tag → Type 0
+HasRowFor t ts = HasRowIn node_rows t ts
+
+row_of_first : (rows : List Row) (t : Tag) (ts : List Tag) → FirstOf (filter (λ r. is_tag r.tag t && fit r.parts ts) rows) → HasRowIn rows t ts
 unfolding row_for
-row_of_first t ts f =
-    let kept = from_filter (λ r. is_tag r.tag t && fit r.parts ts) node_rows f.row f.among in
+row_of_first rows t ts f =
+    let kept = from_filter (λ r. is_tag r.tag t && fit r.parts ts) rows f.row f.among in
     let both = and_parts (is_tag f.row.tag t) (fit f.row.parts ts) kept.passes in
     record { row = f.row; is = f.is; among = kept.inside; tag = both.0; fits = both.1 }
+
+-- where tags fit one of the ways that the rows of a tag write its kids, a row is found
+pub row_by_way : (rows : List Row) (t : Tag) (ts : List Tag) (ws : List Want) → Contains (ways_of_rows rows t) ws → fit (parts_for ws) ts ≡ true → HasRowIn rows t ts
+row_by_way rows t ts ws m h =
+    let v = from_map (λ row. kid_wants row.parts) (filter (λ row. is_tag row.tag t) rows) ws m in
+    let kept = from_filter (λ row. is_tag row.tag t) rows v.element v.inside in
+    let fitting : fit v.element.parts ts ≡ true = same_fit v.element.parts ts ∙ ap (λ (us : List Want). fit (parts_for us) ts) v.value ∙ h in
+    row_of_first rows t ts
+    (first_of (filter (λ r. is_tag r.tag t && fit r.parts ts) rows) v.element
+    (in_filter (λ r. is_tag r.tag t && fit r.parts ts) rows v.element kept.inside (and_from (is_tag v.element.tag t) (fit v.element.parts ts) kept.passes fitting)))
 
 -- each expression has a row that its kids fit
 pub has_row_for : (t : Tag) (ts : List Tag) → is_expression t ≡ true → fits (row_of t) ts ≡ true → HasRowFor t ts
 has_row_for t ts e h =
     let way = some_way (row_of t) ts h in
-    let v = from_map (λ row. kid_wants row.parts) (filter (λ row. is_tag row.tag t) node_rows) way.wants (subst (λ all. Contains all way.wants) (sym (each_way_has_a_row t e)) way.among) in
-    let kept = from_filter (λ row. is_tag row.tag t) node_rows v.element v.inside in
-    let fitting : fit v.element.parts ts ≡ true = same_fit v.element.parts ts ∙ ap (λ (ws : List Want). fit (parts_for ws) ts) v.value ∙ way.fits_way in
-    row_of_first t ts
-    (first_of (filter (λ r. is_tag r.tag t && fit r.parts ts) node_rows) v.element
-    (in_filter (λ r. is_tag r.tag t && fit r.parts ts) node_rows v.element kept.inside (and_from (is_tag v.element.tag t) (fit v.element.parts ts) kept.passes fitting)))
+    row_by_way node_rows t ts way.wants (subst (λ all. Contains all way.wants) (sym (each_way_has_a_row t e)) way.among) way.fits_way

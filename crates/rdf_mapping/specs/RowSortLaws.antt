@@ -1,5 +1,5 @@
 -- The triples of an expression's node are its own.
-use Rattle.std.proofs.Common.{◌≡◌, ◌-◌, ℕ, zero, suc, Bool, true, false, cond, List, [], ◌∷◌, drop, take, length, inl, inr, refl, subst, arith}
+use Rattle.std.proofs.Common.{◌≡◌, ◌-◌, ℕ, suc, Bool, true, false, cond, List, [], ◌∷◌, drop, take, length, inl, inr, refl, subst, arith}
 use Rattle.std.specs.Prelude.{Contains, map, nat_le}
 use Rattle.std.specs.List.{AllByRecursion, list_all, list_any}
 use Rattle.std.proofs.lemmas.Bool.{and_parts, both_ways}
@@ -89,7 +89,7 @@ module _ (name : ℕ → List ℕ) (most : ℕ) (differ : AreNamedApart name mos
   abbrev KidSort : Kid → Type 0
   KidSort q = P q.form
 
-  form_sorts : (ks : List Kid) → AllByRecursion KidSort ks → AllByRecursion P (forms_of ks)
+  pub form_sorts : (ks : List Kid) → AllByRecursion KidSort ks → AllByRecursion P (forms_of ks)
   form_sorts [] all = tt
   form_sorts (q ∷ ks) all = (all.0, form_sorts ks all.1)
 
@@ -97,7 +97,7 @@ module _ (name : ℕ → List ℕ) (most : ℕ) (differ : AreNamedApart name mos
   one_or_two true f h = twice_sort name most differ g f h
   one_or_two false f h = list_sort name most differ g (f ∷ []) (h, tt)
 
-  listed_sort : (least : ℕ) (fs : List Form) → AllByRecursion P fs → P (listed least fs)
+  pub listed_sort : (least : ℕ) (fs : List Form) → AllByRecursion P fs → P (listed least fs)
   listed_sort least [] all = list_sort name most differ g [] tt
   listed_sort least (f ∷ []) all = one_or_two (nat_le 2 least) f all.0
   listed_sort least (f ∷ h ∷ fs) all = list_sort name most differ g (f ∷ h ∷ fs) all

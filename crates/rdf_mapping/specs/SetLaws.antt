@@ -24,7 +24,7 @@ use Rattle.rdf_mapping.specs.VariantLaws.{AreOwnSets, HasEntry, IsSetOfEntry, ow
 
 -- what is drawn is said, where no predicate of an annotation makes a node what it is
 
-all_beside : (ns : Notes) → AreAllBeside ns → AreBeside ns
+pub all_beside : (ns : Notes) → AreAllBeside ns → AreBeside ns
 all_beside no_notes b = tt
 all_beside (note p v inside more) b = (b.0, all_beside more b.1.1)
 

@@ -21,13 +21,14 @@ use Rattle.std.proofs.lemmas.List.Elements.{Contains-append_left, Contains-appen
 use Rattle.owl_doc.specs.Entities.{AreWellTyped, entities, entities_of}
 use Rattle.rdf_nodes.specs.Nodes.{role_of}
 use Rattle.rdf_nodes.specs.RowShapes.{is_expression}
-use Rattle.rdf_mapping.specs.Drawing.{kid_of, kids_seen, tags_of}
+use Rattle.rdf_mapping.specs.Drawing.{kids_seen, tags_of}
 use Rattle.rdf_mapping.specs.Frames.{AreNamedApart}
 use Rattle.rdf_mapping.specs.FacetDrawingLaws.{facet_drawn}
 use Rattle.rdf_mapping.specs.Graphs.{all_labels_in, labels_in}
 use Rattle.rdf_mapping.specs.LeafDrawingLaws.{leaf_drawn}
 use Rattle.rdf_mapping.specs.NodeDrawingLaws.{node_drawn, same_tag}
 use Rattle.rdf_mapping.specs.OwnLaws.{any_from}
+use Rattle.rdf_mapping.specs.RowDrawingLaws.{tag_seen}
 use Rattle.rdf_mapping.specs.RowForLaws.{has_row_for}
 use Rattle.rdf_mapping.specs.Written.{AreIndividuals, HasFacetNames, HaveFacetNames, IsDrawn, IsDrawnWell, is_wanted}
 
@@ -94,10 +95,6 @@ no_property_kids ts h = both_ways false refl h
 property_tag : (t : Tag) → admits sort.ObjectProperty t ≡ true → tag.ObjectProperty ≡ t
 unfolding admits
 property_tag t h = same_tag tag.ObjectProperty t h
-
-tag_seen : (t : Tree) → (kid_of t).tag ≡ tag_of t
-tag_seen (leaf t a) = refl
-tag_seen (node t ks) = refl
 
 pub tags_each : (ks : Kids) → tags_of (kids_seen ks) ≡ map tag_of (list_of ks)
 tags_each no_kids = refl

@@ -1,7 +1,7 @@
 -- What is drawn of a tree makes its nodes what they are.
-use Rattle.std.proofs.Common.{◌≡◌, ℕ, suc, Bool, true, false, List, [], ◌∷◌, ◌++◌, inl, inr, refl, sym, ap, ◌∙◌, subst}
+use Rattle.std.proofs.Common.{◌≡◌, ℕ, suc, Bool, true, false, List, [], ◌∷◌, inl, inr, refl, sym, ap, ◌∙◌, subst}
 use Rattle.std.specs.Prelude.{Contains, map, ◌&&◌, ◌||◌, Option, None, Some}
-use Rattle.std.specs.List.{AllByRecursion, filter}
+use Rattle.std.specs.List.{AllByRecursion}
 use Rattle.std.proofs.lemmas.Bool.{and_parts, both_ways, cases_Bool, or_cases}
 use Rattle.std.proofs.lemmas.List.Elements.{Contains-append_left, Contains-append_right}
 use Rattle.owl_doc.specs.Entities.{AreWellTyped, entities, entities_of}
@@ -22,7 +22,7 @@ use Rattle.rdf_nodes.specs.declared.role.Role.{Role}
 use Rattle.rdf_nodes.specs.declared.role.Role.TheVariants as role
 use Rattle.rdf_nodes.specs.declared.word.Word.{Word}
 use Rattle.rdf_nodes.specs.declared.word.Word.TheVariants as word
-use Rattle.rdf_nodes.specs.Nodes.{carries, first_role, is_facet, is_role, marked_roles, marks_role, role_of}
+use Rattle.rdf_nodes.specs.Nodes.{carries, is_facet, is_role, marks_role, role_of}
 use Rattle.rdf_nodes.specs.RowShapes.{is_expression}
 use Rattle.rdf_nodes.specs.Rows.{Row, node_rows}
 use Rattle.rdf_mapping.specs.RowForLaws.{HasRowFor, has_row_for}
@@ -31,10 +31,9 @@ use Rattle.rdf_mapping.specs.Drawing.{Kid, arcs_of, atom_term, facet_arcs, fit, 
 use Rattle.rdf_mapping.specs.Forms.{Form, made, arc, no_arcs, blank, link, term_of}
 use Rattle.rdf_mapping.specs.FormSorts.{IsOfNodes}
 use Rattle.rdf_mapping.specs.FormSortLaws.{made_sort, plain_sort, structural_as}
-use Rattle.rdf_mapping.specs.Frames.{AreNamedApart, IsOfNode, IsOwn}
+use Rattle.rdf_mapping.specs.Frames.{AreNamedApart}
 use Rattle.rdf_mapping.specs.Graphs.{all_labels_in, labels_in}
 use Rattle.rdf_mapping.specs.NodeDrawingLaws.{same_tag, seen_each, row_form}
-use Rattle.rdf_mapping.specs.OwnLaws.{role_own}
 use Rattle.rdf_mapping.specs.RowSortLaws.{row_sort}
 use Rattle.rdf_mapping.specs.SpellingLaws.{no_facet, predicate_of}
 use Rattle.rdf_mapping.specs.TreeDrawingLaws.{kids_drawn, tags_each, all_front, all_back}
@@ -85,10 +84,6 @@ facet_marks role.Main t h =
 facet_marks role.Note t h = λ i. no_word word.Axiom t h i || (no_word word.Annotation t h i || false)
 facet_marks role.Header t h = no_word word.Ontology t h
 facet_marks role.Individual t h = refl
-
-tag_seen : (t : Tree) → (kid_of t).tag ≡ tag_of t
-tag_seen (leaf t a) = refl
-tag_seen (node t ks) = refl
 
 module _ (name : ℕ → List ℕ) (most : ℕ) (differ : AreNamedApart name most) (g : List Triple) (k : List Entity) (apart : AreApart g) where
   abbrev P : Form → Type 0

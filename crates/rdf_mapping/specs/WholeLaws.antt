@@ -63,31 +63,33 @@ groups_said name (g ∷ gs) n b e m =
       | inr i ↦ groups_said name gs mid (λ h ns j k. b h ns (in_tail g gs h j) k) e i
     ]
 
--- a node with the role of a reification has a mark of it
+-- a node with a role has a mark of it
 
-no_note : role.Individual ≡ role.Note → ⊥
-no_note e = cc
+first_is : (rs : List Role) (r : Role) → (r ≡ role.Individual → ⊥) → first_role rs ≡ r → Contains rs r
+first_is [] r n e = absurd (n (sym e))
+first_is (q ∷ rs) r n e = subst (λ (z : Role). Contains (q ∷ rs) z) e (in_head q rs)
 
-first_is : (rs : List Role) → first_role rs ≡ role.Note → Contains rs role.Note
-first_is [] e = absurd (no_note e)
-first_is (r ∷ rs) e = subst (λ (q : Role). Contains (r ∷ rs) q) e (in_head r rs)
-
-record HasMark (g : List Triple) (x : Term) : Type 0 where
+pub record HasMark (g : List Triple) (x : Term) (r : Role) : Type 0 where
   pub triple : Triple
   pub inside : Contains g triple
   pub subject : triple.subject ≡ x
-  pub marks : marks_role role.Note triple ≡ true
+  pub marks : marks_role r triple ≡ true
 
-marked : (g : List Triple) (x : Term) → role_of g x ≡ role.Note → HasMark g x
+pub has_role : (g : List Triple) (x : Term) (r : Role) → Contains (roles_of g x) r → HasMark g x r
 unfolding roles_of
-marked g (Iri iri) e = absurd (no_note e)
-marked g (Literal literal) e = absurd (no_note e)
-marked g (Blank label) e =
-    let x = Blank label in
-    let k = from_filter (λ r. list_any (marks_role r) (of_subject g x)) marked_roles role.Note (first_is (roles_of g x) e) in
-    let p = some_passes (marks_role role.Note) (of_subject g x) k.passes in
+has_role g x r m =
+    let k = from_filter (λ q. list_any (marks_role q) (of_subject g x)) marked_roles r m in
+    let p = some_passes (marks_role r) (of_subject g x) k.passes in
     let at = from_subject g x p.element p.inside in
     record { triple = p.element; inside = at.0; subject = at.1; marks = p.passes }
+
+pub marked : (g : List Triple) (x : Term) (r : Role) → (r ≡ role.Individual → ⊥) → role_of g x ≡ r → HasMark g x r
+marked g (Iri iri) r n e = absurd (n (sym e))
+marked g (Literal literal) r n e = absurd (n (sym e))
+marked g (Blank label) r n e = has_role g (Blank label) r (first_is (roles_of g (Blank label)) r n e)
+
+no_individual : role.Note ≡ role.Individual → ⊥
+no_individual e = cc
 
 same_label : (a b : List ℕ) → Blank a ≡ Blank b → a ≡ b
 same_label a b e = cc
@@ -215,7 +217,7 @@ module _ (o : Ontology) (few : made_nodes o + length (labels_of o) ≤ 9 * 10 ^ 
         | inr j ↦ groups_said name gs b each e j
       ])
       (λ x r.
-      let k = marked (graph_of o) x r in
+      let k = marked (graph_of o) x role.Note no_individual r in
       elim (d.cases k.triple (in_made o k.triple k.inside)) [
         | inl j ↦ absurd (no_marks k.triple j k.marks)
         | inr j ↦ record { entry = j.entry; among = j.among; is = sym k.subject ∙ entry_subjects name j.entry k.triple j.inside }

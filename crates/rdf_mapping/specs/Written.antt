@@ -32,7 +32,7 @@ doubled least [] = []
 doubled least (u ∷ []) = cond (nat_le 2 least) (u ∷ u ∷ []) (u ∷ [])
 doubled least (u ∷ v ∷ us) = u ∷ v ∷ us
 
-abbrev next_given : (List Tree → List Tree) → List Tree → List Tree
+abbrev pub next_given : (List Tree → List Tree) → List Tree → List Tree
 next_given behind [] = []
 next_given behind (u ∷ us) = u ∷ behind us
 

@@ -7,6 +7,7 @@ use Rattle.std.proofs.lemmas.Bool.{and_parts, both_ways, cond-false, not-true, o
 use Rattle.std.proofs.lemmas.List.{append-nil, length-drop, take-append-drop}
 use Rattle.owl_list.specs.AscendingLaws.{in_head}
 use Rattle.owl_tree.specs.declared.tag.Tag.{Tag}
+use Rattle.owl_tree.specs.declared.tag.Tag.TheVariants as tag
 use Rattle.owl_tree.specs.Equivalence.{Agree, AgreeAsSetFrom, AgreeByPlace, EachHoldsOfSome, IsEquivalent, SomeHoldsOfEach, equivalents}
 use Rattle.owl_tree.specs.Rows.{admits, is_tag, row_of, set_start}
 use Rattle.owl_tree.specs.Trees.{Tree, Kids, leaf, node, no_kids, kid, kids_of, list_of}
@@ -16,9 +17,9 @@ use Rattle.rdf_nodes.specs.declared.row.Want.{Want}
 use Rattle.rdf_nodes.specs.declared.row.Want.TheVariants.{One, Many, Whole, Keys, Declared, Mark, True}
 use Rattle.rdf_nodes.specs.ListLaws.{from_filter, passes}
 use Rattle.rdf_nodes.specs.Rows.{Row, node_rows}
-use Rattle.rdf_mapping.specs.Drawing.{fit, kids_seen, row_for, singles, tags_of}
+use Rattle.rdf_mapping.specs.Drawing.{first_row, fit, kids_seen, row_for, singles, tags_of}
 use Rattle.rdf_mapping.specs.NodeDrawingLaws.{same_tag}
-use Rattle.rdf_mapping.specs.Written.{all_written, doubled, given, given_of, written}
+use Rattle.rdf_mapping.specs.Written.{all_written, doubled, given, given_of, next_given, written}
 
 -- Trees that agree by place agree as sets.
 
@@ -40,19 +41,19 @@ some_each us [] h = tt
 some_each [] (t ∷ ts) h = absurd h
 some_each (u ∷ us) (t ∷ ts) h = (inl h.0, some_more u us ts (some_each us ts h.1))
 
-set_agree : (n : ℕ) (us ts : List Tree) → AgreeByPlace (equivalents (kids_of us)) ts → AgreeAsSetFrom n (equivalents (kids_of us)) ts
+pub set_agree : (n : ℕ) (us ts : List Tree) → AgreeByPlace (equivalents (kids_of us)) ts → AgreeAsSetFrom n (equivalents (kids_of us)) ts
 set_agree zero us ts h = (each_some us ts h, some_each us ts h)
 set_agree (suc n) [] [] h = tt
 set_agree (suc n) [] (t ∷ ts) h = absurd h
 set_agree (suc n) (u ∷ us) [] h = absurd h
 set_agree (suc n) (u ∷ us) (t ∷ ts) h = (h.0, set_agree n us ts h.1)
 
-place_agree : (o : Option ℕ) (us ts : List Tree) → AgreeByPlace (equivalents (kids_of us)) ts → Agree o (equivalents (kids_of us)) ts
+pub place_agree : (o : Option ℕ) (us ts : List Tree) → AgreeByPlace (equivalents (kids_of us)) ts → Agree o (equivalents (kids_of us)) ts
 place_agree None us ts h = h
 place_agree (Some n) us ts h = set_agree n us ts h
 
 -- and so one that is written twice
-doubled_agree : (least : ℕ) (us ts : List Tree) → AgreeByPlace (equivalents (kids_of us)) ts → AgreeAsSetFrom 0 (equivalents (kids_of (doubled least us))) ts
+pub doubled_agree : (least : ℕ) (us ts : List Tree) → AgreeByPlace (equivalents (kids_of us)) ts → AgreeAsSetFrom 0 (equivalents (kids_of (doubled least us))) ts
 doubled_agree least [] ts h = set_agree 0 [] ts h
 doubled_agree least (u ∷ []) [] h = absurd h
 doubled_agree least (u ∷ []) (t ∷ ts) h = by (nat_le 2 least)
@@ -64,12 +65,12 @@ doubled_agree least (u ∷ v ∷ us) ts h = set_agree 0 (u ∷ v ∷ us) ts h
 
 -- Parts give the kids that stand at them.
 
-abbrev no_doubling : Want → Bool
+abbrev pub no_doubling : Want → Bool
 no_doubling (One s) = true
 no_doubling (Many s least) = not (nat_le 2 least)
-no_doubling (Whole t s least) = false
-no_doubling Keys = false
-no_doubling (Declared t) = false
+no_doubling (Whole t s least) = true
+no_doubling Keys = true
+no_doubling (Declared t) = true
 no_doubling Mark = true
 no_doubling True = true
 
@@ -78,15 +79,17 @@ not_doubled least [] h = refl
 not_doubled least (u ∷ []) h = cond-false (nat_le 2 least) (u ∷ u ∷ []) (u ∷ []) h
 not_doubled least (u ∷ v ∷ us) h = refl
 
-abbrev GivesSame : List Part → Type 0
+abbrev pub GivesSame : List Part → Type 0
 GivesSame ps = (ts : List Tag) (us : List Tree) → fit ps ts ≡ true → length us ≡ length ts → given ps us ≡ us
+
+next_same : (ps : List Part) → GivesSame ps → (ts : List Tag) (us : List Tree) → fit ps ts ≡ true → length us ≡ suc (length ts) → next_given (given ps) us ≡ us
+next_same ps same ts [] f e = absurd (omega (arith, e))
+next_same ps same ts (u ∷ us) f e = ap (λ (vs : List Tree). u ∷ vs) (same ts us f (omega (arith, e)))
 
 gives_by : (pl : Place) (w : Want) (ps : List Part) → no_doubling w ≡ true → GivesSame ps → GivesSame (record { place = pl; want = w } ∷ ps)
 unfolding fit given
 gives_by pl (One s) ps h same [] us f e = absurd (both_ways false refl f)
-gives_by pl (One s) ps h same (t ∷ ts) [] f e = absurd (omega (arith, e))
-gives_by pl (One s) ps h same (t ∷ ts) (u ∷ us) f e =
-    ap (λ (vs : List Tree). u ∷ vs) (same ts us (and_parts (admits s t) (fit ps ts) f).1 (omega (arith, e)))
+gives_by pl (One s) ps h same (t ∷ ts) us f e = next_same ps same ts us (and_parts (admits s t) (fit ps ts) f).1 e
 gives_by pl (Many s least) ps h same ts us f e =
     let j = length us - singles ps in
     let i = length ts - singles ps in
@@ -97,9 +100,17 @@ gives_by pl (Many s least) ps h same ts us f e =
     (length-drop j us ∙ ap (λ (n : ℕ). n - j) e ∙ sym (length-drop j ts)) in
     ap (λ (vs : List Tree). vs ++ given ps (drop j us)) (not_doubled least (take j us) (not-true (nat_le 2 least) h))
     ∙ ap (λ (vs : List Tree). take j us ++ vs) behind ∙ take-append-drop j us
-gives_by pl (Whole u s least) ps h same ts us f e = absurd (both_ways false refl h)
-gives_by pl Keys ps h same ts us f e = absurd (both_ways false refl h)
-gives_by pl (Declared u) ps h same ts us f e = absurd (both_ways false refl h)
+gives_by pl (Whole u s least) ps h same [] us f e = absurd (both_ways false refl f)
+gives_by pl (Whole u s least) ps h same (t ∷ ts) us f e = next_same ps same ts us (and_parts (is_tag u t) (fit ps ts) f).1 e
+gives_by pl Keys ps h same [] us f e = absurd (both_ways false refl f)
+gives_by pl Keys ps h same (t ∷ []) us f e = absurd (both_ways false refl f)
+gives_by pl Keys ps h same (t ∷ v ∷ ts) [] f e = absurd (omega (arith, e))
+gives_by pl Keys ps h same (t ∷ v ∷ ts) (u ∷ []) f e = absurd (omega (arith, e))
+gives_by pl Keys ps h same (t ∷ v ∷ ts) (u ∷ w ∷ us) f e =
+    let tags = and_parts (is_tag tag.ObjectKeys t) (is_tag tag.DataKeys v && fit ps ts) f in
+    ap (λ (vs : List Tree). u ∷ w ∷ vs) (same ts us (and_parts (is_tag tag.DataKeys v) (fit ps ts) tags.1).1 (omega (arith, e)))
+gives_by pl (Declared u) ps h same [] us f e = absurd (both_ways false refl f)
+gives_by pl (Declared u) ps h same (t ∷ ts) us f e = next_same ps same ts us (and_parts (is_tag u t) (fit ps ts) f).1 e
 gives_by pl Mark ps h same ts us f e = same ts us f e
 gives_by pl True ps h same ts us f e = same ts us f e
 
@@ -109,7 +120,7 @@ none_given ts [] f e = refl
 none_given [] (u ∷ us) f e = absurd (omega (arith, e))
 none_given (t ∷ ts) (u ∷ us) f e = absurd (both_ways false refl f)
 
-gives_same : (ps : List Part) → list_all (λ p. no_doubling p.want) ps ≡ true → GivesSame ps
+pub gives_same : (ps : List Part) → list_all (λ p. no_doubling p.want) ps ≡ true → GivesSame ps
 gives_same [] h = none_given
 gives_same (p ∷ ps) h =
     let both = and_parts (no_doubling p.want) (list_all (λ q. no_doubling q.want) ps) h in
@@ -157,11 +168,7 @@ all_same_as_sets = refl
 
 -- The row of a tree.
 
-abbrev first : List Row → Option Row
-first [] = None
-first (r ∷ rs) = Some r
-
-first_in : (rows : List Row) (r : Row) → first rows ≡ Some r → Contains rows r
+pub first_in : (rows : List Row) (r : Row) → first_row rows ≡ Some r → Contains rows r
 first_in [] r e = cc
 first_in (q ∷ rs) r e = let same : q ≡ r = cc in subst (λ p. Contains (q ∷ rs) p) same (in_head q rs)
 
@@ -206,6 +213,6 @@ mutual
   written_equivalent (leaf t a) = (refl, refl)
   written_equivalent (node t ks) = (refl, kids_agree t ks (row_for node_rows t (tags_of (kids_seen ks))) refl (each_equivalent ks))
 
-  each_equivalent : (ks : Kids) → AgreeByPlace (equivalents (kids_of (all_written ks))) (list_of ks)
+  pub each_equivalent : (ks : Kids) → AgreeByPlace (equivalents (kids_of (all_written ks))) (list_of ks)
   each_equivalent no_kids = tt
   each_equivalent (kid t ks) = (written_equivalent t, each_equivalent ks)
