@@ -1,0 +1,5 @@
+use Rattle.rdf_axioms.specs.WellDrawnLaws.{axiom_well_drawn}
+use Rattle.rdf_axioms.proofs.laws.axioms_are_well_drawn.Goals as goal
+
+pub returns : goal.returns
+returns c = axiom_well_drawn
