@@ -114,9 +114,6 @@ is_note trees id ids n p v iri a three_ids e f g = note_with (tree_at trees id) 
 
 -- Whether there are some.
 
-pub some_here : (t : Tree) (p : List ℕ) (v : Term) (inside more : Notes) → annotation_in t more ≡ note p v inside more → true ≡ are_some (annotation_in t more)
-some_here t p v inside more e = sym (ap are_some e)
-
 where_is : {A : Type 0} (ns : Notes) (none some : A) → are_some ns ≡ true → where_some ns none some ≡ some
 where_is {A} no_notes none some h = absurd (cc)
 where_is {A} (note p v inside more) none some h = refl
@@ -126,9 +123,6 @@ where_not {A} no_notes none some h = refl
 where_not {A} (note p v inside more) none some h = absurd (cc)
 
 -- What is written.
-
-pub no_note : (w : Writer) (h : Holder) (t : Tree) → IsNoNote t → WritesNotes w w h (annotation_in t no_notes)
-no_note w h t none = subst (WritesNotes w w h) (sym (none no_notes)) (writes_nothing w)
 
 pub note_alone : (old new : Writer) (h : Holder) (t : Tree) (p : List ℕ) (v : Term) (inside : Notes) → annotation_in t no_notes ≡ note p v inside no_notes → are_some inside ≡ false → Writes old new 0 (link (holder_term (names old) h) p v ∷ []) → WritesNotes old new h (annotation_in t no_notes)
 note_alone old new h t p v inside is none x =
@@ -168,9 +162,6 @@ axiom_reified old mid new t x ns some e a b =
 
 pub axiom_plain : (w : Writer) (t : Triple) (ns : Notes) → are_some ns ≡ false → Writes w w (reified_nodes ns) (reified (names w) word.Axiom t ns w.next)
 axiom_plain w t ns none = record { labels = refl; counted = omega (arith, where_not ns 0 (suc (note_nodes ns)) none); added = sym (append-nil w.gather) ∙ ap (λ (ts : List Triple). w.gather ++ ts) (sym (where_not ns [] _ none)) }
-
-pub two_written : (a b c : Writer) (m n k : ℕ) (ts us vs : List Triple) → Writes a b m ts → Writes b c n us → k ≡ m + n → vs ≡ ts ++ us → Writes a c k vs
-two_written a b c m n k ts us vs x y count all = followed a b c m n k (a.next + m) ts vs (λ _ _. us) x y refl count all
 
 pub some_told : (trees : List Tree) (id : ℕ) (ids : List ℕ) (b x : Bool) → trees_at trees ids ≡ kids_in (tree_at trees id) → b ≡ are_some (notes_at trees ids) → b ≡ x → are_some (notes_of (tree_at trees id)) ≡ x
 some_told trees id ids b x e f g = ap are_some (notes_by_kids trees id ids e) ∙ sym f ∙ g

@@ -3,22 +3,23 @@ use Rattle.std.proofs.Common.{◌≡◌, ℕ, suc, ◌+◌, List, [], ◌∷◌,
 use Rattle.std.proofs.lemmas.List.{append_assoc}
 use Rattle.owl_arena.specs.Held.{tree_at, trees_at}
 use Rattle.owl_tree.specs.Trees.{Tree, leaf, node, no_kids, kid, kids_in}
-use Rattle.rdf_terms.specs.Literals.{LiteralParts}
 use Rattle.rdf_graph.specs.declared.term.Term.{Term}
 use Rattle.rdf_graph.specs.declared.term.Term.TheVariants.{Iri, Blank, Literal}
 use Rattle.rdf_graph.specs.declared.triple.Triple.{Triple}
+use Rattle.rdf_nodes.specs.declared.row.Place.{Place}
+use Rattle.rdf_nodes.specs.declared.row.Place.TheVariants.{Object, Subject}
 use Rattle.rdf_nodes.specs.declared.word.Word.TheVariants as word
 use Rattle.rdf_forward.specs.declared.notes.Holder.TheVariants as holder
 use Rattle.rdf_forward.specs.declared.writer.Writer.{Writer}
 use Rattle.rdf_mapping.specs.Forms.{Form, Arcs, arc_nodes, arc_triples, blank, link, made, nodes, term_of, triples}
-use Rattle.rdf_mapping.specs.Drawing.{linked, linked_back, looped, standing}
+use Rattle.rdf_mapping.specs.Drawing.{between, linked, linked_back, looped, standing}
 use Rattle.rdf_mapping.specs.Notes.{Notes, note_nodes, note_triples, notes_of, reified, reified_nodes}
 use Rattle.rdf_mapping.specs.Graphs.{axiom_notes, main_triple, set_nodes, set_triples, standing_nodes, standing_triples}
 use Rattle.rdf_forward.specs.NoteWalks.{WritesNotes, notes_at}
 use Rattle.rdf_forward.specs.AxiomWalks.{AreEnds, WritesEnds, WritesMain, WritesSets, WritesStatement, sets_at}
 use Rattle.rdf_forward.specs.Walks.{Writes, WritesArcs, WritesForm, names}
 use Rattle.rdf_forward.proofs.Annotations.{notes_by_kids}
-use Rattle.rdf_forward.proofs.Cells.{same_names, writes_nothing}
+use Rattle.rdf_forward.proofs.Cells.{writes_nothing}
 use Rattle.rdf_forward.proofs.Writing.{followed}
 
 -- the annotations of an axiom, by its first kid
@@ -32,21 +33,10 @@ pub axiom_notes_first : (trees : List Tree) (id n : ℕ) (ids inside others : Li
 axiom_notes_first trees id n ids inside others e f g =
     sym (notes_by_kids trees n inside g) ∙ first_notes (tree_at trees id) (tree_at trees n) (trees_at trees others) (sym (ap (trees_at trees) e) ∙ f)
 
-no_notes_first : (t : Tree) → [] ≡ kids_in t → notes_at [] [] ≡ axiom_notes t
-no_notes_first (leaf g a) e = refl
-no_notes_first (node g no_kids) e = refl
-no_notes_first (node g (kid m ms)) e = cc
-
-pub axiom_notes_none : (trees : List Tree) (id : ℕ) (ids : List ℕ) → ids ≡ [] → trees_at trees ids ≡ kids_in (tree_at trees id) → notes_at trees [] ≡ axiom_notes (tree_at trees id)
-axiom_notes_none trees id ids e f = no_notes_first (tree_at trees id) (sym (ap (trees_at trees) e) ∙ f)
-
 -- the sets, one behind the other
 
 pub record SetsOn (trees : List Tree) (t : Triple) (start now : Writer) (ids left : List ℕ) : Type 0 where
   pub on : (last : Writer) → WritesSets now last t (sets_at trees left) → WritesSets start last t (sets_at trees ids)
-
-pub sets_at_first : (trees : List Tree) (t : Triple) (w : Writer) (ids : List ℕ) → SetsOn trees t w w ids ids
-sets_at_first trees t w ids = record { on = λ last behind. behind }
 
 pub sets_next : (trees : List Tree) (t : Triple) (start now new : Writer) (ids left : List ℕ) (id : ℕ) (ns : Notes) → ns ≡ axiom_notes (tree_at trees id) → Writes now new (reified_nodes ns) (reified (names now) word.Axiom t ns now.next) → SetsOn trees t start now ids (id ∷ left) → SetsOn trees t start new ids left
 sets_next trees t start now new ids left id ns e one l =
@@ -61,9 +51,6 @@ sets_end trees t start now ids l = l.on now (writes_nothing now)
 
 pub record StandingOn (trees : List Tree) (arcs : Arcs) (start now : Writer) (ids left : List ℕ) : Type 0 where
   pub on : (last : Writer) → WritesStatement now last (standing arcs) (sets_at trees left) → WritesStatement start last (standing arcs) (sets_at trees ids)
-
-pub standing_at_first : (trees : List Tree) (arcs : Arcs) (w : Writer) (ids : List ℕ) → StandingOn trees arcs w w ids ids
-standing_at_first trees arcs w ids = record { on = λ last behind. behind }
 
 -- one node with its arcs and its annotations
 pub node_noted : (now w1 w2 new : Writer) (x : ℕ) (arcs : Arcs) (ns : Notes) → x ≡ now.next → Writes now w1 1 [] → WritesArcs w1 w2 (blank (names w1) x) arcs → WritesNotes w2 new (holder.Node x) ns → Writes now new (suc (arc_nodes arcs) + note_nodes ns) (triples (names now) (made arcs) now.next ++ note_triples (names now) (blank (names now) now.next) ns (now.next + suc (arc_nodes arcs)))
@@ -106,31 +93,21 @@ main_written old mid new s p o sets x y =
     followed old mid new 0 (set_nodes sets) (set_nodes sets) old.next (main_triple (names old) s p o []) (main_triple (names old) s p o (set_triples (names old) (link s p o) sets old.next)) (λ (m : ℕ → List ℕ) (k : ℕ). set_triples m (link s p o) sets k) x y (omega arith) (omega arith)
     (main_front (names old) s p o (set_triples (names old) (link s p o) sets old.next))
 
-pub no_main : (w : Writer) (s o : Term) (p : List ℕ) (x : LiteralParts) → s ≡ Literal x → Writes w w 0 (main_triple (names w) s p o [])
-no_main w s o p x e = subst (λ (t : Term). Writes w w 0 (main_triple (names w) t p o [])) (sym e) (writes_nothing w)
-
 -- the ends, and then the triple
-
-pub ends_written : (old w1 w2 : Writer) (f g : Form) → WritesForm old w1 f → WritesForm w1 w2 g → WritesEnds old w2 f g
-ends_written old w1 w2 f g x y =
-    followed old w1 w2 (nodes f) (nodes g) (nodes f + nodes g) (old.next + nodes f) (triples (names old) f old.next) (triples (names old) f old.next ++ triples (names old) g (old.next + nodes f)) (λ (m : ℕ → List ℕ) (k : ℕ). triples m g k) x y refl refl refl
-
-pub second_end : (old w1 : Writer) (f g : Form) (s o : Term) → s ≡ term_of (names old) f old.next → WritesForm old w1 f → o ≡ term_of (names w1) g w1.next → AreEnds old f g s o
-second_end old w1 f g s o e x h = record { first = e; second = h ∙ ap (λ (m : ℕ → List ℕ). term_of m g w1.next) (same_names old w1 x.labels) ∙ ap (λ (k : ℕ). term_of (names old) g k) x.counted }
 
 after_ends : (old mid new : Writer) (f g : Form) (s : Term) (p : List ℕ) (o : Term) (sets : List Notes) → WritesEnds old mid f g → WritesMain mid new s p o sets → Writes old new (nodes f + nodes g + set_nodes sets) ((triples (names old) f old.next ++ triples (names old) g (old.next + nodes f)) ++ main_triple (names old) s p o (set_triples (names old) (link s p o) sets (old.next + (nodes f + nodes g))))
 after_ends old mid new f g s p o sets x y =
     followed old mid new (nodes f + nodes g) (set_nodes sets) (nodes f + nodes g + set_nodes sets) (old.next + (nodes f + nodes g)) (triples (names old) f old.next ++ triples (names old) g (old.next + nodes f)) _
     (λ (m : ℕ → List ℕ) (k : ℕ). main_triple m s p o (set_triples m (link s p o) sets k)) x y refl refl refl
 
-pub linked_written : (old mid new : Writer) (f g : Form) (s : Term) (p : List ℕ) (o : Term) (sets : List Notes) → AreEnds old f g s o → WritesEnds old mid f g → WritesMain mid new s p o sets → WritesStatement old new (linked f p g) sets
+linked_written : (old mid new : Writer) (f g : Form) (s : Term) (p : List ℕ) (o : Term) (sets : List Notes) → AreEnds old f g s o → WritesEnds old mid f g → WritesMain mid new s p o sets → WritesStatement old new (linked f p g) sets
 linked_written old mid new f g s p o sets ends x y =
     let ts = triples (names old) f old.next ++ triples (names old) g (old.next + nodes f) in
     let at = old.next + (nodes f + nodes g) in
     subst (λ (t : Term). Writes old new (nodes f + nodes g + set_nodes sets) (ts ++ main_triple (names old) t p (term_of (names old) g (old.next + nodes f)) (set_triples (names old) (link t p (term_of (names old) g (old.next + nodes f))) sets at))) ends.first
     (subst (λ (t : Term). Writes old new (nodes f + nodes g + set_nodes sets) (ts ++ main_triple (names old) s p t (set_triples (names old) (link s p t) sets at))) ends.second (after_ends old mid new f g s p o sets x y))
 
-pub linked_back_written : (old mid new : Writer) (f g : Form) (s : Term) (p : List ℕ) (o : Term) (sets : List Notes) → AreEnds old f g o s → WritesEnds old mid f g → WritesMain mid new s p o sets → WritesStatement old new (linked_back f p g) sets
+linked_back_written : (old mid new : Writer) (f g : Form) (s : Term) (p : List ℕ) (o : Term) (sets : List Notes) → AreEnds old f g o s → WritesEnds old mid f g → WritesMain mid new s p o sets → WritesStatement old new (linked_back f p g) sets
 linked_back_written old mid new f g s p o sets ends x y =
     let ts = triples (names old) f old.next ++ triples (names old) g (old.next + nodes f) in
     let at = old.next + (nodes f + nodes g) in
@@ -143,3 +120,11 @@ looped_written old mid new f t p sets e x y =
     let at = old.next + nodes f in
     subst (λ (u : Term). Writes old new (nodes f + set_nodes sets) (ts ++ main_triple (names old) u p u (set_triples (names old) (link u p u) sets at))) e
     (followed old mid new (nodes f) (set_nodes sets) (nodes f + set_nodes sets) at ts (ts ++ main_triple (names old) t p t (set_triples (names old) (link t p t) sets at)) (λ (m : ℕ → List ℕ) (k : ℕ). main_triple m t p t (set_triples m (link t p t) sets k)) x y refl refl refl)
+
+-- the same by where the first end stands
+
+pub forth_between : (old mid new : Writer) (place : Place) (f g : Form) (s : Term) (p : List ℕ) (o : Term) (sets : List Notes) → place ≡ Subject → AreEnds old f g s o → WritesEnds old mid f g → WritesMain mid new s p o sets → WritesStatement old new (between place f p g) sets
+forth_between old mid new place f g s p o sets e ends x y = subst (λ (q : Place). WritesStatement old new (between q f p g) sets) (sym e) (linked_written old mid new f g s p o sets ends x y)
+
+pub back_between : (old mid new : Writer) (place : Place) (f g : Form) (s : Term) (p : List ℕ) (o : Term) (sets : List Notes) → place ≡ Object → AreEnds old f g o s → WritesEnds old mid f g → WritesMain mid new s p o sets → WritesStatement old new (between place f p g) sets
+back_between old mid new place f g s p o sets e ends x y = subst (λ (q : Place). WritesStatement old new (between q f p g) sets) (sym e) (linked_back_written old mid new f g s p o sets ends x y)

@@ -65,9 +65,6 @@ cell_leads old w1 w2 w3 w4 f goes_on fresh first tree rest others last h behind 
 pub record LeadsOn (trees : List Tree) (start now : Writer) (goes_on : Bool) (ids left : List ℕ) : Type 0 where
   pub on : (others : List Form) (last : Writer) → is_none others ≡ not goes_on → WritesForm now last (list_form (forms_at trees left ++ others)) → WritesForm start last (list_form (forms_at trees ids ++ others))
 
-pub leads_at_first : (trees : List Tree) (w : Writer) (goes_on : Bool) (ids : List ℕ) → LeadsOn trees w w goes_on ids ids
-leads_at_first trees w goes_on ids = record { on = λ others last h behind. behind }
-
 no_suc : (n : ℕ) → nat_eq (suc n) 0 ≡ false
 no_suc n = ne_eqb (suc n) 0 (λ e. absurd (omega (arith, e)))
 

@@ -48,9 +48,6 @@ counts_both old mid new ls ms x y = record {
 pub record CountsOn (trees : List Tree) (start now : FreshLabels) (ids left : List ℕ) : Type 0 where
   pub on : (last : FreshLabels) → Counts now last (flat_map labels_in (trees_at trees left)) → Counts start last (flat_map labels_in (trees_at trees ids))
 
-pub counts_at_first : (trees : List Tree) (w : FreshLabels) (ids : List ℕ) → CountsOn trees w w ids ids
-counts_at_first trees w ids = record { on = λ last behind. behind }
-
 pub counts_next : (trees : List Tree) (start now new : FreshLabels) (ids left : List ℕ) (id : ℕ) → Counts now new (labels_in (tree_at trees id)) → CountsOn trees start now ids (id ∷ left) → CountsOn trees start new ids left
 counts_next trees start now new ids left id one l = record { on = λ last behind. l.on last (counts_both now new last _ _ one behind) }
 

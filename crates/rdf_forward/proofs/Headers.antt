@@ -1,5 +1,5 @@
 -- The header of an ontology.
-use Rattle.std.proofs.Common.{rules, ◌≡◌, ℕ, ◌+◌, List, [], ◌∷◌, ◌++◌, Option, Some, None, refl, sym, ap, ◌∙◌, subst, arith}
+use Rattle.std.proofs.Common.{rules, ◌≡◌, ℕ, List, [], ◌∷◌, ◌++◌, Option, Some, None, refl, sym, ap, ◌∙◌, subst, arith}
 use Rattle.std.specs.Prelude.{IsSome}
 use Rattle.owl_arena.specs.Held.{Held, trees_at}
 use Rattle.owl_doc.specs.Documents.{Document, ontology_of}
@@ -14,7 +14,7 @@ use Rattle.rdf_nodes.specs.Words.{word_iri}
 use Rattle.rdf_nodes.specs.Nodes.{type_iri}
 use Rattle.rdf_forward.specs.declared.notes.Holder.{Holder}
 use Rattle.rdf_forward.specs.declared.writer.Writer.{Writer}
-use Rattle.rdf_mapping.specs.Forms.{blank, link}
+use Rattle.rdf_mapping.specs.Forms.{link}
 use Rattle.rdf_mapping.specs.Notes.{Notes, annotation_in, note_nodes, note_triples}
 use Rattle.rdf_mapping.specs.Graphs.{head_triples, header_nodes, header_term, import_triples, notes_from, version_of, version_triples}
 use Rattle.rdf_forward.specs.NoteWalks.{WritesNotes, holder_term, notes_among, notes_at}
@@ -40,9 +40,6 @@ version_is (Some i) version h = refl
 
 pub record ImportsOn (h : Holder) (start now : Writer) (iris left : List (List ℕ)) : Type 0 where
   pub on : (last : Writer) → Writes now last 0 (import_triples (holder_term (names now) h) left) → Writes start last 0 (import_triples (holder_term (names start) h) iris)
-
-pub imports_at_first : (h : Holder) (w : Writer) (iris : List (List ℕ)) → ImportsOn h w w iris iris
-imports_at_first h w iris = record { on = λ last behind. behind }
 
 pub imports_next : (h : Holder) (start now new : Writer) (iris left : List (List ℕ)) (iri : List ℕ) → Writes now new 0 (link (holder_term (names now) h) (word_iri word.Imports) (Iri iri) ∷ []) → ImportsOn h start now iris (iri ∷ left) → ImportsOn h start new iris left
 imports_next h start now new iris left iri one l = record {
@@ -89,17 +86,3 @@ named_written old new d k iri t e is zero_next term x =
     }
 
 -- an ontology without one has the first node
-pub unnamed_written : (old mid new : Writer) (d : Document) (k : kept.Head) (x : ℕ) → head_of k ≡ d.head → k.iri ≡ None → old.next ≡ 0 → x ≡ old.next → Writes old mid 1 [] → WritesBelow mid new (blank (names mid) x) (ontology_of d) → WritesHeader old new (ontology_of d)
-unnamed_written old mid new d k x e is zero_next number fresh below =
-    let name : d.head.name ≡ None = ap (λ (t : Head). t.name) (sym e) ∙ ap (λ (i : Option (List ℕ)). name_of i k.version) is in
-    let ns = notes_from (trees_at d.arena.trees d.notes) in
-    let x_is : x ≡ 0 = number ∙ zero_next in
-    let y : Writes old new (1 + note_nodes ns) (head_triples (blank (names old) x) d.head ++ note_triples (names old) (blank (names old) x) ns 1) =
-    followed old mid new 1 (note_nodes ns) (1 + note_nodes ns) 1 [] _ (λ (m : ℕ → List ℕ) (j : ℕ). head_triples (blank m x) d.head ++ note_triples m (blank m x) ns j) fresh below (omega (arith, zero_next)) refl refl in
-    record {
-      labels = y.labels;
-      counted = omega (arith, y.counted, ap header_nodes name);
-      added = y.added
-          ∙ ap (λ (n : ℕ). old.gather ++ (head_triples (blank (names old) n) d.head ++ note_triples (names old) (blank (names old) n) ns 1)) x_is
-          ∙ ap (λ (o : Option OntologyName). old.gather ++ (head_triples (header_term (names old) o) d.head ++ note_triples (names old) (header_term (names old) o) ns (header_nodes o))) (sym name);
-    }

@@ -10,3 +10,7 @@ pub mod Axioms
 pub mod Placing
 pub mod Headers
 pub mod Bare
+pub mod Grouping
+pub mod Sorting
+pub mod GroupWriting
+pub mod Whole

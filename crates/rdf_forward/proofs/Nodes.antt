@@ -1,5 +1,5 @@
 -- The form of a node, by its row.
-use Rattle.std.proofs.Common.{◌≡◌, ◌<◌, ℕ, Bool, true, false, List, [], ◌∷◌, map, Option, Some, None, option_map, length, refl, sym, ap, ◌∙◌, arith}
+use Rattle.std.proofs.Common.{◌≡◌, ◌<◌, ℕ, Bool, true, false, List, [], ◌∷◌, map, Option, Some, None, option_map, refl, sym, ap, ◌∙◌, arith}
 use Rattle.std.proofs.lemmas.Simd.{map-map}
 use Rattle.owl_arena.specs.Held.{tree_at, trees_at}
 use Rattle.owl_arena.specs.HeldLaws.{below_later}
@@ -8,16 +8,16 @@ use Rattle.owl_tree.specs.declared.tag.Tag.TheVariants as tag
 use Rattle.std.specs.Prelude.{nat_eq}
 use Rattle.owl_tree.specs.Rows.{is_tag}
 use Rattle.owl_tree.specs.Tags.{number_of}
-use Rattle.owl_tree.specs.Trees.{Tree, Kids, leaf, node, no_kids, kid, atom_in, kids_in, list_of, tag_of}
+use Rattle.owl_tree.specs.Trees.{Tree, leaf, node, atom_in, kids_in, tag_of}
 use Rattle.rdf_nodes.specs.declared.row.Part.{Part}
 use Rattle.rdf_nodes.specs.Rows.{Row, node_rows, row_seen}
 use Rattle.rdf_nodes.specs.declared.row.Row as held
 use Rattle.rdf_mapping.specs.Forms.{made, no_arcs}
-use Rattle.rdf_mapping.specs.Drawing.{Kid, arcs_of, facet_arcs, form_of, kid_of, kids_seen, node_form, placed, placed_at, placed_by, row_for, singles, tags_of}
+use Rattle.rdf_mapping.specs.Drawing.{Kid, arcs_of, facet_arcs, form_of, kid_of, node_form, placed, placed_at, placed_by, row_for, singles, tags_of}
 use Rattle.rdf_forward.specs.declared.drawn.Drawn.{Drawn}
 use Rattle.rdf_forward.specs.declared.drawn.Drawn.TheVariants as drawn
 use Rattle.rdf_mapping.specs.Arenas.{kids_at, tags_at}
-use Rattle.rdf_forward.specs.Walks.{IsDrawnBelow, Takes, TakesNone, drawn_form}
+use Rattle.rdf_forward.specs.Walks.{IsDrawnBelow, Takes, drawn_form}
 use Rattle.rdf_mapping.specs.NodeDrawingLaws.{seen_each, row_form}
 use Rattle.rdf_mapping.specs.TreeSortLaws.{facet_form}
 
@@ -44,18 +44,6 @@ pub no_row_form : (t : Tag) (ks : List Kid) → is_tag tag.FacetPair t ≡ false
 no_row_form t ks e h = rw (e, h) refl
 
 -- What stands at parts, one by one.
-
-pub no_parts : (parts : List Part) (ks : List Kid) → length parts < 1 → arcs_of (placed parts ks) ≡ no_arcs
-unfolding placed
-no_parts [] ks h = refl
-no_parts (p ∷ ps) ks h = absurd (omega (arith, h))
-
-pub none_placed : (trees : List Tree) (parts behind : List Part) (part : Part) (left : ℕ) (ids : List ℕ) → parts ≡ part ∷ behind → left ≡ singles behind → TakesNone trees part left ids → arcs_of (placed parts (kids_at trees ids)) ≡ no_arcs
-unfolding placed
-none_placed trees parts behind part left ids e l none =
-    ap (λ (ps : List Part). arcs_of (placed ps (kids_at trees ids))) e
-    ∙ ap (λ (n : ℕ). arcs_of (placed_by part.want part.place n (λ ls. placed behind ls) (kids_at trees ids))) (sym l)
-    ∙ ap arcs_of (none (λ ls. placed behind ls))
 
 pub some_placed : (trees : List Tree) (parts behind : List Part) (part : Part) (left : ℕ) (ids others : List ℕ) (d : Drawn) → parts ≡ part ∷ behind → left ≡ singles behind → Takes trees part left ids d others → placed parts (kids_at trees ids) ≡ placed_at part.place (drawn_form trees d) ∷ placed behind (kids_at trees others)
 unfolding placed

@@ -1,5 +1,5 @@
 -- What stands at parts, and what it says.
-use Rattle.std.proofs.Common.{◌≡◌, ◌≤◌, ◌<◌, ℕ, Bool, true, false, List, [], ◌∷◌, map, length, refl, sym, ap, ◌∙◌, subst, arith}
+use Rattle.std.proofs.Common.{◌≡◌, ◌≤◌, ◌<◌, ℕ, false, List, [], ◌∷◌, map, length, refl, sym, ap, ◌∙◌, subst, arith}
 use Rattle.std.proofs.lemmas.Simd.{map-map}
 use Rattle.owl_arena.specs.Held.{tree_at, trees_at}
 use Rattle.owl_tree.specs.declared.tag.Tag.{Tag}
@@ -8,17 +8,12 @@ use Rattle.rdf_graph.specs.declared.term.Term.{Term}
 use Rattle.rdf_graph.specs.declared.term.Term.TheVariants.{Iri, Blank, Literal}
 use Rattle.rdf_nodes.specs.declared.row.Part.{Part}
 use Rattle.rdf_nodes.specs.declared.row.Site.TheVariants as site
-use Rattle.rdf_nodes.specs.declared.row.Place.{Place}
-use Rattle.rdf_nodes.specs.declared.row.Place.TheVariants as place
-use Rattle.rdf_nodes.specs.declared.word.Word.{Word}
-use Rattle.rdf_nodes.specs.Words.{word_iri}
-use Rattle.rdf_nodes.specs.Nodes.{type_iri}
 use Rattle.rdf_nodes.specs.Rows.{axiom_rows}
 use Rattle.rdf_forward.specs.declared.writer.Writer.{Writer}
 use Rattle.rdf_mapping.specs.Forms.{Form, made, plain, term_of, twice}
-use Rattle.rdf_mapping.specs.Drawing.{Kid, Placed, Statement, between, by_kids, by_predicate, by_triple, is_pair, kid_of, linked, linked_back, placed, placed_by, row_for, singles, stated_by, statement_of, tags_of, unsaid}
+use Rattle.rdf_mapping.specs.Drawing.{Kid, Placed, Statement, by_kids, by_predicate, by_triple, is_pair, kid_of, placed, placed_by, row_for, singles, stated_by, statement_of, tags_of, unsaid}
 use Rattle.rdf_mapping.specs.Notes.{Notes}
-use Rattle.rdf_forward.specs.AxiomWalks.{WritesStatement, by_two, is_nothing}
+use Rattle.rdf_forward.specs.AxiomWalks.{WritesStatement}
 use Rattle.rdf_mapping.specs.Arenas.{kids_at, tags_at}
 use Rattle.rdf_forward.specs.Walks.{TakesNone}
 use Rattle.rdf_forward.proofs.Cells.{writes_nothing}
@@ -40,63 +35,24 @@ none_at trees parts behind part left ids e l none =
 pub then_is : (p : Placed) (ps qs rs : List Placed) → ps ≡ p ∷ qs → qs ≡ rs → ps ≡ p ∷ rs
 then_is p ps qs rs e f = e ∙ ap (λ (l : List Placed). p ∷ l) f
 
-pub is_empty : (ps : List Placed) (b : Bool) → b ≡ is_nothing ps → b ≡ true → ps ≡ []
-is_empty [] b e h = refl
-is_empty (p ∷ ps) b e h = cc
-
-pub as_if : (old new : Writer) (st : List Placed → Statement) (ps qs : List Placed) (sets : List Notes) → ps ≡ qs → WritesStatement old new (st qs) sets → WritesStatement old new (st ps) sets
-as_if old new st ps qs sets e x = subst (λ (l : List Placed). WritesStatement old new (st l) sets) (sym e) x
-
 pub as_unsaid : (w : Writer) (st : Statement) (sets : List Notes) → st ≡ unsaid → WritesStatement w w st sets
 as_unsaid w st sets e = subst (λ (s : Statement). WritesStatement w w s sets) (sym e) (writes_nothing w)
-
-pub two_and_more : (iri : List ℕ) (p q : Placed) (ps qs rs : List Placed) (b : Bool) → ps ≡ p ∷ qs → qs ≡ q ∷ rs → b ≡ is_nothing rs → b ≡ false → by_two iri ps ≡ unsaid
-two_and_more iri p q ps qs [] b f g e h = absurd (cc)
-two_and_more iri p q ps qs (r ∷ rs) b f g e h = ap (by_two iri) (then_is p ps qs (q ∷ r ∷ rs) f g)
-
-pub one_and_more : (w : Word) (p : Placed) (ps qs : List Placed) (b : Bool) → ps ≡ p ∷ qs → b ≡ is_nothing qs → b ≡ false → by_triple (site.TypedBy w) ps ≡ unsaid
-one_and_more w p ps [] b f e h = absurd (cc)
-one_and_more w p ps (q ∷ qs) b f e h = ap (by_triple (site.TypedBy w)) f
-
-pub three_and_more : (p q r : Placed) (ps qs rs ss : List Placed) (b : Bool) → ps ≡ p ∷ qs → qs ≡ q ∷ rs → rs ≡ r ∷ ss → b ≡ is_nothing ss → b ≡ false → by_triple site.OtherLink ps ≡ unsaid
-three_and_more p q r ps qs rs [] b f g i e h = absurd (cc)
-three_and_more p q r ps qs rs (s ∷ ss) b f g i e h = ap (by_triple site.OtherLink) (then_is p ps qs (q ∷ r ∷ s ∷ ss) f (then_is q qs rs (r ∷ s ∷ ss) g i))
 
 pub as_said : (old new : Writer) (st su : Statement) (sets : List Notes) → st ≡ su → WritesStatement old new su sets → WritesStatement old new st sets
 as_said old new st su sets e x = subst (λ (s : Statement). WritesStatement old new s sets) (sym e) x
 
-pub typed_said : (old new : Writer) (w : Word) (p : Placed) (ps qs : List Placed) (i : List ℕ) (sets : List Notes) → ps ≡ p ∷ qs → qs ≡ [] → i ≡ type_iri → WritesStatement old new (linked p.form i (plain (Iri (word_iri w)))) sets → WritesStatement old new (by_triple (site.TypedBy w) ps) sets
-typed_said old new w p ps qs i sets e f h x =
-    as_if old new (by_triple (site.TypedBy w)) ps (p ∷ []) sets (then_is p ps qs [] e f) (subst (λ (j : List ℕ). WritesStatement old new (linked p.form j (plain (Iri (word_iri w)))) sets) h x)
-
-pub not_between : (p : Place) (f g : Form) (iri : List ℕ) → p ≡ place.Predicate → between p f iri g ≡ unsaid
-not_between p f g iri e = ap (λ (q : Place). between q f iri g) e
-
-pub not_between_at : (p : Place) (w : Word) (f g : Form) (iri : List ℕ) → p ≡ place.At w → between p f iri g ≡ unsaid
-not_between_at p w f g iri e = ap (λ (q : Place). between q f iri g) e
-
-pub between_back : (old new : Writer) (p : Place) (f g : Form) (i iri : List ℕ) (sets : List Notes) → p ≡ place.Object → i ≡ iri → WritesStatement old new (linked_back f i g) sets → WritesStatement old new (between p f iri g) sets
-between_back old new p f g i iri sets e h x =
-    subst (λ (q : Place). WritesStatement old new (between q f iri g) sets) (sym e) (subst (λ (j : List ℕ). WritesStatement old new (linked_back f j g) sets) h x)
-
-pub between_forth : (old new : Writer) (p : Place) (f g : Form) (i iri : List ℕ) (sets : List Notes) → p ≡ place.Subject → i ≡ iri → WritesStatement old new (linked f i g) sets → WritesStatement old new (between p f iri g) sets
-between_forth old new p f g i iri sets e h x =
-    subst (λ (q : Place). WritesStatement old new (between q f iri g) sets) (sym e) (subst (λ (j : List ℕ). WritesStatement old new (linked f j g) sets) h x)
-
--- a form whose term is an IRI is that, and others are none
-pub predicate_told : (name : ℕ → List ℕ) (f s o : Form) (n : ℕ) (t : Term) (iri : List ℕ) → t ≡ term_of name f n → t ≡ Iri iri → by_predicate f s o ≡ linked s iri o
-predicate_told name (plain (Iri i)) s o n t iri e h = let same : i ≡ iri = cc in ap (λ (j : List ℕ). linked s j o) same
-predicate_told name (plain (Blank i)) s o n t iri e h = cc
-predicate_told name (plain (Literal i)) s o n t iri e h = cc
-predicate_told name (made arcs) s o n t iri e h = cc
-predicate_told name (twice f) s o n t iri e h = cc
-
-pub no_predicate : (name : ℕ → List ℕ) (f s o : Form) (n : ℕ) (t : Term) → ((iri : List ℕ) → t ≡ Iri iri → ⊥) → t ≡ term_of name f n → by_predicate f s o ≡ unsaid
+-- a form whose term is no IRI is no predicate
+no_predicate : (name : ℕ → List ℕ) (f s o : Form) (n : ℕ) (t : Term) → ((iri : List ℕ) → t ≡ Iri iri → ⊥) → t ≡ term_of name f n → by_predicate f s o ≡ unsaid
 no_predicate name (plain (Iri i)) s o n t not e = absurd (not i e)
 no_predicate name (plain (Blank i)) s o n t not e = refl
 no_predicate name (plain (Literal i)) s o n t not e = refl
 no_predicate name (made arcs) s o n t not e = refl
 no_predicate name (twice f) s o n t not e = refl
+
+pub not_said : (w : Writer) (name : ℕ → List ℕ) (p q r : Placed) (ps qs rs ss : List Placed) (sets : List Notes) (n : ℕ) (t : Term) → ps ≡ p ∷ qs → qs ≡ q ∷ rs → rs ≡ r ∷ ss → ss ≡ [] → ((iri : List ℕ) → t ≡ Iri iri → ⊥) → t ≡ term_of name p.form n → WritesStatement w w (by_triple site.OtherLink ps) sets
+not_said w name p q r ps qs rs ss sets n t e f g h not is =
+    as_unsaid w (by_triple site.OtherLink ps) sets
+    (ap (by_triple site.OtherLink) (then_is p ps qs (q ∷ r ∷ []) e (then_is q qs rs (r ∷ []) f (then_is r rs ss [] g h))) ∙ no_predicate name p.form q.form r.form n t not is)
 
 -- an axiom by its kids
 

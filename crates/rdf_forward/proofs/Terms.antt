@@ -1,5 +1,5 @@
 -- The terms of lists.
-use Rattle.std.proofs.Common.{◌≡◌, ℕ, List, [], ◌∷◌, ◌++◌, refl}
+use Rattle.std.proofs.Common.{◌≡◌, ℕ, List, [], ◌∷◌, refl}
 use Rattle.std.specs.Prelude.{nat_le}
 use Rattle.std.proofs.lemmas.Bool.{cond_both}
 use Rattle.owl_arena.specs.Held.{tree_at}
@@ -15,10 +15,3 @@ listed_term name least trees (i ∷ []) n =
     let f = form_of (tree_at trees i) in
     cond_both (nat_le 2 least) (twice f) (list_form (f ∷ [])) (λ (g : Form). term_of name g n ≡ blank name n) (λ _. refl) (λ _. refl)
 listed_term name least trees (i ∷ j ∷ ids) n = refl
-
-pub objects_term : (name : ℕ → List ℕ) (trees : List Tree) (i : ℕ) (os ds : List ℕ) (n : ℕ) → term_of name (list_form (forms_at trees (i ∷ os) ++ forms_at trees ds)) n ≡ list_term name (i ∷ os) n
-objects_term name trees i os ds n = refl
-
-pub others_term : (name : ℕ → List ℕ) (trees : List Tree) (ds : List ℕ) (n : ℕ) → term_of name (list_form (forms_at trees ds)) n ≡ list_term name ds n
-others_term name trees [] n = refl
-others_term name trees (i ∷ ds) n = refl

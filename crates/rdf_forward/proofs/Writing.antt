@@ -1,5 +1,5 @@
 -- What is written one behind the other.
-use Rattle.std.proofs.Common.{◌≡◌, ◌≤◌, ◌<◌, ℕ, suc, ◌+◌, Bool, true, false, List, [], ◌∷◌, ◌++◌, length, Some, refl, sym, ap, ◌∙◌, subst, arith}
+use Rattle.std.proofs.Common.{◌≡◌, ◌<◌, ℕ, suc, ◌+◌, Bool, true, false, List, [], ◌∷◌, ◌++◌, length, Some, refl, sym, ap, ◌∙◌, subst, arith}
 use Rattle.std.specs.Prelude.{◌||◌, not, nat_eq, nat_le}
 use Rattle.std.proofs.lemmas.Bool.{ne_eqb}
 use Rattle.std.proofs.lemmas.List.{append-nil, append_assoc}
@@ -124,14 +124,10 @@ listed_one trees least id ids e h =
     let one : listed least (forms_at trees (id ∷ [])) ≡ list_form (forms_at trees (id ∷ [])) = rw h refl in
     subst (λ (is : List ℕ). listed least (forms_at trees is) ≡ list_form (forms_at trees is)) (sym e) one
 
-pub listed_none : (trees : List Tree) (least : ℕ) (ids : List ℕ) → length ids < 1 → listed least (forms_at trees ids) ≡ list_form (forms_at trees ids)
-listed_none trees least [] h = refl
-listed_none trees least (i ∷ ids) h = absurd (omega (arith, h))
-
-pub listed_more : (trees : List Tree) (least : ℕ) (ids : List ℕ) → 2 ≤ length ids → listed least (forms_at trees ids) ≡ list_form (forms_at trees ids)
-listed_more trees least [] h = refl
-listed_more trees least (i ∷ []) h = absurd (omega (arith, h))
-listed_more trees least (i ∷ j ∷ ids) h = refl
+pub listed_other : (trees : List Tree) (least : ℕ) (ids : List ℕ) → (length ids ≡ 1 → ⊥) → listed least (forms_at trees ids) ≡ list_form (forms_at trees ids)
+listed_other trees least [] h = refl
+listed_other trees least (i ∷ []) h = absurd (h refl)
+listed_other trees least (i ∷ j ∷ ids) h = refl
 
 -- whether a list goes on behind a cell
 pub goes_anyway : (x g b : Bool) → g ≡ true → x ≡ g → x ≡ (g || b)

@@ -1,5 +1,5 @@
 -- Axioms by their numbers in an arena.
-use Rattle.std.specs.Prelude.{◌≡◌, ℕ, ◌+◌, Bool, true, false, List, [], ◌∷◌, ◌++◌, map}
+use Rattle.std.specs.Prelude.{◌≡◌, ℕ, ◌+◌, List, [], ◌∷◌, ◌++◌, map}
 use Rattle.owl_arena.specs.Held.{tree_at}
 use Rattle.owl_tree.specs.Trees.{Tree}
 use Rattle.rdf_graph.specs.declared.term.Term.{Term}
@@ -12,7 +12,8 @@ use Rattle.rdf_forward.specs.declared.writer.Writer.{Writer}
 use Rattle.rdf_mapping.specs.Forms.{Form, link, nodes, term_of, triples}
 use Rattle.rdf_mapping.specs.Drawing.{Placed, Statement, between, unsaid}
 use Rattle.rdf_mapping.specs.Notes.{Notes}
-use Rattle.rdf_mapping.specs.Graphs.{axiom_notes, main_triple, set_nodes, set_triples, statement_nodes, statement_triples}
+use Rattle.rdf_mapping.specs.Graphs.{Group, axiom_notes, group_triples, main_triple, set_nodes, set_triples, statement_nodes, statement_triples}
+use Rattle.rdf_mapping.specs.GroupFrames.{group_nodes}
 use Rattle.rdf_forward.specs.Walks.{Writes, names}
 
 -- the annotations of each of these axioms
@@ -41,10 +42,9 @@ pub record AreEnds (w : Writer) (f g : Form) (s o : Term) : Type 0 where
 abbrev pub WritesStatement : Writer → Writer → Statement → List Notes → Type 0
 WritesStatement old new st sets = Writes old new (statement_nodes st sets) (statement_triples (names old) st sets old.next)
 
--- nothing stands there
-abbrev pub is_nothing : List Placed → Bool
-is_nothing [] = true
-is_nothing (p ∷ ps) = false
+-- groups of axioms, one behind the other
+abbrev pub WritesGroups : Writer → Writer → List Group → Type 0
+WritesGroups old new gs = Writes old new (group_nodes gs) (group_triples (names old) gs old.next)
 
 abbrev pub predicate_iri : Predicate → List ℕ
 predicate_iri predicate.Type = type_iri

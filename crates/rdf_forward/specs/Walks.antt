@@ -1,9 +1,8 @@
 -- What the walk over the arena adds to the triples.
-use Rattle.std.specs.Prelude.{◌≡◌, ◌<◌, ℕ, ◌+◌, Bool, true, false, not, max, List, [], ◌∷◌, ◌++◌, map}
+use Rattle.std.specs.Prelude.{◌≡◌, ◌<◌, ℕ, ◌+◌, Bool, true, false, not, max, length, List, [], ◌∷◌, ◌++◌}
 use Rattle.std.specs.List.{AllByRecursion}
 use Rattle.owl_arena.specs.Held.{tree_at}
-use Rattle.owl_tree.specs.declared.tag.Tag.{Tag}
-use Rattle.owl_tree.specs.Trees.{Tree, tag_of}
+use Rattle.owl_tree.specs.Trees.{Tree}
 use Rattle.rdf_graph.specs.declared.term.Term.{Term}
 use Rattle.rdf_graph.specs.declared.term.Term.TheVariants.{Iri, Blank, Literal}
 use Rattle.rdf_graph.specs.declared.triple.Triple.{Triple}
@@ -14,11 +13,12 @@ use Rattle.rdf_nodes.specs.declared.row.Part.{Part}
 use Rattle.rdf_mapping.specs.Arenas.{forms_at, kids_at}
 use Rattle.rdf_forward.specs.declared.drawn.Drawn.{Drawn}
 use Rattle.rdf_forward.specs.declared.drawn.Drawn.TheVariants as drawn
+use Rattle.rdf_forward.specs.declared.drawn.Next.{Next}
 use Rattle.rdf_forward.specs.declared.labels.FreshLabels.{FreshLabels}
 use Rattle.rdf_forward.specs.declared.writer.Writer.{Writer}
 use Rattle.rdf_mapping.specs.FreshLabels.{far_ones, greatest_number, numbered_label}
 use Rattle.rdf_mapping.specs.Forms.{Form, Arcs, plain, arc_nodes, arc_triples, first_iri, link, list_form, nodes, rest_iri, triples}
-use Rattle.rdf_mapping.specs.Drawing.{Kid, form_of, kid_of, listed, placed_at, placed_by, Placed}
+use Rattle.rdf_mapping.specs.Drawing.{Kid, Placed, form_of, listed, placed, placed_at, placed_by}
 
 abbrev pub drawn_form : List Tree → Drawn → Form
 drawn_form trees (drawn.Kid id) = form_of (tree_at trees id)
@@ -44,8 +44,19 @@ pub record Takes (trees : List Tree) (part : Part) (left : ℕ) (ids : List ℕ)
 abbrev pub TakesNone : List Tree → Part → ℕ → List ℕ → Type 0
 TakesNone trees part left ids = (behind : List Kid → List Placed) → placed_by part.want part.place left behind (kids_at trees ids) ≡ []
 
+-- What stands at the first part, and what the parts behind it get.
+pub record IsNext (trees : List Tree) (above : ℕ) (parts : List Part) (ids : List ℕ) (next : Next) : Type 0 where
+  pub placed : placed parts (kids_at trees ids) ≡ placed_at next.place (drawn_form trees next.drawn) ∷ placed next.parts.now (kids_at trees next.kids.now)
+  pub drawn : IsDrawnBelow above next.drawn
+  pub below : AllByRecursion (λ id. id < above) next.kids.now
+  pub fewer : length next.parts.now < length parts
+
 abbrev pub names : Writer → ℕ → List ℕ
 names w n = numbered_label w.labels.greatest w.labels.taken.items n
+
+-- the blank node of a number
+abbrev pub node_term : Writer → ℕ → Term
+node_term w n = Blank (names w n)
 
 -- a list of trees begins at its first cell, or is rdf:nil
 abbrev pub list_term : (ℕ → List ℕ) → List ℕ → ℕ → Term
@@ -68,6 +79,10 @@ pub record Writes (old new : Writer) (count : ℕ) (ts : List Triple) : Type 0 w
   pub labels : new.labels ≡ old.labels
   pub counted : new.next ≡ old.next + count
   pub added : new.gather ≡ old.gather ++ ts
+
+-- one triple more
+abbrev pub WritesLink : Writer → Writer → Term → List ℕ → Term → Type 0
+WritesLink old new s p o = Writes old new 0 (link s p o ∷ [])
 
 abbrev pub WritesForm : Writer → Writer → Form → Type 0
 WritesForm old new f = Writes old new (nodes f) (triples (names old) f old.next)

@@ -3,11 +3,12 @@
 ghost use Rattle.std.specs.Prelude.{◌≡◌, ◌<◌, [], IfOk, OnOk, length};
 ghost use Rattle.std.specs.List.{AllByRecursion};
 ghost use Rattle.owl_arena.specs.Held.{AreHeld, tree_at};
-ghost use Rattle.rdf_mapping.specs.Forms as forms;
-ghost use Rattle.rdf_mapping.specs.Drawing as drawing;
+ghost use Rattle.rdf_mapping.specs.Forms.{link};
+ghost use Rattle.rdf_mapping.specs.Drawing.{arcs_of, between, form_of, looped, placed, standing};
 ghost use Rattle.rdf_mapping.specs.Graphs.{axiom_notes, main_triple};
 ghost use Rattle.rdf_forward.specs.NoteWalks.{notes_at};
-ghost use Rattle.rdf_forward.specs.AxiomWalks.{AreEnds, WritesEnds, WritesMain, WritesSets, WritesStatement, sets_at};
+ghost use Rattle.rdf_forward.specs.AxiomWalks.{AreEnds, WritesEnds, WritesMain, WritesSets};
+ghost use Rattle.rdf_forward.specs.AxiomWalks.{WritesStatement, sets_at};
 ghost use Rattle.rdf_mapping.specs.Arenas.{kids_at};
 ghost use Rattle.rdf_forward.specs.Walks.{IsDrawnBelow, Writes, drawn_form, names};
 
@@ -17,7 +18,7 @@ use crate::writer::Writer;
 use owl_arena::{Arena, ExprId};
 use owl_characters::NoMemory;
 use rdf_graph::Term;
-use rdf_nodes::Part;
+use rdf_nodes::{Part, Place};
 use rdf_terms::Iri;
 
 /// The annotations of an axiom.
@@ -44,7 +45,7 @@ impl Writer {
     ) -> Result<(), NoMemory>
         requires { AreHeld arena.now.trees axioms.now }
         ensures { OnOk result (WritesSets self.old self.new
-            (forms.link subject.now predicate.now object.now) (sets_at arena.now.trees axioms.now)) }
+            (link subject.now predicate.now object.now) (sets_at arena.now.trees axioms.now)) }
     {
         let mut left = axioms;
         while let [id, others @ ..] = left {
@@ -98,8 +99,8 @@ impl Writer {
         requires second { IsDrawnBelow above second.now }
         ensures terms { IfOk result (λ ends. AreEnds self.old (drawn_form arena.now.trees first.now)
             (drawn_form arena.now.trees second.now) ends.0 ends.1) }
-        ensures writes { OnOk result (WritesEnds self.old self.new (drawn_form arena.now.trees first.now)
-            (drawn_form arena.now.trees second.now)) }
+        ensures writes { OnOk result (WritesEnds self.old self.new
+            (drawn_form arena.now.trees first.now) (drawn_form arena.now.trees second.now)) }
     {
         let subject = self.drawn_term(arena, first)?;
         self.write_drawn(arena, first, above)?;
@@ -108,10 +109,12 @@ impl Writer {
         Ok((subject, object))
     }
 
-    /// Adds the triple from the first to the second, for these axioms.
+    /// Adds the triple between the two for these axioms. The first is its subject or
+    /// its object; what stands elsewhere is in no triple.
     pub fn write_linked(
         &mut self,
         arena: &Arena,
+        place: Place,
         first: &Drawn,
         predicate: &Iri,
         second: &Drawn,
@@ -122,33 +125,21 @@ impl Writer {
         requires axioms { AreHeld arena.now.trees axioms.now }
         requires first { IsDrawnBelow above first.now }
         requires second { IsDrawnBelow above second.now }
-        ensures { OnOk result (WritesStatement self.old self.new (drawing.linked (drawn_form arena.now.trees first.now)
-            predicate.now (drawn_form arena.now.trees second.now)) (sets_at arena.now.trees axioms.now)) }
+        ensures { OnOk result (WritesStatement self.old self.new
+            (between place (drawn_form arena.now.trees first.now) predicate.now
+            (drawn_form arena.now.trees second.now)) (sets_at arena.now.trees axioms.now)) }
     {
-        let (subject, object) = self.write_ends(arena, first, second, above)?;
-        self.write_main(arena, &subject, predicate, &object, axioms)
-    }
-
-    /// Adds the triple from the second to the first, for these axioms.
-    pub fn write_linked_back(
-        &mut self,
-        arena: &Arena,
-        first: &Drawn,
-        predicate: &Iri,
-        second: &Drawn,
-        above: ExprId,
-        axioms: &[ExprId],
-    ) -> Result<(), NoMemory>
-        requires held { above < length arena.now.trees }
-        requires axioms { AreHeld arena.now.trees axioms.now }
-        requires first { IsDrawnBelow above first.now }
-        requires second { IsDrawnBelow above second.now }
-        ensures { OnOk result (WritesStatement self.old self.new (drawing.linked_back
-            (drawn_form arena.now.trees first.now) predicate.now (drawn_form arena.now.trees second.now))
-            (sets_at arena.now.trees axioms.now)) }
-    {
-        let (object, subject) = self.write_ends(arena, first, second, above)?;
-        self.write_main(arena, &subject, predicate, &object, axioms)
+        match place {
+            Place::Subject => {
+                let (subject, object) = self.write_ends(arena, first, second, above)?;
+                self.write_main(arena, &subject, predicate, &object, axioms)
+            }
+            Place::Object => {
+                let (object, subject) = self.write_ends(arena, first, second, above)?;
+                self.write_main(arena, &subject, predicate, &object, axioms)
+            }
+            Place::Predicate | Place::At(_) => Ok(()),
+        }
     }
 
     /// Adds the triple from an expression to itself, for these axioms.
@@ -161,8 +152,8 @@ impl Writer {
     ) -> Result<(), NoMemory>
         requires held { id < length arena.now.trees }
         requires axioms { AreHeld arena.now.trees axioms.now }
-        ensures { OnOk result (WritesStatement self.old self.new (drawing.looped predicate.now
-            (drawing.form_of (tree_at arena.now.trees id))) (sets_at arena.now.trees axioms.now)) }
+        ensures { OnOk result (WritesStatement self.old self.new (looped predicate.now
+            (form_of (tree_at arena.now.trees id))) (sets_at arena.now.trees axioms.now)) }
     {
         let end = self.tree_term(arena, id, self.next)?;
         self.write_tree(arena, id)?;
@@ -182,7 +173,7 @@ impl Writer {
         requires below { AllByRecursion (λ kid. kid < above) kids.now }
         requires axioms { AreHeld arena.now.trees axioms.now }
         ensures { OnOk result (WritesStatement self.old self.new
-            (drawing.standing (drawing.arcs_of (drawing.placed parts.now (kids_at arena.now.trees kids.now))))
+            (standing (arcs_of (placed parts.now (kids_at arena.now.trees kids.now))))
             (sets_at arena.now.trees axioms.now)) }
     {
         let mut left = axioms;

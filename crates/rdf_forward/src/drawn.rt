@@ -1,10 +1,13 @@
 //! What stands at a part of a row.
 
-ghost use Rattle.std.specs.Prelude.{◌≡◌, ◌<◌, IfSome, IsNone, length};
+ghost use Rattle.std.specs.Prelude.{◌≡◌, ◌<◌, [], IfSome, IsNone, length};
 ghost use Rattle.std.specs.List.{AllByRecursion};
-ghost use Rattle.rdf_forward.specs.Walks.{IsDrawnBelow, Takes, TakesNone};
+ghost use Rattle.rdf_mapping.specs.Arenas.{kids_at};
+ghost use Rattle.rdf_mapping.specs.Drawing.{placed};
+ghost use Rattle.rdf_forward.specs.Walks.{IsDrawnBelow, IsNext, Takes, TakesNone};
 
 use owl_arena::{Arena, ExprId};
+use rdf_mapping::singles;
 use rdf_nodes::{Part, Place, Want, Word};
 
 /// What stands at a part of a row.
@@ -22,9 +25,45 @@ pub enum Drawn<'a> {
     True,
 }
 
+/// What stands at the first of some parts, and the parts and the kids behind it.
+#[derive(Clone, Copy)]
+pub struct Next<'a> {
+    pub place: Place,
+    pub drawn: Drawn<'a>,
+    pub parts: &'a [Part],
+    pub kids: &'a [ExprId],
+}
+
+/// What stands at the first of the parts. `None` where there is no part, or the kids
+/// are too few.
+pub fn next_part<'a>(
+    arena: &'a Arena,
+    parts: &'a [Part],
+    kids: &'a [ExprId],
+    above: ExprId,
+) -> Option<Next<'a>>
+    requires held { above < length arena.now.trees }
+    requires below { AllByRecursion (λ kid. kid < above) kids.now }
+    ensures some { IfSome result (λ next. IsNext arena.now.trees above parts.now kids.now next) }
+    ensures none { IsNone result → placed parts.now (kids_at arena.now.trees kids.now) ≡ [] }
+{
+    let [part, behind @ ..] = parts else {
+        return None;
+    };
+    let Some((drawn, others)) = take_part(arena, *part, singles(behind), kids, above) else {
+        return None;
+    };
+    Some(Next {
+        place: part.place,
+        drawn,
+        parts: behind,
+        kids: others,
+    })
+}
+
 /// What stands at the part, and the kids behind it, of which the parts behind it
 /// take so many at least. `None` where the kids are too few.
-pub fn take_part<'a>(
+fn take_part<'a>(
     arena: &'a Arena,
     part: Part,
     left: usize,
@@ -33,7 +72,8 @@ pub fn take_part<'a>(
 ) -> Option<(Drawn<'a>, &'a [ExprId])>
     requires held { above < length arena.now.trees }
     requires below { AllByRecursion (λ kid. kid < above) kids.now }
-    ensures some { IfSome result (λ taken. Takes arena.now.trees part left kids.now taken.0 taken.1.now) }
+    ensures some { IfSome result (λ taken.
+        Takes arena.now.trees part left kids.now taken.0 taken.1.now) }
     ensures none { IsNone result → TakesNone arena.now.trees part left kids.now }
     ensures drawn { IfSome result (λ taken. IsDrawnBelow above taken.0) }
     ensures others { IfSome result (λ taken. AllByRecursion (λ kid. kid < above) taken.1.now) }

@@ -4,17 +4,19 @@ ghost use Rattle.std.specs.Prelude.{◌≡◌, ◌<◌, ◌∷◌, [], None, OnO
 ghost use Rattle.std.specs.List.{AllByRecursion};
 ghost use Rattle.owl_arena.specs.Held.{tree_at};
 ghost use Rattle.owl_tree.specs.Trees.{atom_in};
-ghost use Rattle.rdf_mapping.specs.Forms as forms;
-ghost use Rattle.rdf_mapping.specs.Drawing.{arcs_of, facet_arcs, form_of, listed, placed, placed_at};
+ghost use Rattle.rdf_mapping.specs.Forms.{twice};
+ghost use Rattle.rdf_mapping.specs.Drawing.{arcs_of, facet_arcs, form_of, listed};
+ghost use Rattle.rdf_mapping.specs.Drawing.{placed, placed_at};
 ghost use Rattle.rdf_mapping.specs.Arenas.{forms_at, kids_at};
-ghost use Rattle.rdf_forward.specs.Walks.{IsDrawnBelow, Leads, WritesArcs, WritesForm, drawn_form, names};
+ghost use Rattle.rdf_forward.specs.Walks.{IsDrawnBelow, Leads, WritesArcs, WritesForm};
+ghost use Rattle.rdf_forward.specs.Walks.{drawn_form, node_term};
 
-use crate::drawn::{Drawn, take_part};
-use rdf_mapping::{row_for, singles};
+use crate::drawn::{Drawn, next_part};
 use crate::writer::Writer;
 use owl_arena::{Arena, ExprId};
 use owl_characters::NoMemory;
 use owl_tree::{Atom, Tag};
+use rdf_mapping::row_for;
 use rdf_nodes::{Part, Place, node_rows};
 
 impl Writer {
@@ -22,7 +24,8 @@ impl Writer {
     #[cycle(expression)]
     pub fn write_tree(&mut self, arena: &Arena, id: ExprId) -> Result<(), NoMemory>
         requires { id < length arena.now.trees }
-        ensures { OnOk result (WritesForm self.old self.new (form_of (tree_at arena.now.trees id))) }
+        ensures { OnOk result (WritesForm self.old self.new
+            (form_of (tree_at arena.now.trees id))) }
     {
         match arena.atom(id) {
             Some(_) => Ok(()),
@@ -35,7 +38,8 @@ impl Writer {
     fn write_node(&mut self, arena: &Arena, id: ExprId) -> Result<(), NoMemory>
         requires held { id < length arena.now.trees }
         requires node { atom_in (tree_at arena.now.trees id) ≡ None }
-        ensures { OnOk result (WritesForm self.old self.new (form_of (tree_at arena.now.trees id))) }
+        ensures { OnOk result (WritesForm self.old self.new
+            (form_of (tree_at arena.now.trees id))) }
     {
         let node = self.fresh()?;
         let tag = arena.tag(id);
@@ -60,7 +64,7 @@ impl Writer {
     ) -> Result<(), NoMemory>
         requires held { above < length arena.now.trees }
         requires below { AllByRecursion (λ kid. kid < above) kids.now }
-        ensures { OnOk result (WritesArcs self.old self.new (forms.blank (names self.old) node)
+        ensures { OnOk result (WritesArcs self.old self.new (node_term self.old node)
             (facet_arcs (kids_at arena.now.trees kids.now))) }
     {
         let [facet, value] = kids else {
@@ -79,23 +83,20 @@ impl Writer {
         &mut self,
         arena: &'a Arena,
         node: u64,
-        parts: &[Part],
+        parts: &'a [Part],
         kids: &'a [ExprId],
         above: ExprId,
     ) -> Result<(), NoMemory>
         requires held { above < length arena.now.trees }
         requires below { AllByRecursion (λ kid. kid < above) kids.now }
-        ensures { OnOk result (WritesArcs self.old self.new (forms.blank (names self.old) node)
+        ensures { OnOk result (WritesArcs self.old self.new (node_term self.old node)
             (arcs_of (placed parts.now (kids_at arena.now.trees kids.now)))) }
     {
-        let [part, behind @ ..] = parts else {
+        let Some(next) = next_part(arena, parts, kids, above) else {
             return Ok(());
         };
-        let Some((drawn, others)) = take_part(arena, *part, singles(behind), kids, above) else {
-            return Ok(());
-        };
-        self.write_part(arena, node, part.place, &drawn, above)?;
-        self.write_arcs(arena, node, behind, others, above)
+        self.write_part(arena, node, next.place, &next.drawn, above)?;
+        self.write_arcs(arena, node, next.parts, next.kids, above)
     }
 
     /// Adds the triples of one part of a node.
@@ -110,7 +111,7 @@ impl Writer {
     ) -> Result<(), NoMemory>
         requires held { above < length arena.now.trees }
         requires below { IsDrawnBelow above drawn.now }
-        ensures { OnOk result (WritesArcs self.old self.new (forms.blank (names self.old) node)
+        ensures { OnOk result (WritesArcs self.old self.new (node_term self.old node)
             (arcs_of (placed_at place (drawn_form arena.now.trees drawn.now) ∷ []))) }
     {
         let Place::At(word) = place else {
@@ -130,7 +131,8 @@ impl Writer {
     ) -> Result<(), NoMemory>
         requires held { above < length arena.now.trees }
         requires below { IsDrawnBelow above drawn.now }
-        ensures { OnOk result (WritesForm self.old self.new (drawn_form arena.now.trees drawn.now)) }
+        ensures { OnOk result (WritesForm self.old self.new
+            (drawn_form arena.now.trees drawn.now)) }
     {
         match drawn {
             Drawn::Kid(id) => self.write_tree(arena, *id),
@@ -155,7 +157,8 @@ impl Writer {
     ) -> Result<(), NoMemory>
         requires held { above < length arena.now.trees }
         requires below { AllByRecursion (λ id. id < above) ids.now }
-        ensures { OnOk result (WritesForm self.old self.new (listed least (forms_at arena.now.trees ids.now))) }
+        ensures { OnOk result (WritesForm self.old self.new
+            (listed least (forms_at arena.now.trees ids.now))) }
     {
         match ids {
             [id] => {
@@ -173,7 +176,8 @@ impl Writer {
     fn write_twice(&mut self, arena: &Arena, id: ExprId, above: ExprId) -> Result<(), NoMemory>
         requires held { above < length arena.now.trees }
         requires below { id < above }
-        ensures { OnOk result (WritesForm self.old self.new (forms.twice (form_of (tree_at arena.now.trees id)))) }
+        ensures { OnOk result (WritesForm self.old self.new
+            (twice (form_of (tree_at arena.now.trees id)))) }
     {
         let cell = self.fresh()?;
         let element = self.next;
@@ -214,7 +218,8 @@ impl Writer {
     ) -> Result<(), NoMemory>
         requires held { above < length arena.now.trees }
         requires below { id < above }
-        ensures { OnOk result (Leads self.old self.new goes_on (forms_at arena.now.trees (id ∷ []))) }
+        ensures { OnOk result (Leads self.old self.new goes_on
+            (forms_at arena.now.trees (id ∷ []))) }
     {
         let cell = self.fresh()?;
         let element = self.next;

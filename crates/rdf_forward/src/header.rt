@@ -4,20 +4,19 @@ ghost use Rattle.std.specs.Prelude.{◌≡◌, ◌∷◌, ◌++◌, [], OnOk};
 ghost use Rattle.owl_doc.specs.Documents.{ontology_of};
 ghost use Rattle.rdf_graph.specs.declared.term.Term.TheVariants as held;
 ghost use Rattle.rdf_nodes.specs.declared.word.Word.TheVariants as word_of;
-ghost use Rattle.rdf_nodes.specs.Nodes as nodes;
-ghost use Rattle.rdf_nodes.specs.Words as words;
-ghost use Rattle.rdf_mapping.specs.Forms as forms;
+ghost use Rattle.rdf_nodes.specs.Nodes.{type_iri};
+ghost use Rattle.rdf_nodes.specs.Words.{word_iri};
 ghost use Rattle.rdf_mapping.specs.Graphs.{import_triples, version_triples};
 ghost use Rattle.rdf_forward.specs.NoteWalks.{holder_term};
 ghost use Rattle.rdf_forward.specs.HeaderWalks.{WritesBelow, WritesHeader};
-ghost use Rattle.rdf_forward.specs.Walks.{Writes, names};
+ghost use Rattle.rdf_forward.specs.Walks.{Writes, WritesLink, names};
 
 use crate::notes::Holder;
-use rdf_mapping::{type_iri, word_iri};
 use crate::writer::Writer;
 use owl_characters::NoMemory;
 use owl_doc::Doc;
 use rdf_graph::Term;
+use rdf_mapping::{type_iri, word_iri};
 use rdf_nodes::Word;
 use rdf_terms::Iri;
 
@@ -49,8 +48,9 @@ impl Writer {
 
     /// Adds the triple that the holder is an ontology.
     fn link_ontology(&mut self, holder: &Holder) -> Result<(), NoMemory>
-        ensures { OnOk result (Writes self.old self.new 0 (forms.link (holder_term (names self.old) holder.now)
-            nodes.type_iri (held.Iri (words.word_iri word_of.Ontology)) ∷ [])) }
+        ensures { OnOk result (WritesLink self.old self.new
+            (holder_term (names self.old) holder.now) type_iri
+            (held.Iri (word_iri word_of.Ontology))) }
     {
         let subject = self.holder_term(holder)?;
         let class = Term::Iri(word_iri(self.alloc, Word::Ontology)?);
@@ -60,8 +60,8 @@ impl Writer {
 
     /// Adds the triple of a word that leads from the holder to the IRI.
     fn link_iri(&mut self, holder: &Holder, word: Word, iri: &Iri) -> Result<(), NoMemory>
-        ensures { OnOk result (Writes self.old self.new 0 (forms.link (holder_term (names self.old) holder.now)
-            (words.word_iri word) (held.Iri iri.now) ∷ [])) }
+        ensures { OnOk result (WritesLink self.old self.new
+            (holder_term (names self.old) holder.now) (word_iri word) (held.Iri iri.now)) }
     {
         let subject = self.holder_term(holder)?;
         let object = Term::Iri(iri.copy(self.alloc)?);

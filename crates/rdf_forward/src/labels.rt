@@ -4,7 +4,8 @@ ghost use Rattle.std.specs.Prelude.{◌≡◌, ◌<◌, ◌+◌, ◌∷◌, [], 
 ghost use Rattle.std.specs.List.{flat_map};
 ghost use Rattle.owl_arena.specs.Held.{AreHeld, tree_at, trees_at};
 ghost use Rattle.owl_doc.specs.Documents.{ontology_of};
-ghost use Rattle.rdf_mapping.specs.FreshLabels.{far_numbers, greatest_number, numbered_label, passing};
+ghost use Rattle.rdf_mapping.specs.FreshLabels.{far_numbers, greatest_number};
+ghost use Rattle.rdf_mapping.specs.FreshLabels.{numbered_label, passing};
 ghost use Rattle.rdf_mapping.specs.Graphs.{labels_in, labels_of};
 ghost use Rattle.rdf_forward.specs.Walks.{Counts};
 

@@ -1,13 +1,19 @@
-//! An ontology as an RDF graph (Mapping to RDF Graphs, section 2).
+//! An ontology as an RDF graph (Mapping to RDF Graphs, section 2): whether a graph can say it, its
+//! normal form, and the graph.
 #![tactic(auto)]
 
 mod axiom;
 mod drawn;
 mod expression;
 mod far;
+mod graph;
 mod groups;
 mod header;
 mod labels;
 mod notes;
 mod statement;
 mod writer;
+
+pub use graph::forward;
+pub use rdf_normal::{NormFault, normal};
+pub use rdf_sayable::can;

@@ -5,20 +5,22 @@ ghost use Rattle.owl_arena.specs.Held.{AreHeld, tree_at};
 ghost use Rattle.rdf_graph.specs.Terms.{IsSubject};
 ghost use Rattle.rdf_graph.specs.declared.term.Term.TheVariants as held;
 ghost use Rattle.rdf_nodes.specs.declared.word.Word.TheVariants as word_of;
-ghost use Rattle.rdf_nodes.specs.Nodes as nodes;
-ghost use Rattle.rdf_nodes.specs.Words as words;
-ghost use Rattle.rdf_mapping.specs.Forms as forms;
+ghost use Rattle.rdf_nodes.specs.Nodes.{type_iri};
+ghost use Rattle.rdf_nodes.specs.Words.{word_iri};
+ghost use Rattle.rdf_mapping.specs.Forms.{link};
 ghost use Rattle.rdf_mapping.specs.Drawing.{atom_term};
-ghost use Rattle.rdf_mapping.specs.Notes.{annotation_in, no_notes, reified, reified_nodes, reifying};
-ghost use Rattle.rdf_forward.specs.NoteWalks.{IsNoNote, IsNote, WritesNotes, are_some, holder_term, notes_at};
-ghost use Rattle.rdf_forward.specs.Walks.{Writes, names};
+ghost use Rattle.rdf_mapping.specs.Notes.{annotation_in, no_notes, reified, reified_nodes};
+ghost use Rattle.rdf_mapping.specs.Notes.{reifying};
+ghost use Rattle.rdf_forward.specs.NoteWalks.{IsNoNote, IsNote, WritesNotes, are_some};
+ghost use Rattle.rdf_forward.specs.NoteWalks.{holder_term, notes_at};
+ghost use Rattle.rdf_forward.specs.Walks.{Writes, WritesLink, names, node_term};
 
-use rdf_mapping::{type_iri, word_iri};
 use crate::writer::Writer;
 use owl_arena::{Arena, ExprId};
 use owl_characters::NoMemory;
 use owl_tree::Atom;
 use rdf_graph::Term;
+use rdf_mapping::{type_iri, word_iri};
 use rdf_nodes::Word;
 use rdf_terms::Iri;
 
@@ -42,7 +44,8 @@ pub struct Annotation<'a> {
 /// The annotation that a tree is.
 fn annotation_of(arena: &Arena, id: ExprId) -> Option<Annotation>
     requires { id < length arena.now.trees }
-    ensures some { IfSome result (λ note. IsNote arena.now.trees (tree_at arena.now.trees id) note) }
+    ensures some { IfSome result (λ note.
+        IsNote arena.now.trees (tree_at arena.now.trees id) note) }
     ensures none { IsNone result → IsNoNote (tree_at arena.now.trees id) }
     ensures below { IfSome result (λ note. note.notes < id) }
 {
@@ -84,8 +87,8 @@ impl Writer {
 
     /// Adds the triple of a word of the node.
     fn link_word(&mut self, node: u64, word: Word, object: &Term) -> Result<(), NoMemory>
-        ensures { OnOk result (Writes self.old self.new 0
-            (forms.link (forms.blank (names self.old) node) (words.word_iri word) object.now ∷ [])) }
+        ensures { OnOk result (WritesLink self.old self.new (node_term self.old node)
+            (word_iri word) object.now) }
     {
         let object = object.copy(self.alloc)?;
         let predicate = word_iri(self.alloc, word)?;
@@ -94,8 +97,8 @@ impl Writer {
 
     /// Adds the triple that the node is of a class of OWL.
     fn link_type(&mut self, node: u64, word: Word) -> Result<(), NoMemory>
-        ensures { OnOk result (Writes self.old self.new 0 (forms.link (forms.blank (names self.old) node)
-            nodes.type_iri (held.Iri (words.word_iri word)) ∷ [])) }
+        ensures { OnOk result (WritesLink self.old self.new (node_term self.old node)
+            type_iri (held.Iri (word_iri word))) }
     {
         let class = Term::Iri(word_iri(self.alloc, word)?);
         let predicate = type_iri(self.alloc)?;
@@ -112,7 +115,7 @@ impl Writer {
     ) -> Result<u64, NoMemory>
         ensures number { IfOk result (λ number. number ≡ self.old.next) }
         ensures writes { OnOk result (Writes self.old self.new 1 (reifying word
-            (forms.blank (names self.old) self.old.next) (forms.link subject.now predicate.now object.now))) }
+            (node_term self.old self.old.next) (link subject.now predicate.now object.now))) }
     {
         let node = self.fresh()?;
         self.link_type(node, word)?;
@@ -124,8 +127,8 @@ impl Writer {
 
     /// Adds the triple that says the predicate of a triple that a node reifies.
     fn link_property(&mut self, node: u64, predicate: &Iri) -> Result<(), NoMemory>
-        ensures { OnOk result (Writes self.old self.new 0 (forms.link (forms.blank (names self.old) node)
-            (words.word_iri word_of.AnnotatedProperty) (held.Iri predicate.now) ∷ [])) }
+        ensures { OnOk result (WritesLink self.old self.new (node_term self.old node)
+            (word_iri word_of.AnnotatedProperty) (held.Iri predicate.now)) }
     {
         let property = Term::Iri(predicate.copy(self.alloc)?);
         self.link_word(node, Word::AnnotatedProperty, &property)
@@ -133,8 +136,9 @@ impl Writer {
 
     /// Adds the triple of an annotation.
     fn link_annotation(&mut self, holder: &Holder, annotation: &Annotation) -> Result<(), NoMemory>
-        ensures { OnOk result (Writes self.old self.new 0 (forms.link (holder_term (names self.old) holder.now)
-            annotation.now.property.now (atom_term annotation.now.value.now) ∷ [])) }
+        ensures { OnOk result (WritesLink self.old self.new
+            (holder_term (names self.old) holder.now) annotation.now.property.now
+            (atom_term annotation.now.value.now)) }
     {
         let subject = self.holder_term(holder)?;
         let object = self.atom_term(annotation.value)?;
@@ -149,9 +153,9 @@ impl Writer {
         annotation: &Annotation,
     ) -> Result<u64, NoMemory>
         ensures number { IfOk result (λ number. number ≡ self.old.next) }
-        ensures writes { OnOk result (Writes self.old self.new 1
-            (reifying word_of.Annotation (forms.blank (names self.old) self.old.next)
-            (forms.link (holder_term (names self.old) holder.now) annotation.now.property.now (atom_term annotation.now.value.now)))) }
+        ensures writes { OnOk result (Writes self.old self.new 1 (reifying word_of.Annotation
+            (node_term self.old self.old.next) (link (holder_term (names self.old) holder.now)
+            annotation.now.property.now (atom_term annotation.now.value.now)))) }
     {
         let subject = self.holder_term(holder)?;
         let object = self.atom_term(annotation.value)?;
@@ -168,7 +172,8 @@ impl Writer {
         ids: &[ExprId],
     ) -> Result<(), NoMemory>
         requires { AreHeld arena.now.trees ids.now }
-        ensures { OnOk result (WritesNotes self.old self.new holder.now (notes_at arena.now.trees ids.now)) }
+        ensures { OnOk result (WritesNotes self.old self.new holder.now
+            (notes_at arena.now.trees ids.now)) }
     {
         let mut left = ids;
         while let [id, others @ ..] = left {
@@ -207,8 +212,9 @@ impl Writer {
         inside: &[ExprId],
     ) -> Result<(), NoMemory>
         requires { AreHeld arena.now.trees inside.now }
-        ensures { OnOk result (Writes self.old self.new (reified_nodes (notes_at arena.now.trees inside.now))
-            (reified (names self.old) word_of.Axiom (forms.link subject.now predicate.now object.now)
+        ensures { OnOk result (Writes self.old self.new
+            (reified_nodes (notes_at arena.now.trees inside.now))
+            (reified (names self.old) word_of.Axiom (link subject.now predicate.now object.now)
             (notes_at arena.now.trees inside.now) self.old.next)) }
     {
         if !has_notes(arena, inside) {

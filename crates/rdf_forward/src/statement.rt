@@ -4,19 +4,19 @@ ghost use Rattle.std.specs.Prelude.{◌≡◌, ◌<◌, ◌∷◌, [], IfOk, OnO
 ghost use Rattle.std.specs.List.{AllByRecursion};
 ghost use Rattle.owl_arena.specs.Held.{AreHeld, tree_at};
 ghost use Rattle.rdf_nodes.specs.declared.row.Site.TheVariants as sites;
-ghost use Rattle.rdf_nodes.specs.Rows as rows;
-ghost use Rattle.rdf_mapping.specs.Drawing as drawing;
-ghost use Rattle.rdf_forward.specs.AxiomWalks.{WritesStatement, by_two, is_nothing, predicate_iri, sets_at};
+ghost use Rattle.rdf_nodes.specs.Rows.{axiom_rows};
+ghost use Rattle.rdf_mapping.specs.Drawing.{by_kids, by_triple, form_of, is_pair, loop_by};
+ghost use Rattle.rdf_mapping.specs.Drawing.{placed, row_for, stated, stated_by, statement_of};
+ghost use Rattle.rdf_forward.specs.AxiomWalks.{WritesStatement, by_two, predicate_iri, sets_at};
 ghost use Rattle.rdf_mapping.specs.Arenas.{kids_at, tags_at};
 
-use crate::drawn::{Drawn, take_part};
-use rdf_mapping::{row_for, singles};
-use rdf_mapping::{type_iri, word_iri};
+use crate::drawn::{Drawn, next_part};
 use crate::writer::Writer;
 use owl_arena::{Arena, ExprId};
 use owl_characters::NoMemory;
 use owl_tree::Tag;
 use rdf_graph::Term;
+use rdf_mapping::{row_for, type_iri, word_iri};
 use rdf_nodes::{Part, Place, Row, Site, Word, axiom_rows};
 use rdf_terms::Iri;
 
@@ -32,7 +32,7 @@ pub enum Predicate {
 /// Whether the axiom is of a set of which two members make a triple.
 #[tactic(auto, unfolding(rdf_mapping::specs::Drawing::is_pair))]
 fn is_pair(tag: Tag) -> bool
-    ensures { result ≡ drawing.is_pair tag }
+    ensures { result ≡ is_pair tag }
 {
     tag == Tag::EquivalentClasses
         || tag == Tag::DisjointClasses
@@ -43,21 +43,6 @@ fn is_pair(tag: Tag) -> bool
         || tag == Tag::DisjointDataProperties
         || tag == Tag::SameIndividual
         || tag == Tag::DifferentIndividuals
-}
-
-/// Whether nothing stands at the parts.
-fn stands_nothing(arena: &Arena, parts: &[Part], kids: &[ExprId], above: ExprId) -> bool
-    requires held { above < length arena.now.trees }
-    requires below { AllByRecursion (λ kid. kid < above) kids.now }
-    ensures { result ≡ is_nothing (drawing.placed parts.now (kids_at arena.now.trees kids.now)) }
-{
-    let [part, behind @ ..] = parts else {
-        return true;
-    };
-    match take_part(arena, *part, singles(behind), kids, above) {
-        Some(_) => false,
-        None => true,
-    }
 }
 
 impl Writer {
@@ -82,7 +67,7 @@ impl Writer {
         requires held { id < length arena.now.trees }
         requires axioms { AreHeld arena.now.trees axioms.now }
         ensures { OnOk result (WritesStatement self.old self.new
-            (drawing.statement_of (tree_at arena.now.trees id)) (sets_at arena.now.trees axioms.now)) }
+            (statement_of (tree_at arena.now.trees id)) (sets_at arena.now.trees axioms.now)) }
     {
         match arena.kids(id) {
             [_notes, kids @ ..] => self.write_kids(arena, arena.tag(id), kids, id, axioms),
@@ -103,7 +88,7 @@ impl Writer {
         requires below { AllByRecursion (λ kid. kid < above) kids.now }
         requires axioms { AreHeld arena.now.trees axioms.now }
         ensures { OnOk result (WritesStatement self.old self.new
-            (drawing.by_kids tag (kids_at arena.now.trees kids.now)) (sets_at arena.now.trees axioms.now)) }
+            (by_kids tag (kids_at arena.now.trees kids.now)) (sets_at arena.now.trees axioms.now)) }
     {
         if let [kid] = kids {
             if is_pair(tag) {
@@ -123,9 +108,9 @@ impl Writer {
     ) -> Result<(), NoMemory>
         requires held { kid < length arena.now.trees }
         requires axioms { AreHeld arena.now.trees axioms.now }
-        ensures { OnOk result (WritesStatement self.old self.new (drawing.loop_by
-            (drawing.row_for rows.axiom_rows tag (tags_at arena.now.trees (kid ∷ kid ∷ [])))
-            (drawing.form_of (tree_at arena.now.trees kid))) (sets_at arena.now.trees axioms.now)) }
+        ensures { OnOk result (WritesStatement self.old self.new (loop_by
+            (row_for axiom_rows tag (tags_at arena.now.trees (kid ∷ kid ∷ [])))
+            (form_of (tree_at arena.now.trees kid))) (sets_at arena.now.trees axioms.now)) }
     {
         let Some(row) = row_for(axiom_rows(), tag, arena, &[kid, kid]) else {
             return Ok(());
@@ -149,8 +134,8 @@ impl Writer {
         requires held { above < length arena.now.trees }
         requires below { AllByRecursion (λ kid. kid < above) kids.now }
         requires axioms { AreHeld arena.now.trees axioms.now }
-        ensures { OnOk result (WritesStatement self.old self.new (drawing.stated_by
-            (drawing.row_for rows.axiom_rows tag (tags_at arena.now.trees kids.now))
+        ensures { OnOk result (WritesStatement self.old self.new (stated_by
+            (row_for axiom_rows tag (tags_at arena.now.trees kids.now))
             (kids_at arena.now.trees kids.now)) (sets_at arena.now.trees axioms.now)) }
     {
         match row_for(axiom_rows(), tag, arena, kids) {
@@ -173,7 +158,7 @@ impl Writer {
         requires below { AllByRecursion (λ kid. kid < above) kids.now }
         requires axioms { AreHeld arena.now.trees axioms.now }
         ensures { OnOk result (WritesStatement self.old self.new
-            (drawing.stated site (drawing.placed parts.now (kids_at arena.now.trees kids.now)))
+            (stated site (placed parts.now (kids_at arena.now.trees kids.now)))
             (sets_at arena.now.trees axioms.now)) }
     {
         match site {
@@ -202,24 +187,24 @@ impl Writer {
         requires held { above < length arena.now.trees }
         requires below { AllByRecursion (λ kid. kid < above) kids.now }
         requires axioms { AreHeld arena.now.trees axioms.now }
-        ensures { OnOk result (WritesStatement self.old self.new (drawing.by_triple (sites.TypedBy word)
-            (drawing.placed parts.now (kids_at arena.now.trees kids.now))) (sets_at arena.now.trees axioms.now)) }
+        ensures { OnOk result (WritesStatement self.old self.new (by_triple (sites.TypedBy word)
+            (placed parts.now (kids_at arena.now.trees kids.now)))
+            (sets_at arena.now.trees axioms.now)) }
     {
-        let [part, behind @ ..] = parts else {
+        let Some(only) = next_part(arena, parts, kids, above) else {
             return Ok(());
         };
-        let Some((subject, others)) = take_part(arena, *part, singles(behind), kids, above) else {
-            return Ok(());
-        };
-        if !stands_nothing(arena, behind, others, above) {
+        if next_part(arena, only.parts, only.kids, above).is_some() {
             return Ok(());
         }
         let predicate = type_iri(self.alloc)?;
+        let class = Drawn::Class(word);
         self.write_linked(
             arena,
-            &subject,
+            Place::Subject,
+            &only.drawn,
             &predicate,
-            &Drawn::Class(word),
+            &class,
             above,
             axioms,
         )
@@ -239,32 +224,28 @@ impl Writer {
         requires below { AllByRecursion (λ kid. kid < above) kids.now }
         requires axioms { AreHeld arena.now.trees axioms.now }
         ensures { OnOk result (WritesStatement self.old self.new (by_two (predicate_iri predicate)
-            (drawing.placed parts.now (kids_at arena.now.trees kids.now))) (sets_at arena.now.trees axioms.now)) }
+            (placed parts.now (kids_at arena.now.trees kids.now)))
+            (sets_at arena.now.trees axioms.now)) }
     {
-        let [part, behind @ ..] = parts else {
+        let Some(first) = next_part(arena, parts, kids, above) else {
             return Ok(());
         };
-        let Some((first, others)) = take_part(arena, *part, singles(behind), kids, above) else {
+        let Some(second) = next_part(arena, first.parts, first.kids, above) else {
             return Ok(());
         };
-        let [next, rest @ ..] = behind else {
-            return Ok(());
-        };
-        let Some((second, left)) = take_part(arena, *next, singles(rest), others, above) else {
-            return Ok(());
-        };
-        if !stands_nothing(arena, rest, left, above) {
+        if next_part(arena, second.parts, second.kids, above).is_some() {
             return Ok(());
         }
         let predicate = self.predicate_iri(predicate)?;
-        match part.place {
-            Place::Object => {
-                self.write_linked_back(arena, &first, &predicate, &second, above, axioms)
-            }
-            Place::Subject => self.write_linked(arena, &first, &predicate, &second, above, axioms),
-            Place::Predicate => Ok(()),
-            Place::At(_) => Ok(()),
-        }
+        self.write_linked(
+            arena,
+            first.place,
+            &first.drawn,
+            &predicate,
+            &second.drawn,
+            above,
+            axioms,
+        )
     }
 
     /// Adds the triples of axioms of which the first part is the predicate.
@@ -279,33 +260,33 @@ impl Writer {
         requires held { above < length arena.now.trees }
         requires below { AllByRecursion (λ kid. kid < above) kids.now }
         requires axioms { AreHeld arena.now.trees axioms.now }
-        ensures { OnOk result (WritesStatement self.old self.new (drawing.by_triple sites.OtherLink
-            (drawing.placed parts.now (kids_at arena.now.trees kids.now))) (sets_at arena.now.trees axioms.now)) }
+        ensures { OnOk result (WritesStatement self.old self.new (by_triple sites.OtherLink
+            (placed parts.now (kids_at arena.now.trees kids.now)))
+            (sets_at arena.now.trees axioms.now)) }
     {
-        let [part, behind @ ..] = parts else {
+        let Some(first) = next_part(arena, parts, kids, above) else {
             return Ok(());
         };
-        let Some((first, others)) = take_part(arena, *part, singles(behind), kids, above) else {
+        let Some(second) = next_part(arena, first.parts, first.kids, above) else {
             return Ok(());
         };
-        let [next, rest @ ..] = behind else {
+        let Some(third) = next_part(arena, second.parts, second.kids, above) else {
             return Ok(());
         };
-        let Some((second, left)) = take_part(arena, *next, singles(rest), others, above) else {
-            return Ok(());
-        };
-        let [last, end @ ..] = rest else {
-            return Ok(());
-        };
-        let Some((third, none)) = take_part(arena, *last, singles(end), left, above) else {
-            return Ok(());
-        };
-        if !stands_nothing(arena, end, none, above) {
+        if next_part(arena, third.parts, third.kids, above).is_some() {
             return Ok(());
         }
-        let Term::Iri(predicate) = self.drawn_term(arena, &first)? else {
+        let Term::Iri(predicate) = self.drawn_term(arena, &first.drawn)? else {
             return Ok(());
         };
-        self.write_linked(arena, &second, &predicate, &third, above, axioms)
+        self.write_linked(
+            arena,
+            Place::Subject,
+            &second.drawn,
+            &predicate,
+            &third.drawn,
+            above,
+            axioms,
+        )
     }
 }

@@ -3,17 +3,18 @@
 ghost use Rattle.std.specs.Prelude.{◌≡◌, ◌<◌, ◌∷◌, [], IfOk, OnOk, length};
 ghost use Rattle.owl_arena.specs.Held.{tree_at};
 ghost use Rattle.rdf_graph.specs.Terms.{IsSubject};
-ghost use Rattle.rdf_mapping.specs.Forms as forms;
+ghost use Rattle.rdf_mapping.specs.Forms.{first_iri, rest_iri, term_of};
 ghost use Rattle.rdf_mapping.specs.Drawing.{arc_iri, atom_term, form_of};
-ghost use Rattle.rdf_forward.specs.Walks.{IsDrawnBelow, Writes, drawn_form, list_term, names, rest_term, second_cell};
+ghost use Rattle.rdf_forward.specs.Walks.{IsDrawnBelow, Writes, WritesLink, drawn_form, list_term};
+ghost use Rattle.rdf_forward.specs.Walks.{names, node_term, rest_term, second_cell};
 
 use crate::drawn::Drawn;
 use crate::labels::FreshLabels;
-use rdf_mapping::{arc_iri, nil, number_literal, true_literal, word_iri};
 use owl_arena::{Arena, ExprId};
 use owl_characters::NoMemory;
 use owl_tree::Atom;
 use rdf_graph::{Gather, Term, Triple};
+use rdf_mapping::{arc_iri, nil, number_literal, true_literal, word_iri};
 use rdf_nodes::Word;
 use rdf_terms::Iri;
 use std::alloc::Global;
@@ -40,7 +41,7 @@ impl Writer {
 
     /// The blank node with this number.
     pub fn blank(&self, number: u64) -> Result<Term, NoMemory>
-        ensures { IfOk result (λ term. term ≡ forms.blank (names self.now) number) }
+        ensures { IfOk result (λ term. term ≡ node_term self.now number) }
     {
         Ok(Term::Blank(self.labels.label(self.alloc, number)?))
     }
@@ -48,7 +49,7 @@ impl Writer {
     /// Adds a triple.
     pub fn add(&mut self, subject: Term, predicate: Iri, object: Term) -> Result<(), NoMemory>
         requires { IsSubject subject }
-        ensures { OnOk result (Writes self.old self.new 0 (forms.link subject predicate object ∷ [])) }
+        ensures { OnOk result (WritesLink self.old self.new subject predicate object) }
     {
         let triple = Triple {
             subject,
@@ -60,8 +61,8 @@ impl Writer {
 
     /// Adds a triple of the blank node with this number.
     pub fn link(&mut self, node: u64, predicate: Iri, object: Term) -> Result<(), NoMemory>
-        ensures { OnOk result (Writes self.old self.new 0
-            (forms.link (forms.blank (names self.old) node) predicate object ∷ [])) }
+        ensures { OnOk result (WritesLink self.old self.new (node_term self.old node)
+            predicate object) }
     {
         let subject = self.blank(node)?;
         self.add(subject, predicate, object)
@@ -83,7 +84,7 @@ impl Writer {
     pub fn tree_term(&self, arena: &Arena, id: ExprId, number: u64) -> Result<Term, NoMemory>
         requires { id < length arena.now.trees }
         ensures { IfOk result (λ term. term
-            ≡ forms.term_of (names self.now) (form_of (tree_at arena.now.trees id)) number) }
+            ≡ term_of (names self.now) (form_of (tree_at arena.now.trees id)) number) }
     {
         match arena.atom(id) {
             Some(atom) => self.atom_term(atom),
@@ -105,7 +106,7 @@ impl Writer {
     pub fn drawn_term(&self, arena: &Arena, drawn: &Drawn) -> Result<Term, NoMemory>
         requires { IsDrawnBelow (length arena.now.trees) drawn.now }
         ensures { IfOk result (λ term. term
-            ≡ forms.term_of (names self.now) (drawn_form arena.now.trees drawn.now) self.now.next) }
+            ≡ term_of (names self.now) (drawn_form arena.now.trees drawn.now) self.now.next) }
     {
         match drawn {
             Drawn::Kid(id) => self.tree_term(arena, *id, self.next),
@@ -128,8 +129,8 @@ impl Writer {
         drawn: &Drawn,
     ) -> Result<(), NoMemory>
         requires { IsDrawnBelow (length arena.now.trees) drawn.now }
-        ensures { OnOk result (Writes self.old self.new 0 (forms.link (forms.blank (names self.old) node) (arc_iri word)
-            (forms.term_of (names self.old) (drawn_form arena.now.trees drawn.now) self.old.next) ∷ [])) }
+        ensures { OnOk result (WritesLink self.old self.new (node_term self.old node) (arc_iri word)
+            (term_of (names self.old) (drawn_form arena.now.trees drawn.now) self.old.next)) }
     {
         let object = self.drawn_term(arena, drawn)?;
         let predicate = arc_iri(self.alloc, word)?;
@@ -145,8 +146,8 @@ impl Writer {
         value: ExprId,
     ) -> Result<(), NoMemory>
         requires { value < length arena.now.trees }
-        ensures { OnOk result (Writes self.old self.new 0 (forms.link (forms.blank (names self.old) node) facet.now
-            (forms.term_of (names self.old) (form_of (tree_at arena.now.trees value)) self.old.next) ∷ [])) }
+        ensures { OnOk result (WritesLink self.old self.new (node_term self.old node) facet.now
+            (term_of (names self.old) (form_of (tree_at arena.now.trees value)) self.old.next)) }
     {
         let object = self.tree_term(arena, value, self.next)?;
         let predicate = facet.copy(self.alloc)?;
@@ -162,8 +163,8 @@ impl Writer {
         number: u64,
     ) -> Result<(), NoMemory>
         requires { id < length arena.now.trees }
-        ensures { OnOk result (Writes self.old self.new 0 (forms.link (forms.blank (names self.old) cell) forms.first_iri
-            (forms.term_of (names self.old) (form_of (tree_at arena.now.trees id)) number) ∷ [])) }
+        ensures { OnOk result (WritesLink self.old self.new (node_term self.old cell) first_iri
+            (term_of (names self.old) (form_of (tree_at arena.now.trees id)) number)) }
     {
         let object = self.tree_term(arena, id, number)?;
         let predicate = word_iri(self.alloc, Word::First)?;
@@ -173,8 +174,8 @@ impl Writer {
     /// Adds the triple of a cell that leads to the next one, which is made next, or
     /// to the end.
     pub fn link_rest(&mut self, cell: u64, goes_on: bool) -> Result<(), NoMemory>
-        ensures { OnOk result (Writes self.old self.new 0 (forms.link (forms.blank (names self.old) cell) forms.rest_iri
-            (rest_term (names self.old) goes_on self.old.next) ∷ [])) }
+        ensures { OnOk result (WritesLink self.old self.new (node_term self.old cell) rest_iri
+            (rest_term (names self.old) goes_on self.old.next)) }
     {
         let object = if goes_on {
             self.blank(self.next)?
@@ -194,8 +195,9 @@ impl Writer {
         number: u64,
     ) -> Result<(), NoMemory>
         requires { id < length arena.now.trees }
-        ensures { OnOk result (Writes self.old self.new 1 (second_cell (names self.old) cell self.old.next
-            (forms.term_of (names self.old) (form_of (tree_at arena.now.trees id)) number))) }
+        ensures { OnOk result (Writes self.old self.new 1
+            (second_cell (names self.old) cell self.old.next
+            (term_of (names self.old) (form_of (tree_at arena.now.trees id)) number))) }
     {
         self.link_rest(cell, true)?;
         let second = self.fresh()?;

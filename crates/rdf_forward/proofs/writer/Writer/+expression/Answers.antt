@@ -1,32 +1,25 @@
-use Rattle.std.proofs.Common.{rules, ◌≡◌, ◌<◌, [], Some, length, ℕ, ◌-◌, List, ap, sym, subst, ◌∙◌, refl, arith, take, drop}
+use Rattle.std.proofs.Common.{rules, ◌≡◌, ◌<◌, [], Some, length, ℕ, List, ap, sym, subst, ◌∙◌, refl, arith}
 use Rattle.std.specs.Prelude.{not}
 use Rattle.std.specs.List.{AllByRecursion}
 use Rattle.std.proofs.lemmas.Result.{on_ok_weaker}
 use Rattle.owl_arena.specs.HeldLaws.{below_later}
-use Rattle.rdf_mapping.specs.Arenas.{forms_at, kids_at}
+use Rattle.rdf_mapping.specs.Arenas.{kids_at}
 use Rattle.rdf_forward.specs.Walks.{WritesArcs, WritesForm, names}
-use Rattle.rdf_mapping.specs.Drawing.{Placed, arcs_of, listed, placed}
-use Rattle.rdf_mapping.specs.Forms.{blank, list_form}
+use Rattle.rdf_mapping.specs.Drawing.{Placed, arcs_of, placed}
+use Rattle.rdf_mapping.specs.Forms.{blank}
 use Rattle.rdf_forward.proofs.Cells.{LeadsOn, leads_next, leads_end}
-use Rattle.rdf_forward.proofs.Nodes.{drawn_below, facet_at, no_parts, no_row_at, none_placed, row_at, some_placed, tag_told}
-use Rattle.rdf_forward.proofs.Taking.{first_and, first_at, none_left, only_one, only_two}
-use Rattle.rdf_forward.proofs.Writing.{arcs_both, cell_written, ended, facet_written, goes_anyway, goes_if_more, joined_lists, listed_more, listed_none, listed_one, below_two, made_written, node_alone, part_written, twice_written, writes_no_arcs}
+use Rattle.rdf_forward.proofs.Nodes.{drawn_below, facet_at, no_row_at, row_at, tag_told}
+use Rattle.rdf_forward.proofs.Taking.{first_and, none_left, only_one, only_two}
+use Rattle.rdf_forward.proofs.Writing.{arcs_both, cell_written, ended, facet_written, goes_anyway, goes_if_more, joined_lists, listed_one, listed_other, below_two, made_written, node_alone, part_written, twice_written, writes_no_arcs}
 use Rattle.rdf_forward.proofs.writer.Writer.+expression.Goals as goal
-use Rattle.rdf_forward.proofs.writer.Writer.+expression.Goals.{write_cells-then-goes_on, write_cells-else-goes_on, write_list-then-ids-lt1, write_list-else-ids-lt1+else-ids-lt2}
+use Rattle.rdf_forward.proofs.writer.Writer.+expression.Goals.{write_cells-then-goes_on, write_cells-else-goes_on}
 
 pub write_arcs-returns-in_default : goal.write_arcs-returns-in_default
-write_arcs-returns-in_default t c = writes_no_arcs _ _ _ (no_parts _ _ c.in_default.len_below)
-
-pub write_arcs-returns-in_default-take_part : goal.write_arcs-returns-in_default-take_part
-write_arcs-returns-in_default-take_part t c =
-    let e = first_at c.args.parts.now _ c.in-len1-up.len_at_least in
-    writes_no_arcs _ _ _ (none_placed _ _ _ _ c.singles.result _ e c.singles.ensures.count (c.in_default-take_part.ensures.none refl))
+write_arcs-returns-in_default t c = writes_no_arcs _ _ _ (ap arcs_of (c.in_default.ensures.none refl))
 
 pub write_arcs-returns : goal.write_arcs-returns
 write_arcs-returns t c =
-    let e = first_at c.args.parts.now _ c.in-len1-up.len_at_least in
-    let p = some_placed _ _ _ _ c.singles.result _ _ _ e c.singles.ensures.count c.in-Some.ensures.some in
-    on_ok_weaker c.write_arcs.result (λ more. subst (λ (ps : List Placed). WritesArcs c.args.self.now c.write_arcs.new.self (blank (names c.args.self.now) c.args.node) (arcs_of ps)) (sym p) (arcs_both c.args.self.now c.write_part.new.self c.write_arcs.new.self c.args.node _ _ (placed (take (length c.args.parts.now - 1) (drop 1 c.args.parts.now)) (kids_at c.args.arena.now.trees c.in-Some.others.now)) c.in_ok-write_part.ensures more)) c.write_arcs.ensures
+    on_ok_weaker c.write_arcs.result (λ more. subst (λ (ps : List Placed). WritesArcs c.args.self.now c.write_arcs.new.self (blank (names c.args.self.now) c.args.node) (arcs_of ps)) (sym c.in-Some.ensures.some.placed) (arcs_both c.args.self.now c.write_part.new.self c.write_arcs.new.self c.args.node _ _ (placed c.in-Some.next.parts.now (kids_at c.args.arena.now.trees c.in-Some.next.kids.now)) c.in_ok-write_part.ensures more)) c.write_arcs.ensures
 
 pub write_part-link_part-requires : goal.write_part-link_part-requires
 write_part-link_part-requires t c = drawn_below _ _ _ c.requires.held c.requires.below
@@ -72,11 +65,8 @@ write_list-returns-else-least-ge2 t c =
 
 pub write_list-returns-in-empty : goal.write_list-returns-in-empty
 write_list-returns-in-empty t c =
-    let plain : listed c.args.least (forms_at c.args.arena.now.trees c.args.ids.now) ≡ list_form (forms_at c.args.arena.now.trees c.args.ids.now) = elim c.in-empty-1.branch [
-      | write_list-then-ids-lt1 w ↦ listed_none c.args.arena.now.trees c.args.least c.args.ids.now (search rules)
-      | write_list-else-ids-lt1+else-ids-lt2 w ↦ listed_more c.args.arena.now.trees c.args.least c.args.ids.now (search rules)
-    ] in
-    on_ok_weaker c.write_cells-in-empty.result (λ leads. subst (WritesForm c.args.self.now c.write_cells-in-empty.new.self) (sym plain) (ended _ _ _ leads)) c.write_cells-in-empty.ensures
+    let not_one : length c.args.ids.now ≡ 1 → ⊥ = search rules in
+    on_ok_weaker c.write_cells-in-empty.result (λ leads. subst (WritesForm c.args.self.now c.write_cells-in-empty.new.self) (sym (listed_other c.args.arena.now.trees c.args.least c.args.ids.now not_one)) (ended _ _ _ leads)) c.write_cells-in-empty.ensures
 
 pub write_node-returns-then-eq : goal.write_node-returns-then-eq
 write_node-returns-then-eq t c =

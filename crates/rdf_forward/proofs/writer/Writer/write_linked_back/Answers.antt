@@ -1,6 +1,0 @@
-use Rattle.std.proofs.lemmas.Result.{on_ok_weaker}
-use Rattle.rdf_forward.proofs.Axioms.{linked_back_written}
-use Rattle.rdf_forward.proofs.writer.Writer.write_linked_back.Goals as goal
-
-pub returns : goal.returns
-returns c = on_ok_weaker c.write_main.result (λ main. linked_back_written _ _ _ _ _ _ _ _ _ c.in_ok-object.ensures.terms c.in_ok-object.ensures.writes main) c.write_main.ensures
