@@ -4,10 +4,10 @@ use Rattle.std.specs.List.{AllByRecursion}
 use Rattle.std.specs.Str.{encode_utf8_all}
 use Rattle.std.proofs.Math.Seq.{take-length}
 use Rattle.std.proofs.lemmas.List.{map-append}
-use Rattle.owl_command.specs.Commands.{AreNames, IsAmong, Asks, HasNoCommand, IsName, compares, flag_words, shows, translates}
-use Rattle.owl_command.specs.CommandsLaws.{flag_is_no_name, show_is_not_same, verb}
+use Rattle.owl_command.specs.Commands.{AreNames, IsAmong, Asks, HasNoCommand, IsName, compares, flag_words, shows, translates, translation_words}
+use Rattle.owl_command.specs.CommandsLaws.{flag_is_no_name, show_is_not_same, target_once, verb}
 use Rattle.owl_command.specs.WordParts.{AreTwoNames, IsStripped, NameNone, NameWith}
-use Rattle.owl_command.specs.declared.command.Target.TheVariants.{Fss}
+use Rattle.owl_command.specs.declared.command.Target.{Target}
 
 -- the first of some items, and those behind it
 pub first_and : {X : Type 0} (text : X → List ℕ) (xs : List X) (x : X) → 0 < length xs → x ≡ get_or xs 0 x → map text xs ≡ text x ∷ map text (take (length xs - 1) (drop 1 xs))
@@ -44,31 +44,33 @@ stripped_none words others partial s none flag names n =
 
 -- what the words behind the first ones name is what the words ask for
 module _ (words others : List (List ℕ)) where
-  pub asks_translation : (partial : Bool) (names : List (List ℕ)) → words ≡ codes "translate" ∷ codes "--to" ∷ codes "fss" ∷ others → NameWith others partial names → Asks words (translates Fss partial names)
-  asks_translation partial names e n = record { names = n.right; are = cc }
+  pub asks_translation : (target : Target) (partial : Bool) (names : List (List ℕ)) → words ≡ translation_words target others → NameWith others partial names → Asks words (translates target partial names)
+  asks_translation target partial names e n = record { names = n.right; are = cc }
 
   pub asks_show : (partial : Bool) (names : List (List ℕ)) → words ≡ codes "show" ∷ others → NameWith others partial names → Asks words (shows partial names)
   asks_show partial names e n = record { names = n.right; are = cc }
 
-  pub no_translation : words ≡ codes "translate" ∷ codes "--to" ∷ codes "fss" ∷ others → NameNone others → HasNoCommand words
-  no_translation e none (translates Fss partial names) a = none partial names (record { right = a.names; are = cc })
-  no_translation e none (shows partial names) a = absurd (cc)
-  no_translation e none (compares first second) a = absurd (cc)
+  pub no_translation : (target : Target) → words ≡ translation_words target others → NameNone others → HasNoCommand words
+  no_translation target e none (translates other partial names) a =
+      let same = target_once target other cc in
+      none partial names (record { right = a.names; are = cc })
+  no_translation target e none (shows partial names) a = absurd (cc)
+  no_translation target e none (compares first second) a = absurd (cc)
 
   pub no_show : words ≡ codes "show" ∷ others → NameNone others → HasNoCommand words
-  no_show e none (translates Fss partial names) a = absurd (cc)
+  no_show e none (translates target partial names) a = absurd (cc)
   no_show e none (shows partial names) a = none partial names (record { right = a.names; are = cc })
   no_show e none (compares first second) a = absurd (show_is_not_same (ap verb (sym e ∙ a.are)))
 
   pub no_comparison : words ≡ codes "same" ∷ others → (AreTwoNames others → ⊥) → HasNoCommand words
-  no_comparison e none (translates Fss partial names) a = absurd (cc)
+  no_comparison e none (translates target partial names) a = absurd (cc)
   no_comparison e none (shows partial names) a = absurd (show_is_not_same (ap verb (sym a.are ∙ e)))
   no_comparison e none (compares first second) a =
       let are : others ≡ first ∷ second ∷ [] = cc in
       none (record { first = first; second = second; are = are; names = subst AreNames (sym are) a.names })
 
-  pub names_no_translation : words ≡ codes "translate" ∷ codes "--to" ∷ codes "fss" ∷ others → HasNoCommand words → NameNone others
-  names_no_translation e none partial names n = none (translates Fss partial names) (asks_translation partial names e n)
+  pub names_no_translation : (target : Target) → words ≡ translation_words target others → HasNoCommand words → NameNone others
+  names_no_translation target e none partial names n = none (translates target partial names) (asks_translation target partial names e n)
 
   pub names_no_show : words ≡ codes "show" ∷ others → HasNoCommand words → NameNone others
   names_no_show e none partial names n = none (shows partial names) (asks_show partial names e n)
@@ -78,8 +80,8 @@ module _ (words others : List (List ℕ)) where
       none (compares two.first two.second) (record { names = subst AreNames two.are two.names; are = e ∙ ap (λ (ws : List (List ℕ)). codes "same" ∷ ws) two.are })
 
 -- words that begin with none of these
-pub no_verb : (words : List (List ℕ)) → ((others : List (List ℕ)) → words ≢ codes "translate" ∷ codes "--to" ∷ codes "fss" ∷ others) → ((others : List (List ℕ)) → words ≢ codes "show" ∷ others) → ((others : List (List ℕ)) → words ≢ codes "same" ∷ others) → HasNoCommand words
-no_verb words t s c (translates Fss partial names) a = t (flag_words partial ++ names) a.are
+pub no_verb : (words : List (List ℕ)) → ((target : Target) (others : List (List ℕ)) → words ≢ translation_words target others) → ((others : List (List ℕ)) → words ≢ codes "show" ∷ others) → ((others : List (List ℕ)) → words ≢ codes "same" ∷ others) → HasNoCommand words
+no_verb words t s c (translates target partial names) a = t target (flag_words partial ++ names) a.are
 no_verb words t s c (shows partial names) a = s (flag_words partial ++ names) a.are
 no_verb words t s c (compares first second) a = c (first ∷ second ∷ []) a.are
 

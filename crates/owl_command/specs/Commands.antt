@@ -3,7 +3,7 @@ use Rattle.std.specs.Prelude.{◌≡◌, ◌≢◌, ◌<◌, ◌≤◌, ◌⊎�
 use Rattle.std.specs.List.{AllByRecursion}
 use Rattle.std.specs.Str.{encode_utf8_all}
 use Rattle.owl_command.specs.declared.command.Target.{Target}
-use Rattle.owl_command.specs.declared.command.Target.TheVariants.{Fss}
+use Rattle.owl_command.specs.declared.command.Target.TheVariants.{Fss, Ttl}
 use Rattle.owl_command.specs.declared.command.Command.{Command}
 use Rattle.owl_command.specs.declared.command.Command.TheVariants.{Translate, Show, Same}
 
@@ -58,6 +58,11 @@ AsksImports (compares first second) = ⊥
 -- the word of a target
 abbrev pub target_word : Target → List ℕ
 target_word Fss = codes "fss"
+target_word Ttl = codes "ttl"
+
+-- the words of a translation to this target, and those behind them
+abbrev pub translation_words : Target → List (List ℕ) → List (List ℕ)
+translation_words target others = codes "translate" ∷ codes "--to" ∷ target_word target ∷ others
 
 -- the word by which imports may be missing
 abbrev pub flag_words : Bool → List (List ℕ)
@@ -66,7 +71,7 @@ flag_words true = codes "--partial" ∷ []
 
 -- the words, in bytes
 abbrev pub words_of : Request → List (List ℕ)
-words_of (translates target partial names) = codes "translate" ∷ codes "--to" ∷ target_word target ∷ (flag_words partial ++ names)
+words_of (translates target partial names) = translation_words target (flag_words partial ++ names)
 words_of (shows partial names) = codes "show" ∷ (flag_words partial ++ names)
 words_of (compares first second) = codes "same" ∷ first ∷ second ∷ []
 

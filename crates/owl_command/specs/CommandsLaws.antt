@@ -1,8 +1,9 @@
 -- Words ask for one thing.
 use Rattle.std.proofs.Common.{◌≡◌, ℕ, Bool, false, true, List, [], ◌∷◌, ◌++◌, codes, nat_eq, refl, ap, sym, ◌∙◌, subst}
 use Rattle.std.specs.List.{AllByRecursion}
-use Rattle.owl_command.specs.Commands.{Asks, IsName, Request, compares, flag_words, names_of, shows, translates, words_of}
-use Rattle.owl_command.specs.declared.command.Target.TheVariants.{Fss}
+use Rattle.owl_command.specs.Commands.{Asks, IsName, Request, compares, flag_words, names_of, shows, target_word, translates, words_of}
+use Rattle.owl_command.specs.declared.command.Target.{Target}
+use Rattle.owl_command.specs.declared.command.Target.TheVariants.{Fss, Ttl}
 
 abbrev pub verb : List (List ℕ) → List ℕ
 verb [] = []
@@ -28,22 +29,36 @@ flags_once true false names others h k e = absurd (flag_is_no_name names (subst 
 flags_once false true names others h k e = absurd (flag_is_no_name others (subst (AllByRecursion IsName) e h))
 flags_once false false names others h k e = (refl, e)
 
+-- the first letter of a word
+abbrev first_letter : List ℕ → ℕ
+first_letter [] = 0
+first_letter (c ∷ cs) = c
+
+-- a word names one target
+pub target_once : (one other : Target) → target_word one ≡ target_word other → one ≡ other
+target_once Fss Fss e = refl
+target_once Fss Ttl e = let h : true ≡ false = ap (λ (w : List ℕ). nat_eq (first_letter w) 102) e in absurd (cc)
+target_once Ttl Fss e = let h : false ≡ true = ap (λ (w : List ℕ). nat_eq (first_letter w) 102) e in absurd (cc)
+target_once Ttl Ttl e = refl
+
 pub asks_once : (words : List (List ℕ)) (one other : Request) → Asks words one → Asks words other → one ≡ other
 asks_once words one other h k = by_words one other h.names.named k.names.named (sym h.are ∙ k.are)
   where
     by_words : (one other : Request) → AllByRecursion IsName (names_of one) → AllByRecursion IsName (names_of other) → words_of one ≡ words_of other → one ≡ other
-    by_words (translates Fss p names) (translates Fss q others) h k e =
+    by_words (translates s p names) (translates t q others) h k e =
+        let word : target_word s ≡ target_word t = cc in
         let behind : flag_words p ++ names ≡ flag_words q ++ others = cc in
+        let target = target_once s t word in
         let once = flags_once p q names others h k behind in
         cc
-    by_words (translates Fss p names) (shows q others) h k e = absurd (cc)
-    by_words (translates Fss p names) (compares first second) h k e = absurd (cc)
-    by_words (shows p names) (translates Fss q others) h k e = absurd (cc)
+    by_words (translates t p names) (shows q others) h k e = absurd (cc)
+    by_words (translates t p names) (compares first second) h k e = absurd (cc)
+    by_words (shows p names) (translates t q others) h k e = absurd (cc)
     by_words (shows p names) (shows q others) h k e =
         let behind : flag_words p ++ names ≡ flag_words q ++ others = cc in
         let once = flags_once p q names others h k behind in
         cc
     by_words (shows p names) (compares first second) h k e = absurd (show_is_not_same (ap verb e))
-    by_words (compares first second) (translates Fss q others) h k e = absurd (cc)
+    by_words (compares first second) (translates t q others) h k e = absurd (cc)
     by_words (compares first second) (shows q others) h k e = absurd (show_is_not_same (ap verb (sym e)))
     by_words (compares first second) (compares third fourth) h k e = cc

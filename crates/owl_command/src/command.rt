@@ -1,7 +1,7 @@
 //! The words of the command line.
 
 ghost use Rattle.std.specs.Prelude.{◌≡◌, ◌≢◌, ◌∷◌, ◌<◌, ◌↔◌, List, ℕ, Some, length, map, slice_get, string_bytes, IsTrue, IfOk, IfSome, IfNone, IsErrOf, codes};
-ghost use Rattle.owl_command.specs.Commands.{AsksImports, HasNoCommand, IsCommand, names_of, request_of};
+ghost use Rattle.owl_command.specs.Commands.{AsksImports, HasNoCommand, IsCommand, names_of, request_of, target_word, translation_words};
 ghost use Rattle.owl_command.specs.WordParts.{AreTwoNames, IsStripped, NameNone, NameWith};
 
 use crate::names::{are_names, is_word, texts_of};
@@ -14,6 +14,8 @@ use thiserror::Error;
 pub enum Target {
     /// Functional-Style Syntax.
     Fss,
+    /// Turtle.
+    Ttl,
 }
 
 /// What the words ask for. The first of several names is that of the main
@@ -111,15 +113,46 @@ fn strip<'a>(words: &'a [String], word: &str) -> Option<&'a [String]>
     }
 }
 
-/// What stands behind the words of a translation to Functional-Style Syntax.
-fn strip_translation(words: &[String]) -> Option<&[String]>
-    ensures some { IfSome result (λ others. map string_bytes words.now
-        ≡ codes "translate" ∷ codes "--to" ∷ codes "fss" ∷ map string_bytes others.now) }
-    ensures none { IfNone result ((others : List (List ℕ)) → map string_bytes words.now
-        ≢ codes "translate" ∷ codes "--to" ∷ codes "fss" ∷ others) }
+/// The syntax that a word names.
+fn named_target(word: &str) -> Option<Target>
+    ensures some { IfSome result (λ target. word.now ≡ target_word target) }
+    ensures none { IfNone result ((target : Target) → word.now ≢ target_word target) }
+{
+    if is_word(word, "fss") {
+        Some(Target::Fss)
+    } else if is_word(word, "ttl") {
+        Some(Target::Ttl)
+    } else {
+        None
+    }
+}
+
+/// The syntax that a word behind `--to` names, and what stands behind it.
+fn strip_target(words: &[String]) -> Option<(Target, &[String])>
+    ensures some { IfSome result (λ found.
+        map string_bytes words.now ≡ target_word found.0 ∷ map string_bytes found.1.now) }
+    ensures none { IfNone result ((target : Target) (others : List (List ℕ)) →
+        map string_bytes words.now ≢ target_word target ∷ others) }
+{
+    match words {
+        [word, others @ ..] => {
+            let target = named_target(word.as_str())?;
+            Some((target, others))
+        }
+        [] => None,
+    }
+}
+
+/// The syntax that the words of a translation name, and what stands behind
+/// them.
+fn strip_translation(words: &[String]) -> Option<(Target, &[String])>
+    ensures some { IfSome result (λ found. map string_bytes words.now
+        ≡ translation_words found.0 (map string_bytes found.1.now)) }
+    ensures none { IfNone result ((target : Target) (others : List (List ℕ)) →
+        map string_bytes words.now ≢ translation_words target others) }
 {
     let others = strip(strip(words, "translate")?, "--to")?;
-    strip(others, "fss")
+    strip_target(others)
 }
 
 /// Whether imports may be missing, and the words behind that.
@@ -145,15 +178,16 @@ fn documents(words: &[String]) -> Option<(bool, &[String])>
     }
 }
 
-/// What the words behind those of a translation ask for.
-fn translate(alloc: Global, words: &[String]) -> Result<Command, WordsFault>
-    ensures command { IfOk result (IsCommand (codes "translate" ∷ codes "--to" ∷ codes "fss" ∷ map string_bytes words.now)) }
+/// What the words behind those of a translation to this syntax ask for.
+fn translate(alloc: Global, target: Target, words: &[String]) -> Result<Command, WordsFault>
+    ensures command { IfOk result
+        (IsCommand (translation_words target (map string_bytes words.now))) }
     ensures none { IsErrOf result WordsFault.Words → NameNone (map string_bytes words.now) }
     ensures refused { NameNone (map string_bytes words.now) → IsErrOf result WordsFault.Words }
 {
     let (partial, names) = documents(words).ok_or(WordsFault::Words)?;
     Ok(Command::Translate {
-        target: Target::Fss,
+        target,
         partial,
         names: texts_of(alloc, names)?,
     })
@@ -194,8 +228,8 @@ pub fn words(alloc: Global, words: &[String]) -> Result<Command, WordsFault>
     ensures none { IsErrOf result WordsFault.Words → HasNoCommand (map string_bytes words.now) }
     ensures refused { HasNoCommand (map string_bytes words.now) → IsErrOf result WordsFault.Words }
 {
-    if let Some(others) = strip_translation(words) {
-        translate(alloc, others)
+    if let Some((target, others)) = strip_translation(words) {
+        translate(alloc, target, others)
     } else if let Some(others) = strip(words, "show") {
         show(alloc, others)
     } else if let Some(others) = strip(words, "same") {

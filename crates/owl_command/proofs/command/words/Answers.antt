@@ -2,7 +2,7 @@ use Rattle.owl_command.proofs.Asking.{names_no_comparison, names_no_show, names_
 use Rattle.owl_command.proofs.command.words.Goals as goal
 
 pub returns-in-Some-clause-refused : goal.returns-in-Some-clause-refused
-returns-in-Some-clause-refused c = λ none. c.translate.ensures.refused (names_no_translation _ _ c.in-Some.ensures.some none)
+returns-in-Some-clause-refused c = λ none. c.translate.ensures.refused (names_no_translation _ _ _ c.in-Some.ensures.some none)
 
 pub returns-in-Some-strip-clause-refused : goal.returns-in-Some-strip-clause-refused
 returns-in-Some-strip-clause-refused c = λ none. c.show.ensures.refused (names_no_show _ _ c.in-Some-strip.ensures.some none)
