@@ -74,7 +74,7 @@ names_alike xs ys s iri place h = record {
 none_alike : (xs ys : List Head) → AreAlike xs ys → (iri : List ℕ) → NamesNone xs iri → NamesNone ys iri
 none_alike xs ys s iri h = λ place n. h place (named_alike ys xs (alike_back xs ys s) iri place n)
 
-reaches_alike : (xs ys : List Head) → AreAlike xs ys → (place : ℕ) → Reaches xs place → Reaches ys place
+pub reaches_alike : (xs ys : List Head) → AreAlike xs ys → (place : ℕ) → Reaches xs place → Reaches ys place
 reaches_alike xs ys s place main = main
 reaches_alike xs ys s place (import from to r i) =
     import from to (reaches_alike xs ys s from r) (record { iri = i.iri; import = import_alike xs ys s from i.iri i.import; names = names_alike xs ys s i.iri to i.names })

@@ -66,7 +66,7 @@ module _ (place : ℕ) (xs ys : List Head) (d : DifferUnreached place xs ys) whe
     ];
   }
 
-  reaches_unreached : (to : ℕ) → Reaches xs to → Reaches ys to
+  pub reaches_unreached : (to : ℕ) → Reaches xs to → Reaches ys to
   reaches_unreached to main = main
   reaches_unreached to (import from there r i) =
       let from_there = reaches_unreached from r in
@@ -86,7 +86,7 @@ module _ (place : ℕ) (xs ys : List Head) (d : DifferUnreached place xs ys) whe
         ];
       }
 
-unreached_back : (place : ℕ) (xs ys : List Head) → DifferUnreached place xs ys → DifferUnreached place ys xs
+pub unreached_back : (place : ℕ) (xs ys : List Head) → DifferUnreached place xs ys → DifferUnreached place ys xs
 unreached_back place xs ys d = record { alike = but_back place xs ys d.alike; unreached = d.there; there = d.unreached }
 
 -- the first missing import is the same
