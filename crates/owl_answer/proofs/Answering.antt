@@ -11,7 +11,8 @@ use Rattle.owl_documents.specs.declared.trouble.Refusal.{Refusal}
 use Rattle.owl_documents.specs.declared.trouble.Refusal.TheVariants.{Unreadable}
 use Rattle.owl_documents.specs.declared.trouble.Stop.{Stop}
 use Rattle.owl_documents.specs.declared.trouble.Trouble.TheVariants.{ReadFailed, Memory}
-use Rattle.owl_answer.specs.Outcome.{Becomes, Concludes, Outcome, all_read, not_read, of_read_fault, refusal_outcome}
+use Rattle.owl_answer.specs.Outcome.{Outcome, refusal_outcome}
+use Rattle.owl_answer.specs.Runs.{Becomes, Concludes, all_read, not_read, of_read_fault}
 use Rattle.owl_answer.specs.Answers.{IsAnswered, IsConclusion, trouble_outcome}
 use Rattle.owl_answer.proofs.Concluding.{concludes_once}
 use Rattle.owl_answer.proofs.Lines.{at_among, concluded_told, refused_fails, refused_told}

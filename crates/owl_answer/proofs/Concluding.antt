@@ -9,27 +9,26 @@ use Rattle.owl_tree.specs.OntologyLaws.{same_ontology_is_equal_form, same_ontolo
 use Rattle.owl_tree.specs.Order.{tree_cmp}
 use Rattle.owl_tree.specs.Trees.{kids_of, weight}
 use Rattle.owl_doc.specs.Counts.{subtrees_of}
-use Rattle.owl_close.specs.ImportsLaws.{AreAlike, alike_back, first_missing_alike, missing_once}
+use Rattle.owl_close.specs.ImportsLaws.{alike_back, first_missing_alike, missing_once}
 use Rattle.fss_write.specs.Text.{text_of}
 use Rattle.owl_command.specs.Commands.{Request, compares, names_of, shows, translates}
-use Rattle.owl_command.specs.declared.command.Target.TheVariants.{Fss}
+use Rattle.owl_command.specs.declared.command.Target.TheVariants.{Fss, Ttl}
 use Rattle.owl_command.specs.declared.status.Status.TheVariants.{Done}
 use Rattle.owl_documents.specs.Documents.{IsSame, Said}
 use Rattle.owl_documents.specs.OneWay.{AreSame}
 use Rattle.owl_answer.specs.Summary.{count_line, name_lines}
-use Rattle.owl_answer.specs.Outcome.{Concludes, IsComparison, IsLimited, IsWanted, Outcome, agree, differ, done_line, fits, has_imports, heads_in, misses_import, missing_import, passes, shown, translation}
-
-pub alike : (ds es : List Said) → AreSame ds es → AreAlike (heads_in ds) (heads_in es)
-alike [] [] s = tt
-alike [] (e ∷ es) s = absurd s
-alike (d ∷ ds) [] s = absurd s
-alike (d ∷ ds) (e ∷ es) s = (s.0.ontology.head, alike ds es s.1)
+use Rattle.owl_answer.specs.Outcome.{IsComparison, Outcome, agree, differ, done_line, heads_in, missing_import, shown, translation}
+use Rattle.owl_answer.specs.Runs.{AnswersWith, Concludes, IsTranslatedAmong, has_imports, misses_import}
+use Rattle.owl_answer.proofs.Closures.{same_kinds}
+use Rattle.owl_answer.proofs.Heads.{alike}
+use Rattle.owl_answer.proofs.TurtleOnce.{translation_alike, translation_once}
+use Rattle.owl_answer.proofs.Wanting.{limited_once}
 
 same_form : (a b : Said) → IsSame a b → canonical_ontology a.ontology ≡ canonical_ontology b.ontology
 same_form a b s = (same_ontology_is_equal_form a.ontology b.ontology).0 s.ontology
 
 -- what is answered depends on the prefixes and on the canonical form alone
-pub translation_same : (a b : Said) → IsSame a b → translation Fss a ≡ translation Fss b
+pub translation_same : (a b : Said) → IsSame a b → translation a ≡ translation b
 translation_same a b s = λ i. of_form (s.prefixes i) (same_form a b s i)
   where
     of_form : List Prefix → Ontology → Outcome
@@ -53,30 +52,30 @@ comparison_same a b c d s t one other (differ h e) (agree k f) =
     absurd (h (same_ontology_trans a.ontology c.ontology b.ontology s.ontology (same_ontology_trans c.ontology d.ontology b.ontology k (same_ontology_sym b.ontology d.ontology t.ontology))))
 comparison_same a b c d s t one other (differ h e) (differ k f) = e ∙ sym f
 
-wanted_once : (request : Request) (ds es : List Said) → AreSame ds es → (a b : Outcome) → IsWanted request ds a → IsWanted request es b → a ≡ b
-wanted_once (translates Fss partial names) [] es s a b v w = absurd v
-wanted_once (translates Fss partial names) (d ∷ ds) [] s a b v w = absurd s
-wanted_once (translates Fss partial names) (d ∷ ds) (e ∷ es) s a b v w = v ∙ translation_same d e s.0 ∙ sym w
-wanted_once (shows partial names) [] es s a b v w = absurd v
-wanted_once (shows partial names) (d ∷ ds) [] s a b v w = absurd s
-wanted_once (shows partial names) (d ∷ ds) (e ∷ es) s a b v w = v ∙ shown_same d e s.0 ∙ sym w
-wanted_once (compares first second) [] es s a b v w = absurd v
-wanted_once (compares first second) (d ∷ []) es s a b v w = absurd v
-wanted_once (compares first second) (d ∷ x ∷ y ∷ ds) es s a b v w = absurd v
-wanted_once (compares first second) (d ∷ x ∷ []) [] s a b v w = absurd s
-wanted_once (compares first second) (d ∷ x ∷ []) (e ∷ []) s a b v w = absurd w
-wanted_once (compares first second) (d ∷ x ∷ []) (e ∷ y ∷ z ∷ es) s a b v w = absurd w
-wanted_once (compares first second) (d ∷ x ∷ []) (e ∷ y ∷ []) s a b v w = comparison_same d x e y s.0 s.1.0 a b v w
+-- documents that say the same are translated to Turtle in one way
+among_once : (ds es : List Said) (d e : Said) → AreSame ds es → IsSame d e → (a b : Outcome) → IsTranslatedAmong ds d a → IsTranslatedAmong es e b → a ≡ b
+among_once ds es d e s same a b v w =
+    let kinds = same_kinds ds es v.kinds w.kinds s v.are w.are in
+    translation_once w.kinds e a b (translation_alike v.kinds w.kinds d e a kinds same v.translation) w.translation
 
-pub limited_once : (V W : Outcome → Type 0) → ((a b : Outcome) → V a → W b → a ≡ b) → (a b : Outcome) → IsLimited V a → IsLimited W b → a ≡ b
-limited_once V W once a b (fits v l) (fits w m) = once a b v w
-limited_once V W once a b (fits v l) (passes wanted w m e) =
-    let same = ap (λ (o : Outcome). length o.text) (once a wanted v w) in
-    absurd (omega arith)
-limited_once V W once a b (passes wanted v l e) (fits w m) =
-    let same = ap (λ (o : Outcome). length o.text) (once wanted b v w) in
-    absurd (omega arith)
-limited_once V W once a b (passes wanted v l e) (passes other w m f) = e ∙ sym f
+answers_once : (request : Request) (ds es : List Said) → AreSame ds es → (a b : Outcome) → AnswersWith request ds a → AnswersWith request es b → a ≡ b
+answers_once (translates target partial names) [] es s a b v w = absurd v
+answers_once (translates target partial names) (d ∷ ds) [] s a b v w = absurd s
+answers_once (translates Fss partial names) (d ∷ ds) (e ∷ es) s a b v w =
+    limited_once (λ o. o ≡ translation d) (λ o. o ≡ translation e) (λ x y p q. p ∙ translation_same d e s.0 ∙ sym q) a b v w
+answers_once (translates Ttl partial names) (d ∷ ds) (e ∷ es) s a b v w = among_once (d ∷ ds) (e ∷ es) d e s s.0 a b v w
+answers_once (shows partial names) [] es s a b v w = absurd v
+answers_once (shows partial names) (d ∷ ds) [] s a b v w = absurd s
+answers_once (shows partial names) (d ∷ ds) (e ∷ es) s a b v w =
+    limited_once (λ o. o ≡ shown d) (λ o. o ≡ shown e) (λ x y p q. p ∙ shown_same d e s.0 ∙ sym q) a b v w
+answers_once (compares first second) [] es s a b v w = absurd v
+answers_once (compares first second) (d ∷ []) es s a b v w = absurd v
+answers_once (compares first second) (d ∷ x ∷ y ∷ ds) es s a b v w = absurd v
+answers_once (compares first second) (d ∷ x ∷ []) [] s a b v w = absurd s
+answers_once (compares first second) (d ∷ x ∷ []) (e ∷ []) s a b v w = absurd w
+answers_once (compares first second) (d ∷ x ∷ []) (e ∷ y ∷ z ∷ es) s a b v w = absurd w
+answers_once (compares first second) (d ∷ x ∷ []) (e ∷ y ∷ []) s a b v w =
+    limited_once (IsComparison d x) (IsComparison e y) (λ p q h k. comparison_same d x e y s.0 s.1.0 p q h k) a b v w
 
 pub concludes_once : (request : Request) (ds es : List Said) → AreSame ds es → (a b : Outcome) → Concludes request ds a → Concludes request es b → a ≡ b
 concludes_once request ds es s a b (misses_import asked place iri name m at e) (misses_import again other theirs name2 n at2 f) =
@@ -91,4 +90,4 @@ concludes_once request ds es s a b (misses_import asked place iri name m at e) (
 concludes_once request ds es s a b (has_imports h v) (misses_import asked place iri name m at e) =
     absurd (h asked place iri (first_missing_alike (heads_in es) (heads_in ds) (alike_back (heads_in ds) (heads_in es) (alike ds es s)) place iri m).missing)
 concludes_once request ds es s a b (has_imports h v) (has_imports k w) =
-    limited_once (IsWanted request ds) (IsWanted request es) (λ x y p q. wanted_once request ds es s x y p q) a b v w
+    answers_once request ds es s a b v w

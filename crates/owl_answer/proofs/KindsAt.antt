@@ -10,7 +10,9 @@ use Rattle.owl_list.specs.AscendingLaws.{in_cases, in_head, in_none}
 use Rattle.owl_doc.specs.Documents.{Document, ontology_of}
 use Rattle.owl_doc.specs.Entities.{AddsAll, Declares, declared_in}
 use Rattle.owl_documents.specs.Documents.{Said, said_of}
-use Rattle.owl_answer.specs.KindsAt.{AddsAt, AreKindsAt, DeclaresAt}
+use Rattle.owl_close.specs.Imports.{AreReached}
+use Rattle.owl_answer.specs.KindsAt.{AddsAt, AreClosureKinds, AreKindsAt, DeclaresAt}
+use Rattle.owl_answer.specs.Outcome.{heads_in}
 
 module _ (documents : List Said) where
   pub none_yet : (kinds : List Entity) → ((kind : Kind) (iri : List ℕ) → IsDeclared kinds kind iri → ⊥) → AreKindsAt documents [] kinds
@@ -51,3 +53,10 @@ adds_none docs place kinds e kind iri =
   where
     none_some : (said : Said) → None ≡ Some said → ⊥
     none_some said e = cc
+
+-- the places are those that the main document reaches
+pub closure_at : (documents : List Said) (places : List ℕ) (kinds : List Entity) → AreReached (heads_in documents) places → AreKindsAt documents places kinds → AreClosureKinds documents kinds
+closure_at documents places kinds r known kind iri = (
+  λ h. let d = (known kind iri).0 h in record { place = d.place; reached = (r.reached d.place).0 d.among; at = d.at },
+  λ d. (known kind iri).1 (record { place = d.place; among = (r.reached d.place).1 d.reached; at = d.at }),
+)

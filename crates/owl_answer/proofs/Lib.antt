@@ -1,7 +1,10 @@
 pub mod Answering
+pub mod Closures
 pub mod Concluding
+pub mod Heads
 pub mod KindsAt
 pub mod Lines
+pub mod Sayings
 pub mod TurtleOnce
 pub mod Turtles
 pub mod Typings

@@ -10,7 +10,7 @@ use Rattle.owl_answer.specs.Refusals.{two_kinds, undeclared, unsayable}
 use Rattle.owl_answer.specs.Typing.{DeclareSame}
 use Rattle.owl_answer.specs.TypingLaws.{clash_once, not_all_typed, same_kinds_apart, same_kinds_clash, same_kinds_typed, same_kinds_untyped, untyped_once}
 use Rattle.owl_answer.specs.TurtleOutcome.{IsFormTold, IsGraphTold, IsTold, IsTurtleTranslation, IsTyped, canonical_said, clashes, few, graph_translation, heavy, light, many, ready, turtle_form, unsaid, untyped}
-use Rattle.owl_answer.proofs.Concluding.{limited_once}
+use Rattle.owl_answer.proofs.Wanting.{limited_once}
 
 form_once : (form : Said) (absorbed : ℕ) (a b : Outcome) → IsFormTold form absorbed a → IsFormTold form absorbed b → a ≡ b
 form_once form absorbed a b (many l e) (many m f) = e ∙ sym f

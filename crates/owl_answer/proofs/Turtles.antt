@@ -19,7 +19,7 @@ use Rattle.ttl_write.specs.Text.{turtle_text}
 use Rattle.owl_answer.specs.Outcome.{IsLimited, IsSuccess, Outcome, too_long_output}
 use Rattle.owl_answer.specs.Refusals.{two_kinds, undeclared, unsayable}
 use Rattle.owl_answer.specs.Typing.{IsFirstUntyped}
-use Rattle.owl_answer.specs.TurtleOutcome.{HasNoClash, IsFormTold, IsGraphTold, IsToldBack, IsTold, IsTurtleTranslation, IsTyped, ReadsGraph, clashes, few, graph_translation, light, ready, turtle_form, unsaid, untyped}
+use Rattle.owl_answer.specs.TurtleOutcome.{HasNoClash, IsFormTold, IsGraphTold, IsToldBack, IsTold, IsTurtleTranslation, IsTyped, ReadsGraph, canonical_said, clashes, few, graph_translation, heavy, light, many, ready, too_heavy_output, too_many_triples, turtle_form, unsaid, untyped}
 use Rattle.owl_answer.proofs.Wanting.{passed}
 
 -- what is refused isn't read back
@@ -35,6 +35,12 @@ long_told form absorbed prefixes graph outcome p g l e = record {
 pub few_told : (form : Said) (absorbed : ℕ) (graph : List Triple) (outcome : Outcome) → graph ≡ graph_of form.ontology → IsGraph graph → IsToldBack (IsLimited (λ (wanted : Outcome). wanted ≡ graph_translation form absorbed)) form outcome → IsToldBack (IsFormTold form absorbed) form outcome
 few_told form absorbed graph outcome e g h = record { is = few (subst (λ (triples : List Triple). length triples ≤ most_triples) e g.few) h.is; back = h.back }
 
+pub many_told : (form : Said) (absorbed : ℕ) (outcome : Outcome) → most_triples < length (graph_of form.ontology) → outcome ≡ too_many_triples → IsToldBack (IsFormTold form absorbed) form outcome
+many_told form absorbed outcome l e = record { is = many l e; back = unread too_many_triples outcome form e (λ s. s) }
+
+pub heavy_told : (main : Said) (outcome : Outcome) → heaviest < ontology_weight (normal_form main.ontology) → outcome ≡ too_heavy_output → IsToldBack (IsGraphTold main) (turtle_form main) outcome
+heavy_told main outcome l e = record { is = heavy l e; back = unread too_heavy_output outcome (turtle_form main) e (λ s. s) }
+
 pub light_told : (main : Said) (form : Document) (absorbed : ℕ) (outcome : Outcome) → ontology_of form ≡ normal_form main.ontology → form.prefixes ≡ main.prefixes → absorbed ≡ absorbed_count main.ontology → ontology_weight (normal_form main.ontology) ≤ heaviest → IsToldBack (IsFormTold (said_of form) absorbed) (said_of form) outcome → IsToldBack (IsGraphTold main) (turtle_form main) outcome
 light_told main form absorbed outcome o p a l h =
     let same : said_of form ≡ turtle_form main = λ i. record { prefixes = p i; ontology = o i } in
@@ -43,19 +49,19 @@ light_told main form absorbed outcome o p a l h =
       back = λ s. subst (ReadsGraph outcome.text) same (h.back s);
     }
 
-module _ (kinds : List Entity) (main : Said) (outcome : Outcome) where
-  pub clash_told : (iri : List ℕ) → IsFirstClash kinds iri → outcome ≡ two_kinds iri → IsToldBack (IsTold kinds main) (turtle_form main) outcome
-  clash_told iri h e = record { is = clashes iri h e; back = unread (two_kinds iri) outcome (turtle_form main) e (λ s. s) }
+-- a document in canonical form
+module _ (kinds : List Entity) (main : Said) (form : canonical_ontology main.ontology ≡ main.ontology) (outcome : Outcome) where
+  in_form : IsToldBack (IsTold kinds main) (turtle_form main) outcome → IsToldBack (IsTurtleTranslation kinds main) (turtle_form (canonical_said main)) outcome
+  in_form h = subst (λ (said : Said). IsToldBack (IsTold kinds said) (turtle_form said) outcome) (λ i. record { prefixes = main.prefixes; ontology = sym form i }) h
 
-  pub untyped_told : HasNoClash kinds → (part : Part) (entity : Entity) → IsFirstUntyped kinds main.ontology part entity → outcome ≡ undeclared part entity → IsToldBack (IsTold kinds main) (turtle_form main) outcome
-  untyped_told apart part entity h e = record { is = untyped apart part entity h e; back = unread (undeclared part entity) outcome (turtle_form main) e (λ s. s) }
+  pub clash_told : (iri : List ℕ) → IsFirstClash kinds iri → outcome ≡ two_kinds iri → IsToldBack (IsTurtleTranslation kinds main) (turtle_form (canonical_said main)) outcome
+  clash_told iri h e = in_form (record { is = clashes iri h e; back = unread (two_kinds iri) outcome (turtle_form main) e (λ s. s) })
 
-  pub unsaid_told : IsTyped kinds main.ontology → (part : Part) (why : Objection) → IsFirstUnsayable main.ontology part why → outcome ≡ unsayable part why → IsToldBack (IsTold kinds main) (turtle_form main) outcome
-  unsaid_told typed part why h e = record { is = unsaid typed part why h e; back = unread (unsayable part why) outcome (turtle_form main) e (λ s. s) }
+  pub untyped_told : HasNoClash kinds → (part : Part) (entity : Entity) → IsFirstUntyped kinds main.ontology part entity → outcome ≡ undeclared part entity → IsToldBack (IsTurtleTranslation kinds main) (turtle_form (canonical_said main)) outcome
+  untyped_told apart part entity h e = in_form (record { is = untyped apart part entity h e; back = unread (undeclared part entity) outcome (turtle_form main) e (λ s. s) })
 
-  pub ready_told : IsTyped kinds main.ontology → CanSayAll main.ontology → IsToldBack (IsGraphTold main) (turtle_form main) outcome → IsToldBack (IsTold kinds main) (turtle_form main) outcome
-  ready_told t said h = record { is = ready (record { typed = t; sayable = said }) h.is; back = h.back }
+  pub unsaid_told : IsTyped kinds main.ontology → (part : Part) (why : Objection) → IsFirstUnsayable main.ontology part why → outcome ≡ unsayable part why → IsToldBack (IsTurtleTranslation kinds main) (turtle_form (canonical_said main)) outcome
+  unsaid_told typed part why h e = in_form (record { is = unsaid typed part why h e; back = unread (unsayable part why) outcome (turtle_form main) e (λ s. s) })
 
-  -- in canonical form
-  pub canonical_told : canonical_ontology main.ontology ≡ main.ontology → IsToldBack (IsTold kinds main) (turtle_form main) outcome → IsTurtleTranslation kinds main outcome
-  canonical_told e h = subst (λ (said : Said). IsTold kinds said outcome) (λ i. record { prefixes = main.prefixes; ontology = sym e i }) h.is
+  pub ready_told : IsTyped kinds main.ontology → CanSayAll main.ontology → IsToldBack (IsGraphTold main) (turtle_form main) outcome → IsToldBack (IsTurtleTranslation kinds main) (turtle_form (canonical_said main)) outcome
+  ready_told t said h = in_form (record { is = ready (record { typed = t; sayable = said }) h.is; back = h.back })

@@ -1,17 +1,20 @@
 -- What an answer says, apart from where it lies in memory.
-use Rattle.std.specs.Prelude.{◌≡◌, ◌++◌, ℕ, List, [], Some, IsTrue, codes, string_bytes}
+use Rattle.std.specs.Prelude.{◌≡◌, ◌++◌, ℕ, Bool, List, [], ◌∷◌, Some, IsTrue, codes, string_bytes}
 use Rattle.std.specs.List.{AllByRecursion}
 use Rattle.std.specs.Str.{encode_utf8_all}
 use Rattle.owl_tree.specs.Ontologies.{Head}
 use Rattle.owl_close.specs.Imports.{IsFirstMissing}
-use Rattle.owl_command.specs.Commands.{AsksImports, Request, names_of}
+use Rattle.owl_command.specs.Commands.{AsksImports, Request, names_of, translates}
+use Rattle.owl_command.specs.declared.command.Target.{Target as Syntax}
 use Rattle.owl_command.specs.declared.status.Status.{Status}
 use Rattle.owl_command.specs.declared.status.Status.TheVariants.{Done, No, Words, Document as NoDocument, Target, Limit, ReadFailed, WriteFailed, Memory}
 use Rattle.owl_documents.specs.Documents.{Contents, Said}
 use Rattle.owl_documents.specs.Shelves.{IsFaulty, IsFirstFaulty, Rises, Shelves}
 use Rattle.owl_documents.specs.declared.trouble.Trouble.{Trouble}
 use Rattle.owl_documents.specs.declared.trouble.Trouble.TheVariants as t
-use Rattle.owl_answer.specs.Outcome.{Becomes, Concludes, IsBack, IsReadBack, IsSettled, IsSuccess, IsTheOutcome, LineFor, Outcome, refusal_outcome, refused}
+use Rattle.owl_answer.specs.Outcome.{IsSettled, IsSuccess, IsTheOutcome, Outcome, refusal_outcome, refused}
+use Rattle.owl_answer.specs.Runs.{AnswersWith, IsTranslatedAmong, Becomes, Concludes, IsBack, IsReadBack, LineFor}
+use Rattle.owl_answer.specs.TurtleOutcome.{ReadsSaid, canonical_said, turtle_form}
 use Rattle.owl_answer.specs.declared.answer.Answer.{Answer}
 use Rattle.owl_answer.specs.declared.imports.Missing.{Missing}
 
@@ -34,13 +37,28 @@ pub record IsConclusion (request : Request) (documents : List Said) (outcome : O
   pub concludes : Concludes request documents outcome
   pub back : IsSuccess outcome.status → IsBack request documents outcome.text
 
+-- What is answered for documents whose imports are there, and the text of a translation reads back.
+pub record IsAnswer (request : Request) (documents : List Said) (outcome : Outcome) : Type 0 where
+  pub answers : AnswersWith request documents outcome
+  pub back : IsSuccess outcome.status → IsBack request documents outcome.text
+
+-- the first of these documents is translated to this syntax
+abbrev pub TranslatesFirst : Syntax → List Said → Outcome → Type 0
+TranslatesFirst target documents outcome = (partial : Bool) (names : List (List ℕ)) → IsAnswer (translates target partial names) documents outcome
+
+-- the first of these documents is translated to Turtle, and the text reads back
+abbrev pub IsFirstInTurtle : List Said → Outcome → Type 0
+IsFirstInTurtle [] outcome = ⊥
+IsFirstInTurtle (main ∷ others) outcome =
+    IsTranslatedAmong (main ∷ others) main outcome × (IsSuccess outcome.status → ReadsSaid outcome.text (turtle_form (canonical_said main)))
+
 -- the statuses that an answer may have
 abbrev pub IsFound : Status → Type 0
 IsFound Done = Unit {0}
 IsFound No = Unit {0}
 IsFound Words = ⊥
 IsFound NoDocument = Unit {0}
-IsFound Target = ⊥
+IsFound Target = Unit {0}
 IsFound Limit = Unit {0}
 IsFound ReadFailed = Unit {0}
 IsFound WriteFailed = ⊥

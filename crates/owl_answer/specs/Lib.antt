@@ -1,6 +1,7 @@
 pub mod Answers
 pub mod KindsAt
 pub mod Outcome
+pub mod Runs
 pub mod Refusals
 pub mod Summary
 pub mod TurtleOutcome

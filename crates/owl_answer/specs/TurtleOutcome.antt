@@ -7,6 +7,8 @@ use Rattle.owl_tree.specs.Ontologies.{Ontology, canonical_ontology, ontology_wei
 use Rattle.owl_doc.specs.Counts.{axiom_count}
 use Rattle.owl_writing.specs.Tables.{written_prefixes}
 use Rattle.rdf_graph.specs.Graphs.{most_triples}
+use Rattle.rdf_graph.specs.declared.triple.Triple.{Triple}
+use Rattle.rdf_nodes.specs.Statements.{Says}
 use Rattle.rdf_sayable.specs.Parts.{Part}
 use Rattle.rdf_sayable.specs.Reasons.{Objection}
 use Rattle.rdf_sayable.specs.Sayable.{CanSayAll, IsFirstUnsayable}
@@ -56,6 +58,12 @@ HasNoClash kinds = (iri : List ℕ) → HasClash kinds iri → ⊥
 pub record IsTyped (kinds : List Entity) (o : Ontology) : Type 0 where
   pub no_clash : HasNoClash kinds
   pub typed : AllAreWellTyped kinds o
+
+-- The bytes are read in Turtle to a graph that says this form, and no more, under all kinds without a clash by which it is well typed.
+pub record ReadsSaid (text : List ℕ) (form : Said) : Type 0 where
+  pub graph : List Triple
+  pub reads : ReadsTurtle text (written_prefixes form.prefixes) graph
+  pub says : (kinds : List Entity) → IsTyped kinds form.ontology → Says graph kinds form.ontology
 
 -- All is well typed and can be said in a graph.
 pub record IsReady (kinds : List Entity) (o : Ontology) : Type 0 where

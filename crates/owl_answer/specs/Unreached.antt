@@ -4,7 +4,8 @@ use Rattle.owl_close.specs.Imports.{Reaches}
 use Rattle.owl_command.specs.Commands.{Request, compares, shows, translates}
 use Rattle.owl_documents.specs.Documents.{IsSame, Said}
 use Rattle.owl_documents.specs.OneWay.{AreSame}
-use Rattle.owl_answer.specs.Outcome.{Concludes, Outcome, heads_in}
+use Rattle.owl_answer.specs.Outcome.{Outcome, heads_in}
+use Rattle.owl_answer.specs.Runs.{Concludes}
 
 -- what is asked for is of a main document
 abbrev pub IsOfMain : Request → Type 0

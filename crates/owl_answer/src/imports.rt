@@ -1,10 +1,11 @@
 //! Imports that name no document.
 
 ghost use Rattle.std.specs.Prelude.{◌≡◌, ◌<◌, IfOk, IfSome, IfNone, length, map};
-ghost use Rattle.owl_close.specs.Imports.{heads_of};
+ghost use Rattle.owl_close.specs.Imports.{AreReached, heads_of};
 ghost use Rattle.owl_command.specs.Commands.{request_of};
 ghost use Rattle.owl_documents.specs.Documents.{said_of};
-ghost use Rattle.owl_answer.specs.Outcome.{HasImports, heads_in};
+ghost use Rattle.owl_answer.specs.Outcome.{heads_in};
+ghost use Rattle.owl_answer.specs.Runs.{HasImports};
 ghost use Rattle.owl_answer.specs.Answers.{IsMissingFor};
 
 use owl_atom::Iri;
@@ -26,7 +27,7 @@ fn heads(alloc: Global, docs: &[Doc]) -> Result<Vec<Head>, NoMemory>
     ensures { IfOk result (λ heads. heads_of heads.items ≡ heads_in (map said_of docs.now)) }
 {
     let mut heads = Vec::with_capacity(alloc, docs.len())?;
-    'docs: for doc in docs {
+    for doc in docs {
         heads
             .push(doc.head().copy(alloc)?)
             .map_err(AllocError::from)?;
@@ -42,8 +43,10 @@ pub fn first_missing(
     docs: &[Doc],
 ) -> Result<Option<Missing>, NoMemory>
     requires { 0 < length docs.now }
-    ensures some { IfOk result (λ found. IfSome found (IsMissingFor (request_of command.now) (heads_in (map said_of docs.now)))) }
-    ensures none { IfOk result (λ found. IfNone found (HasImports (request_of command.now) (map said_of docs.now))) }
+    ensures some { IfOk result (λ found. IfSome found
+        (IsMissingFor (request_of command.now) (heads_in (map said_of docs.now)))) }
+    ensures none { IfOk result (λ found. IfNone found
+        (HasImports (request_of command.now) (map said_of docs.now))) }
 {
     if !command.asks_imports() {
         return Ok(None);
@@ -53,5 +56,18 @@ pub fn first_missing(
         Ok(_) => Ok(None),
         Err(CloseFault::MissingImport { document, iri }) => Ok(Some(Missing { document, iri })),
         Err(CloseFault::Memory) => Err(NoMemory),
+    }
+}
+
+/// The places of the documents that the main one reaches (Structural
+/// Specification, section 3.4). Imports that name no document lead nowhere.
+pub fn reached(alloc: Global, docs: &[Doc]) -> Result<Vec<usize>, NoMemory>
+    requires { 0 < length docs.now }
+    ensures { IfOk result (λ places. AreReached (heads_in (map said_of docs.now)) places.items) }
+{
+    let heads = heads(alloc, docs)?;
+    match closure(alloc, &heads, true) {
+        Ok(places) => Ok(places),
+        Err(CloseFault::MissingImport { .. } | CloseFault::Memory) => Err(NoMemory),
     }
 }

@@ -14,10 +14,8 @@ mod turtle;
 mod typing;
 
 pub use answer::Answer;
-pub use kinds::kinds_of;
 pub use laws::{
     equivalent_ontologies_are_typed_alike, turtle_translations_are_one,
     typing_depends_on_what_is_declared, typing_is_refused_once, unreached_documents_change_nothing,
 };
 pub use request::answer_to;
-pub use turtle::write_graph;

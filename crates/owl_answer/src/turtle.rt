@@ -1,4 +1,4 @@
-//! What is answered for a graph that a document is translated to.
+//! What is answered for a document that is translated to Turtle.
 
 ghost use Rattle.std.specs.Prelude.{◌≡◌, IfOk};
 ghost use Rattle.std.specs.Str.{encode_utf8_all};
@@ -9,13 +9,18 @@ ghost use Rattle.owl_documents.specs.Documents.{said_of};
 ghost use Rattle.rdf_mapping.specs.Graphs.{graph_of};
 ghost use Rattle.owl_answer.specs.Answers.{outcome_of};
 ghost use Rattle.owl_answer.specs.Outcome.{IsLimited, done_line};
-ghost use Rattle.owl_answer.specs.TurtleOutcome.{IsToldBack, graph_translation};
+ghost use Rattle.owl_answer.specs.TurtleOutcome.{IsFormTold, IsGraphTold, IsToldBack, IsTurtleTranslation, canonical_said, graph_translation, turtle_form};
 
 use crate::answer::{Answer, done_line, too_long_output};
+use crate::refusal::refuse_output;
+use crate::refusals::{refuse_kinds, refuse_undeclared, refuse_unsayable};
+use crate::typing::first_untyped;
 use owl_characters::{NoMemory, Text};
 use owl_command::Status;
 use owl_doc::Doc;
-use rdf_graph::Graph;
+use owl_tree::Kinds;
+use rdf_forward::{NormFault, can, forward, normal};
+use rdf_graph::{Graph, GraphFault};
 use std::alloc::Global;
 use ttl_write::{WriteFault, write};
 
@@ -36,12 +41,7 @@ fn translated(alloc: Global, form: &Doc, absorbed: u64, text: Text) -> Result<An
 }
 
 /// What is answered for a normal form, by its graph.
-pub fn write_graph(
-    alloc: Global,
-    form: &Doc,
-    absorbed: u64,
-    graph: &Graph,
-) -> Result<Answer, NoMemory>
+fn write_graph(alloc: Global, form: &Doc, absorbed: u64, graph: &Graph) -> Result<Answer, NoMemory>
     requires { graph.now ≡ graph_of (ontology_of form.now) }
     ensures { IfOk result (λ answer.
         IsToldBack (IsLimited (λ wanted. wanted ≡ graph_translation (said_of form.now) absorbed))
@@ -52,4 +52,53 @@ pub fn write_graph(
         Err(WriteFault::TooLong) => too_long_output(alloc),
         Err(WriteFault::Memory) => Err(NoMemory),
     }
+}
+
+/// What is answered for a normal form with this number of absorbed axioms.
+fn translate_form(alloc: Global, form: &Doc, absorbed: u64) -> Result<Answer, NoMemory>
+    ensures { IfOk result (λ answer. IsToldBack (IsFormTold (said_of form.now) absorbed)
+        (said_of form.now) (outcome_of answer)) }
+{
+    match forward(alloc, form) {
+        Ok(graph) => {
+            // A graph has no more than 2^24 triples.
+            graph.len();
+            write_graph(alloc, form, absorbed, &graph)
+        }
+        Err(GraphFault::TooMany) => refuse_output(alloc, "Triples"),
+        Err(GraphFault::Memory) => Err(NoMemory),
+    }
+}
+
+/// What is answered for a document of which a graph can say all.
+fn translate_sayable(alloc: Global, doc: &Doc) -> Result<Answer, NoMemory>
+    ensures { IfOk result (λ answer. IsToldBack (IsGraphTold (said_of doc.now))
+        (turtle_form (said_of doc.now)) (outcome_of answer)) }
+{
+    match normal(alloc, doc) {
+        Ok((form, absorbed)) => translate_form(alloc, &form, absorbed),
+        Err(NormFault::TooHeavy) => refuse_output(alloc, "Weight"),
+        Err(NormFault::Memory) => Err(NoMemory),
+    }
+}
+
+/// What is answered for a document that is translated to Turtle, under the
+/// kinds of its imports closure: the first refusal that there is cause for, or
+/// the text of the graph of its normal form, which reads back to this graph.
+pub fn translate_to_turtle(alloc: Global, doc: &Doc, kinds: &Kinds) -> Result<Answer, NoMemory>
+    ensures { IfOk result (λ answer. IsToldBack (IsTurtleTranslation kinds.now (said_of doc.now))
+        (turtle_form (canonical_said (said_of doc.now))) (outcome_of answer)) }
+{
+    // A document is in canonical form.
+    doc.notes();
+    if let Some(iri) = kinds.clash() {
+        return refuse_kinds(alloc, iri);
+    }
+    if let Some(untyped) = first_untyped(doc, kinds) {
+        return refuse_undeclared(alloc, doc, &untyped);
+    }
+    if let Some(cant) = can(doc) {
+        return refuse_unsayable(alloc, doc, &cant);
+    }
+    translate_sayable(alloc, doc)
 }

@@ -2,11 +2,12 @@ use Rattle.std.proofs.Common.{Option, IfSome, IfNone, map, subst}
 use Rattle.std.proofs.lemmas.Result.{IfOk-weaker}
 use Rattle.owl_command.specs.Commands.{request_of}
 use Rattle.owl_documents.specs.Documents.{said_of}
-use Rattle.owl_answer.specs.Outcome.{HasImports, has_imports, heads_in}
+use Rattle.owl_answer.specs.Outcome.{heads_in}
+use Rattle.owl_answer.specs.Runs.{HasImports, has_imports}
 use Rattle.owl_answer.specs.Answers.{IsMissingFor, outcome_of}
 use Rattle.owl_answer.specs.declared.imports.Missing.{Missing}
 use Rattle.owl_answer.specs.declared.answer.Answer.{Answer}
-use Rattle.owl_answer.proofs.Wanting.{from_both, import_conclusion}
+use Rattle.owl_answer.proofs.Wanting.{import_conclusion}
 use Rattle.owl_answer.proofs.conclusion.conclude.Goals as goal
 
 pub returns-in-Some : goal.returns-in-Some
@@ -15,4 +16,4 @@ returns-in-Some c =
 
 pub returns-in-None : goal.returns-in-None
 returns-in-None c =
-    from_both c.answer_wanted.result _ _ _ (λ (a : Answer) w b. record { concludes = has_imports (subst (λ (found : Option Missing). IfNone found (HasImports (request_of c.args.command.now) (map said_of c.args.docs.now))) c.in-None.is c.in_ok-missing.ensures.none) w; back = b }) c.answer_wanted.ensures.wanted c.answer_wanted.ensures.back
+    IfOk-weaker c.answer_wanted.result _ _ (λ (a : Answer) w. record { concludes = has_imports (subst (λ (found : Option Missing). IfNone found (HasImports (request_of c.args.command.now) (map said_of c.args.docs.now))) c.in-None.is c.in_ok-missing.ensures.none) w.answers; back = w.back }) c.answer_wanted.ensures

@@ -4,5 +4,5 @@ use Rattle.owl_documents.specs.Documents.{said_of}
 use Rattle.owl_answer.specs.Outcome.{heads_in}
 use Rattle.owl_answer.proofs.imports.heads.Given as goal
 
-abbrev pub invariant-docs : goal.invariant-docs
-invariant-docs l = heads_of l.heads.items ≡ heads_in (map said_of (take l.doc-index l.docs))
+abbrev pub invariant-loop-doc : goal.invariant-loop-doc
+invariant-loop-doc l = heads_of l.heads.items ≡ heads_in (map said_of (take l.doc-index l.docs))

@@ -1,0 +1,169 @@
+-- What a run answers, for its words and the contents of its documents.
+use Rattle.std.specs.Prelude.{◌≡◌, ◌≢◌, ℕ, Some, List, [], ◌∷◌, ◌++◌, slice_get, take, codes}
+use Rattle.owl_kind.specs.Kinds.{Entity}
+use Rattle.owl_close.specs.Imports.{IsFirstMissing, MissesNone}
+use Rattle.fss_terms.specs.Functional.{ReadsFunctional}
+use Rattle.owl_reader.specs.declared.fault.ReadFault.TheVariants as read
+use Rattle.rdf_sayable.specs.Parts.{Part}
+use Rattle.rdf_sayable.specs.Reasons.{Objection}
+use Rattle.owl_command.specs.Commands.{AsksImports, Asks, HasNoCommand, IsAmong, Request, translates, shows, compares, names_of}
+use Rattle.owl_command.specs.declared.command.Target.{Target as Syntax}
+use Rattle.owl_command.specs.declared.command.Target.TheVariants.{Fss, Ttl}
+use Rattle.owl_command.specs.declared.status.Status.{Status}
+use Rattle.owl_command.specs.declared.status.Status.TheVariants.{Done, No, Words, Document as NoDocument, Limit, ReadFailed, WriteFailed, Memory}
+use Rattle.owl_documents.specs.Documents.{AreRead, Contents, IsFirstRefused, Said}
+use Rattle.owl_documents.specs.declared.trouble.Refusal.{Refusal}
+use Rattle.owl_documents.specs.declared.trouble.Refusal.TheVariants.{Unreadable}
+use Rattle.owl_answer.specs.KindsAt.{AreClosureKinds}
+use Rattle.owl_answer.specs.Outcome.{IsComparison, IsLimited, IsSettled, IsSuccess, IsTheOutcome, Outcome, done_line, functional_form, heads_in, missing_import, refusal_outcome, refused, shown, too_long_output, translation}
+use Rattle.owl_answer.specs.Refusals.{two_kinds, undeclared, unsayable}
+use Rattle.owl_answer.specs.TurtleOutcome.{IsTurtleTranslation, ReadsSaid, canonical_said, too_heavy_output, too_many_triples, turtle_form}
+
+-- The normal form that a syntax has for what a document says.
+abbrev pub normal_form : Syntax → Said → Said
+normal_form Fss said = functional_form said
+normal_form Ttl said = turtle_form (canonical_said said)
+
+-- where each import has to be there, it is
+abbrev pub HasImports : Request → List Said → Type 0
+HasImports request documents = AsksImports request → MissesNone (heads_in documents)
+
+-- The first document is translated to Turtle, under the kinds that the documents declare which it reaches.
+pub record IsTranslatedAmong (documents : List Said) (main : Said) (outcome : Outcome) : Type 0 where
+  pub kinds : List Entity
+  pub are : AreClosureKinds documents kinds
+  pub translation : IsTurtleTranslation kinds main outcome
+
+-- what becomes of the first of the documents where it is translated
+abbrev pub IsTranslation : Syntax → List Said → Said → Outcome → Type 0
+IsTranslation Fss documents main outcome = IsLimited (λ wanted. wanted ≡ translation main) outcome
+IsTranslation Ttl documents main outcome = IsTranslatedAmong documents main outcome
+
+-- What becomes of documents whose imports are there: of the first of them, or of two.
+abbrev pub AnswersWith : Request → List Said → Outcome → Type 0
+AnswersWith (translates target partial names) (main ∷ others) outcome = IsTranslation target (main ∷ others) main outcome
+AnswersWith (shows partial names) (main ∷ others) outcome = IsLimited (λ wanted. wanted ≡ shown main) outcome
+AnswersWith (compares first second) (a ∷ b ∷ []) outcome = IsLimited (IsComparison a b) outcome
+AnswersWith request documents outcome = ⊥
+
+-- What becomes of documents that are read: the first condition that fails, or what is answered.
+pub data Concludes (request : Request) (documents : List Said) (outcome : Outcome) : Type 0 where
+  misses_import : AsksImports request → (place : ℕ) (iri name : List ℕ) → IsFirstMissing (heads_in documents) place iri → slice_get (names_of request) place ≡ Some name → outcome ≡ missing_import name iri → Concludes request documents outcome
+  has_imports : HasImports request documents → AnswersWith request documents outcome → Concludes request documents outcome
+
+-- What becomes of what is asked for, with these contents. Each document is read before imports are looked at.
+pub data Becomes (contents : Contents) (request : Request) (outcome : Outcome) : Type 0 where
+  not_read : (name : List ℕ) (refusal : Refusal) → IsFirstRefused contents (names_of request) name refusal → outcome ≡ refusal_outcome name refusal → Becomes contents request outcome
+  all_read : (documents : List Said) → AreRead contents (names_of request) documents → Concludes request documents outcome → Becomes contents request outcome
+
+-- What a run answers: the words have no command, or they ask for something and the contents have what is looked at.
+pub data IsOutcome (words : List (List ℕ)) (contents : Contents) (outcome : Outcome) : Type 0 where
+  no_command : HasNoCommand words → outcome ≡ refused Words (codes "words\n") → IsOutcome words contents outcome
+  of_request : (request : Request) → Asks words request → Becomes contents request outcome → IsOutcome words contents outcome
+
+-- the line of a success
+abbrev pub SuccessLine : Request → Status → List ℕ → Type 0
+SuccessLine (translates target partial names) Done line = (axioms absorbed : ℕ) × (line ≡ done_line axioms absorbed)
+SuccessLine (shows partial names) Done line = line ≡ codes "shown\n"
+SuccessLine (compares first second) Done line = line ≡ codes "same\n"
+SuccessLine (compares first second) No line = line ≡ codes "different\n"
+SuccessLine request status line = ⊥
+
+-- The lines that one of the documents is refused with.
+pub data IsRefusalLine (name : List ℕ) (status : Status) (line : List ℕ) : Type 0 where
+  of_bytes : (refusal : Refusal) → refusal ≢ Unreadable read.Memory → status ≡ (refusal_outcome name refusal).status → line ≡ (refusal_outcome name refusal).line → IsRefusalLine name status line
+  of_import : (iri : List ℕ) → status ≡ NoDocument → line ≡ (missing_import name iri).line → IsRefusalLine name status line
+
+-- The ways in which a translation to Turtle is refused.
+pub data IsTurtleRefusal : Outcome → Type 0 where
+  of_two_kinds : (iri : List ℕ) → IsTurtleRefusal (two_kinds iri)
+  of_undeclared : (part : Part) (e : Entity) → IsTurtleRefusal (undeclared part e)
+  of_unsayable : (part : Part) (why : Objection) → IsTurtleRefusal (unsayable part why)
+  of_weight : IsTurtleRefusal too_heavy_output
+  of_triples : IsTurtleRefusal too_many_triples
+
+-- a translation to Turtle
+abbrev pub AsksTurtle : Request → Type 0
+AsksTurtle (translates Fss partial names) = ⊥
+AsksTurtle (translates Ttl partial names) = Unit {0}
+AsksTurtle (shows partial names) = ⊥
+AsksTurtle (compares first second) = ⊥
+
+-- The lines of a status for what is asked for. A read fault names a document that has this cause.
+pub data LineFor (request : Request) (IsCause : List ℕ → Type 0) (status : Status) (line : List ℕ) : Type 0 where
+  of_success : SuccessLine request status line → LineFor request IsCause status line
+  of_refusal : (name : List ℕ) → IsAmong (names_of request) name → IsRefusalLine name status line → LineFor request IsCause status line
+  of_turtle : AsksTurtle request → (refusal : Outcome) → IsTurtleRefusal refusal → status ≡ refusal.status → line ≡ refusal.line → LineFor request IsCause status line
+  of_output : status ≡ Limit → line ≡ too_long_output.line → LineFor request IsCause status line
+  of_read_fault : (name : List ℕ) → IsCause name → status ≡ ReadFailed → line ≡ codes "read: " ++ (name ++ codes "\n") → LineFor request IsCause status line
+  of_write_fault : status ≡ WriteFailed → line ≡ codes "write\n" → LineFor request IsCause status line
+  of_no_memory : status ≡ Memory → line ≡ codes "memory\n" → LineFor request IsCause status line
+
+-- the lines of a status, for these words
+pub data IsLine (words : List (List ℕ)) (IsCause : Request → List ℕ → Type 0) (status : Status) (line : List ℕ) : Type 0 where
+  of_words : HasNoCommand words → status ≡ Words → line ≡ codes "words\n" → IsLine words IsCause status line
+  of_memory : status ≡ Memory → line ≡ codes "memory\n" → IsLine words IsCause status line
+  of_asked : (request : Request) → Asks words request → LineFor request (IsCause request) status line → IsLine words IsCause status line
+
+-- the bytes are this in a syntax
+abbrev pub ReadsIn : Syntax → List ℕ → Said → Type 0
+ReadsIn Fss text said = ReadsFunctional text said.prefixes said.ontology
+ReadsIn Ttl text said = ReadsSaid text said
+
+-- the text of a translation reads back to the normal form of the main document
+abbrev pub IsBack : Request → List Said → List ℕ → Type 0
+IsBack (translates target partial names) (main ∷ others) text = ReadsIn target text (normal_form target main)
+IsBack (translates target partial names) [] text = ⊥
+IsBack (shows partial names) documents text = Unit {0}
+IsBack (compares first second) documents text = Unit {0}
+
+-- The documents are read, and the text of a translation reads back to the main one's normal form.
+pub record IsReadBack (contents : Contents) (request : Request) (text : List ℕ) : Type 0 where
+  pub documents : List Said
+  pub read : AreRead contents (names_of request) documents
+  pub back : IsBack request documents text
+
+-- The text of the answer follows what was there. A translation reads back to the same ontology.
+pub record IsWritten (words : List (List ℕ)) (contents : Contents) (status : Status) (before after : List ℕ) : Type 0 where
+  pub outcome : Outcome
+  pub is : IsTheOutcome (IsOutcome words contents) outcome
+  pub told : status ≡ outcome.status
+  pub written : after ≡ before ++ outcome.text
+  pub request : Request
+  pub asks : Asks words request
+  pub back : IsReadBack contents request outcome.text
+
+-- A front of the text of a success follows what was there.
+pub record IsFrontWritten (IsOne : Outcome → Type 0) (before after : List ℕ) : Type 0 where
+  pub outcome : Outcome
+  pub is : IsTheOutcome IsOne outcome
+  pub success : IsSuccess outcome.status
+  pub count : ℕ
+  pub written : after ≡ before ++ take count outcome.text
+
+-- The line of a status follows what was there. Where the outcome is known and neither a device failed nor memory ran
+-- out, it is the outcome's.
+pub record IsNoted (Line : List ℕ → Type 0) (IsOne : Outcome → Type 0) (status : Status) (before after : List ℕ) : Type 0 where
+  pub line : List ℕ
+  pub is : Line line
+  pub noted : after ≡ before ++ line
+  pub told : IsSettled status → (outcome : Outcome) × IsTheOutcome IsOne outcome × (status ≡ outcome.status) × (line ≡ outcome.line)
+
+-- A front of this line follows what was there.
+pub record IsFrontOfNote (Line : List ℕ → Type 0) (IsOne : Outcome → Type 0) (status : Status) (before after : List ℕ) : Type 0 where
+  pub line : List ℕ
+  pub whole : IsNoted Line IsOne status before (before ++ line)
+  pub count : ℕ
+  pub noted : after ≡ before ++ take count line
+
+-- The same, where only the lines of the status are known.
+pub record IsNotedAlone (Line : List ℕ → Type 0) (before after : List ℕ) : Type 0 where
+  pub line : List ℕ
+  pub is : Line line
+  pub noted : after ≡ before ++ line
+
+pub record IsFrontNoted (Line : List ℕ → Type 0) (before after : List ℕ) : Type 0 where
+  pub line : List ℕ
+  pub is : Line line
+  pub count : ℕ
+  pub noted : after ≡ before ++ take count line
