@@ -4,13 +4,13 @@ use Rattle.owl_reader.specs.declared.fault.ReadFault.TheVariants as read
 use Rattle.owl_documents.specs.declared.trouble.Refusal.{Refusal}
 use Rattle.owl_documents.specs.declared.trouble.Refusal.TheVariants.{DocumentBytes, AllBytes, Unreadable}
 use Rattle.owl_command.specs.Commands.{Request, translates, shows, compares}
-use Rattle.owl_answer.specs.Outcome.{IsRefusalLine, LineFor, SuccessLine, of_bytes, of_import, of_no_memory, of_output, of_read_fault, of_refusal, of_success, of_write_fault, refusal_outcome}
-use Rattle.owl_command.specs.declared.command.Target.TheVariants.{Fss}
+use Rattle.owl_answer.specs.Outcome.{Outcome, refusal_outcome}
+use Rattle.owl_answer.specs.Runs.{IsRefusalLine, IsTurtleRefusal, LineFor, SuccessLine, of_bytes, of_import, of_no_memory, of_output, of_read_fault, of_refusal, of_success, of_triples, of_turtle, of_two_kinds, of_undeclared, of_unsayable, of_weight, of_write_fault}
 use Rattle.owl_command.specs.declared.status.Status.TheVariants.{ReadFailed}
 
 -- the line of a read fault names a document with its cause
 no_success : (request : Request) (line : List ℕ) → SuccessLine request ReadFailed line → ⊥
-no_success (translates Fss partial names) line s = s
+no_success (translates target partial names) line s = s
 no_success (shows partial names) line s = s
 no_success (compares first second) line s = s
 
@@ -29,9 +29,17 @@ no_refusal_line : (name : List ℕ) (line : List ℕ) → IsRefusalLine name Rea
 no_refusal_line name line (of_bytes refusal n e l) = no_refusal name refusal n e
 no_refusal_line name line (of_import iri e l) = cc
 
+no_turtle : (refusal : Outcome) → IsTurtleRefusal refusal → ReadFailed ≡ refusal.status → ⊥
+no_turtle _ (of_two_kinds iri) e = cc
+no_turtle _ (of_undeclared part entity) e = cc
+no_turtle _ (of_unsayable part why) e = cc
+no_turtle _ of_weight e = cc
+no_turtle _ of_triples e = cc
+
 pub fault_in : (request : Request) (IsCause : List ℕ → Type 0) (line : List ℕ) → LineFor request IsCause ReadFailed line → (name : List ℕ) × IsCause name
 fault_in request IsCause line (of_success s) = absurd (no_success request line s)
 fault_in request IsCause line (of_refusal name among r) = absurd (no_refusal_line name line r)
+fault_in request IsCause line (of_turtle asks refusal h e l) = absurd (no_turtle refusal h e)
 fault_in request IsCause line (of_output e l) = absurd (cc)
 fault_in request IsCause line (of_read_fault name h e l) = (name, h)
 fault_in request IsCause line (of_write_fault e l) = absurd (cc)

@@ -5,7 +5,8 @@ use Rattle.std.proofs.lemmas.List.{append-nil}
 use Rattle.std.proofs.Math.Seq.{take-length}
 use Rattle.owl_command.specs.Commands.{Asks, HasNoCommand, IsAmong, Name, Request, names_of}
 use Rattle.owl_documents.specs.Shelves.{IsFaulty, IsFirstFaulty, IsFrontTaken, IsTaken, Rises, Shelves}
-use Rattle.owl_answer.specs.Outcome.{Becomes, IsFrontNoted, IsFrontOfNote, IsFrontWritten, IsLine, IsNoted, IsNotedAlone, IsOutcome, IsQuiet, IsSettled, IsSuccess, IsTheOutcome, IsWritten, LineFor, Outcome, of_asked, of_memory, of_words, of_write_fault, refused}
+use Rattle.owl_answer.specs.Outcome.{IsQuiet, IsSettled, IsSuccess, IsTheOutcome, Outcome, refused}
+use Rattle.owl_answer.specs.Runs.{Becomes, IsFrontNoted, IsFrontOfNote, IsFrontWritten, IsLine, IsNoted, IsNotedAlone, IsOutcome, IsWritten, LineFor, of_asked, of_memory, of_words, of_write_fault}
 use Rattle.owl_answer.specs.Answers.{HasNoText, IsAnswered, IsFound, IsWrittenFor, delivered_line}
 use Rattle.owl_command.specs.declared.status.Status.{Status}
 use Rattle.owl_command.specs.declared.status.Status.TheVariants.{Done, No, Words, Document as NoDocument, Target, Limit, ReadFailed, WriteFailed, Memory}
@@ -57,7 +58,7 @@ found_line outcome Done h = refl
 found_line outcome No h = refl
 found_line outcome Words h = absurd h
 found_line outcome NoDocument h = refl
-found_line outcome Target h = absurd h
+found_line outcome Target h = refl
 found_line outcome Limit h = refl
 found_line outcome ReadFailed h = refl
 found_line outcome WriteFailed h = absurd h

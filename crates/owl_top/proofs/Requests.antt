@@ -3,7 +3,8 @@ use Rattle.std.proofs.Common.{◌≡◌, ℕ, List, codes, refl, sym, subst}
 use Rattle.owl_command.specs.Commands.{Asks, HasNoCommand, Request}
 use Rattle.owl_command.specs.CommandsLaws.{asks_once}
 use Rattle.owl_documents.specs.Documents.{Contents}
-use Rattle.owl_answer.specs.Outcome.{Becomes, IsOutcome, IsTheOutcome, Outcome, no_command, of_request, refused}
+use Rattle.owl_answer.specs.Outcome.{IsTheOutcome, Outcome, refused}
+use Rattle.owl_answer.specs.Runs.{Becomes, IsOutcome, no_command, of_request}
 use Rattle.owl_command.specs.declared.status.Status.TheVariants.{Words}
 
 module _ (words : List (List ℕ)) (contents : Contents) where

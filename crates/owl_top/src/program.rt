@@ -5,7 +5,8 @@ ghost use Rattle.std.specs.List.{AllByRecursion};
 ghost use Rattle.owl_port.specs.Outside.{Rose};
 ghost use Rattle.owl_command.specs.Commands.{AreNames, Asks, HasNoCommand, Name, Request, names_of, request_of};
 ghost use Rattle.owl_documents.specs.Shelves.{IsFaulty, IsFirstFaulty, IsFrontTaken, IsTaken};
-ghost use Rattle.owl_answer.specs.Outcome.{Becomes, IsFrontNoted, IsFrontOfNote, IsFrontWritten, IsLine, IsNoted, IsNotedAlone, IsOutcome, IsQuiet, IsReadBack, IsSettled, IsSuccess, IsTheOutcome, IsWritten, LineFor, Outcome};
+ghost use Rattle.owl_answer.specs.Outcome.{IsQuiet, IsSettled, IsSuccess, IsTheOutcome, Outcome};
+ghost use Rattle.owl_answer.specs.Runs.{Becomes, IsFrontNoted, IsFrontOfNote, IsFrontWritten, IsLine, IsNoted, IsNotedAlone, IsOutcome, IsReadBack, IsWritten, LineFor};
 ghost use Rattle.owl_answer.specs.Answers.{IsProper, IsWrittenFor, delivered_line, outcome_of};
 
 use owl_answer::{Answer, answer_to};
@@ -101,11 +102,12 @@ fn obey<S: Shelf, O: Sink, N: Sink>(
 /// `out` and one line to `note`.
 ///
 /// The line of a status is `translated; axioms A; absorbed K`, `shown` or `same` for `Done`, `different` for `No`, `words`
-/// for `Words`, `NAME: item at ITEM: REASON at AT` or `NAME: MissingImport <IRI>` for `Document`, `limit: COUNT: NAME` or
-/// `limit: OutputBytes: output` for `Limit`, `read: NAME` for `ReadFailed`, `write` for `WriteFailed` and `memory` for
-/// `Memory`. Each document that the words name is read, in their order, and the first that can't be is refused by its first
-/// defect; then imports are looked at, of the main document and of those that it reaches. A fault of `note` changes no
-/// status.
+/// for `Words`, `NAME: item at ITEM: REASON at AT` or `NAME: MissingImport <IRI>` for `Document`, `typing: TwoKinds <IRI>`,
+/// `typing: Undeclared KIND <IRI>: ITEM` or `target: WHY: ITEM` for `Target`, `limit: COUNT: NAME` or `limit: COUNT: output`
+/// for `Limit`, `read: NAME` for `ReadFailed`, `write` for `WriteFailed` and `memory` for `Memory`. Each document that the
+/// words name is read, in their order, and the first that can't be is refused by its first defect; then imports are looked
+/// at, of the main document and of those that it reaches; then, for Turtle, whether all is well typed and can be said. A fault
+/// of `note` changes no status.
 pub fn run<S: Shelf, O: Sink, N: Sink>(
     alloc: Global,
     words: &[String],
