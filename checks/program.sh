@@ -100,6 +100,7 @@ lost=$(times 120 lost).ofn
 printf 'Prefix(:=<http://e/>) Ontology(<http://e/o> <http://e/v> SubClassOf(:A :B) Declaration(Class(:A)))' >a.ofn
 printf '\357\273\277Prefix(e:=<http://e/>)\nOntology(e:o e:v # the same\n Declaration(Class(e:A)) SubClassOf(e:A e:B) SubClassOf(e:A e:B))\n' >b.ofn
 printf 'Prefix(:=<http://e/>) Ontology(<http://e/o> <http://e/v> SubClassOf(:B :A) Declaration(Class(:A)))' >c.ofn
+printf 'Ontology(Declaration(Class(owl:Class)))' >reserved.ofn
 printf 'Ontology(<http://e/o> SubClassOf(<http://e/A>))' >wrong.ofn
 printf 'Ontology(\377)' >bytes.ofn
 printf 'Ontology(Import(<http://e/i>))' >import.ofn
@@ -134,6 +135,15 @@ call 'an empty ontology is translated' 0 "$nothing" "$done_line" translate --to 
 call 'the example is translated' 0 "$top/crates/owl_cli/stdout" \
     "translated; axioms $(grep -c -v -E '^(Prefix\(|Annotation\(|Ontology\(|\)$)' "$top/crates/owl_cli/stdout"); absorbed 0
 " translate --to fss instruments.ofn
+call 'an empty ontology in Turtle' 0 '@prefix owl: <http://www.w3.org/2002/07/owl#> .
+@prefix rdf: <http://www.w3.org/1999/02/22-rdf-syntax-ns#> .
+@prefix rdfs: <http://www.w3.org/2000/01/rdf-schema#> .
+@prefix xsd: <http://www.w3.org/2001/XMLSchema#> .
+_:gen1 rdf:type owl:Ontology .
+' "$done_line" translate --to ttl m.ofn
+python3 "$top/checks/second_mapping.py" instruments.ofn >"$room/turtle" 2>"$room/line"
+call 'the example in Turtle' 0 "$room/turtle" "$(<"$room/line")
+" translate --to ttl instruments.ofn
 call 'an ontology is shown' 0 'ontology <http://e/o>
 version <http://e/v>
 imports 0
@@ -195,6 +205,10 @@ call 'the first document is told first' 3 '' 'wrong.ofn: item at 22: NotHere at 
 ' same wrong.ofn "$lost"
 call 'the second document is wrong' 3 '' 'bytes.ofn: item at 9: BadUtf8 at 9
 ' same m.ofn bytes.ofn
+call 'a class is not declared' 4 '' 'typing: Undeclared Class <http://e/B>: SubClassOf(<http://e/A> <http://e/B>)
+' translate --to ttl a.ofn
+call 'a name is reserved' 4 '' 'target: Reserved <http://www.w3.org/2002/07/owl#Class>: Declaration(Class(<http://www.w3.org/2002/07/owl#Class>))
+' translate --to ttl reserved.ofn
 call '129 levels' 5 '' 'limit: Depth: deep.ofn
 ' translate --to fss deep.ofn
 call 'a cardinality of 2^64' 5 '' 'limit: Cardinality: large.ofn
