@@ -3,12 +3,14 @@
 # peak of memory: bench/run.sh [PROGRAM], bin/owl if left out. RUNS is how often
 # each document is translated, of which the best counts; 3 if it is not set. A
 # document that takes more than LIMIT seconds is told so; 120 if it is not set.
+# TARGETS are the syntaxes that each is translated to; "fss ttl" if it is not set.
 #
 # The times are those of /usr/bin/time, and K, M are thousands and millions.
 set -uo pipefail
 
 runs=${RUNS:-3}
 limit=${LIMIT:-120}
+targets=${TARGETS:-fss ttl}
 top=$(dirname -- "$(dirname -- "$(readlink -f -- "${BASH_SOURCE[0]}")")")
 room=$(mktemp -d)
 trap 'rm -rf -- "$room"' EXIT
@@ -58,6 +60,8 @@ write_long_string() {
 # One union, with its members in descending order.
 write_union() {
     write_document "$1" "$begin
+        print \"Declaration(Class(:A))\"
+        for (i = 1; i <= count; i++) printf \"Declaration(Class(:C%07d))\n\", i
         printf \"SubClassOf(:A ObjectUnionOf(\"
         for (i = count; 0 < i; i--) printf \" :C%07d\", i
         print \"))\"" -v count="$2"
@@ -76,7 +80,8 @@ write_nested() {
             outer = outer \"ObjectSomeValuesFrom(:p \"
             inner = inner \")\"
         }
-        for (i = 0; i < count; i++) printf \"SubClassOf(:A %s:C%d%s)\n\", outer, i, inner" -v count="$2"
+        print \"Declaration(Class(:A)) Declaration(ObjectProperty(:p))\"
+        for (i = 0; i < count; i++) printf \"Declaration(Class(:C%d)) SubClassOf(:A %s:C%d%s)\n\", i, outer, i, inner" -v count="$2"
 }
 
 # Prefixes, each of which shortens the name of one class.
@@ -94,11 +99,11 @@ write_strings() {
         for (i = 0; i < count; i++) printf \"AnnotationAssertion(rdfs:comment :A%d \\\"%s%010d\\\")\n\", i, filled, differ * i" -v count="$2" -v differ="$3"
 }
 
-# The seconds and kilobytes of the best of the runs.
+# The seconds and kilobytes of the best of the runs to a target.
 measure() {
     local best='' least='' seconds kilobytes
     for ((run = 0; run < runs; run++)); do
-        /usr/bin/time -f '%e %M' -o "$room/time" timeout "$limit" "$program" translate --to fss "$room/$1.ofn" >"$room/out" 2>"$room/note"
+        /usr/bin/time -f '%e %M' -o "$room/time" timeout "$limit" "$program" translate --to "$2" "$room/$1.ofn" >"$room/out" 2>"$room/note"
         case $? in
         0) ;;
         124) return ;;
@@ -113,30 +118,36 @@ measure() {
     echo "$best $least"
 }
 
-# A line for a document, with the growth since another one, if it is named.
+# A line for a document and each target, with the growth since another document, if it is named.
 show() {
-    local name=$1 before=${2:-none} seconds kilobytes
-    read -r seconds kilobytes <<<"$(measure "$name")"
+    local target
+    for target in $targets; do
+        show_target "$1" "$target" "${2:-none}"
+    done
+    rm -f -- "$room/$1.ofn"
+}
+
+show_target() {
+    local name=$1 target=$2 before=$3 seconds kilobytes
+    read -r seconds kilobytes <<<"$(measure "$name" "$target")"
     if [[ -z $seconds ]]; then
-        printf '%-32s not within %d s\n' "$name" "$limit"
-        rm -f -- "$room/$name.ofn"
+        printf '%-26s %s not within %d s\n' "$name" "$target" "$limit"
         return
     fi
-    results[$name]="$seconds $kilobytes"
-    awk -v name="$name" -v bytes="$(stat -c %s "$room/$name.ofn")" -v now="$seconds $kilobytes" -v before="${results[$before]:-}" 'BEGIN {
+    results[$name $target]="$seconds $kilobytes"
+    awk -v name="$name" -v target="$target" -v bytes="$(stat -c %s "$room/$name.ofn")" -v now="$seconds $kilobytes" -v before="${results[$before $target]:-}" 'BEGIN {
         split(now, n)
-        printf "%-32s %8.1f MB %8.2f s %8.1f MB", name, bytes / 1000000, n[1], n[2] / 1000
+        printf "%-26s %s %8.1f MB %8.2f s %8.1f MB", name, target, bytes / 1000000, n[1], n[2] / 1000
         if (split(before, b) && 0 < b[1]) printf "   %6.1f times %6.1f times", n[1] / b[1], n[2] / b[2]
         print ""
     }'
-    rm -f -- "$room/$name.ofn"
 }
 
 [[ -x /usr/bin/time ]] || fail "/usr/bin/time is not there"
 program=$(readlink -f -- "${1:-$top/bin/owl}") && [[ -x $program ]] || fail "there is no program ${1:-bin/owl}"
 
-declare -A results=([none]="")
-printf '%-32s %11s %10s %11s   %12s %12s\n' document size time memory 'time grows' 'memory grows'
+declare -A results=()
+printf '%-30s %11s %10s %11s   %12s %12s\n' document size time memory 'time grows' 'memory grows'
 write_classes 'classes 1K' 1000 && show 'classes 1K'
 write_classes 'classes 20K' 20000 && show 'classes 20K' 'classes 1K'
 write_classes 'classes 200K' 200000 && show 'classes 200K' 'classes 20K'
