@@ -8,7 +8,7 @@ use Rattle.owl_tree.specs.Ontologies.{IsOntology, Ontology, canonical_list, cano
 use Rattle.owl_tree.specs.Trees.{Tree, kids_of}
 use Rattle.owl_documents.specs.Documents.{Said}
 use Rattle.rdf_mapping.specs.Graphs.{graph_of}
-use Rattle.rdf_nodes.specs.Statements.{Says}
+use Rattle.rdf_meaning.specs.Statements.{Says}
 use Rattle.rdf_normal.specs.NormalForms.{normal_form, unsettled_annotations, unsettled_axioms}
 use Rattle.rdf_normal.specs.TidiedLaws.{settled_form}
 use Rattle.rdf_sayable.specs.Parts.{of_axiom}

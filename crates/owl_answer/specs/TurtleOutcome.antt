@@ -8,7 +8,7 @@ use Rattle.owl_doc.specs.Counts.{axiom_count}
 use Rattle.owl_writing.specs.Tables.{written_prefixes}
 use Rattle.rdf_graph.specs.Graphs.{most_triples}
 use Rattle.rdf_graph.specs.declared.triple.Triple.{Triple}
-use Rattle.rdf_nodes.specs.Statements.{Says}
+use Rattle.rdf_meaning.specs.Statements.{Says}
 use Rattle.rdf_sayable.specs.Parts.{Part}
 use Rattle.rdf_sayable.specs.Reasons.{Objection}
 use Rattle.rdf_sayable.specs.Sayable.{CanSayAll, IsFirstUnsayable}

@@ -11,12 +11,12 @@ use Rattle.owl_tree.specs.Equivalence.{Agree, AgreeAsSetFrom, AgreeByPlace, IsEq
 use Rattle.owl_tree.specs.Rows.{row_of, set_start}
 use Rattle.owl_tree.specs.Tags.{number_of}
 use Rattle.owl_tree.specs.Trees.{Tree, Kids, node, no_kids, kid, kids_of, list_of}
-use Rattle.rdf_nodes.specs.declared.row.Part.{Part}
-use Rattle.rdf_nodes.specs.declared.row.Place.{Place}
-use Rattle.rdf_nodes.specs.declared.row.Want.{Want}
-use Rattle.rdf_nodes.specs.declared.row.Want.TheVariants.{One, Many, Whole, Keys, Declared, Mark, True}
-use Rattle.rdf_nodes.specs.ListLaws.{passes}
-use Rattle.rdf_nodes.specs.Rows.{Row, axiom_rows}
+use Rattle.rdf_meaning.specs.declared.row.Part.{Part}
+use Rattle.rdf_meaning.specs.declared.row.Place.{Place}
+use Rattle.rdf_meaning.specs.declared.row.Want.{Want}
+use Rattle.rdf_meaning.specs.declared.row.Want.TheVariants.{One, Many, Whole, Keys, Declared, Mark, True}
+use Rattle.rdf_meaning.specs.ListLaws.{passes}
+use Rattle.rdf_meaning.specs.Rows.{Row, axiom_rows}
 use Rattle.rdf_mapping.specs.Drawing.{fit, is_pair, kid_of, tags_of}
 use Rattle.rdf_mapping.specs.NodeDrawingLaws.{written_each}
 use Rattle.rdf_mapping.specs.Written.{doubled, given, written}

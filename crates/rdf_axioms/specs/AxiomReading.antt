@@ -10,8 +10,8 @@ use Rattle.owl_tree.specs.Ontologies.{IsAxiom}
 use Rattle.owl_tree.specs.Trees.{Tree, leaf, node, no_kids, kid, kids_of, tag_of}
 use Rattle.rdf_graph.specs.declared.term.Term.TheVariants.{Blank}
 use Rattle.rdf_graph.specs.declared.triple.Triple.{Triple}
-use Rattle.rdf_nodes.specs.Denotation.{of_node, of_triple}
-use Rattle.rdf_nodes.specs.Statements.{IsAxiomWith}
+use Rattle.rdf_meaning.specs.Denotation.{of_node, of_triple}
+use Rattle.rdf_meaning.specs.Statements.{IsAxiomWith}
 use Rattle.rdf_sayable.specs.Parts.{leaves}
 use Rattle.rdf_sayable.specs.Sayable.{AreSayable}
 use Rattle.rdf_normal.specs.AgainLaws.{IsPlain}

@@ -14,15 +14,15 @@ use Rattle.owl_tree.specs.declared.tag.Tag.TheVariants as tag
 use Rattle.owl_tree.specs.Rows.{admits, fits, fits_front, is_tag, row_of}
 use Rattle.owl_tree.specs.Rows as tree
 use Rattle.owl_tree.specs.Tags.{is_axiom, number_of}
-use Rattle.rdf_nodes.specs.declared.row.Part.{Part}
-use Rattle.rdf_nodes.specs.declared.row.Site.{Site}
-use Rattle.rdf_nodes.specs.declared.row.Site.TheVariants.{LinkedBy}
-use Rattle.rdf_nodes.specs.declared.row.Want.{Want}
-use Rattle.rdf_nodes.specs.declared.row.Want.TheVariants.{One, Many, Whole, Keys, Declared}
-use Rattle.rdf_nodes.specs.declared.word.Word.{Word}
-use Rattle.rdf_nodes.specs.ListLaws.{from_filter, only_one}
-use Rattle.rdf_nodes.specs.Rows.{Row, axiom_rows}
-use Rattle.rdf_nodes.specs.RowShapes.{ways_behind, ways_of_rows}
+use Rattle.rdf_meaning.specs.declared.row.Part.{Part}
+use Rattle.rdf_meaning.specs.declared.row.Site.{Site}
+use Rattle.rdf_meaning.specs.declared.row.Site.TheVariants.{LinkedBy}
+use Rattle.rdf_meaning.specs.declared.row.Want.{Want}
+use Rattle.rdf_meaning.specs.declared.row.Want.TheVariants.{One, Many, Whole, Keys, Declared}
+use Rattle.rdf_meaning.specs.declared.word.Word.{Word}
+use Rattle.rdf_meaning.specs.ListLaws.{from_filter, only_one}
+use Rattle.rdf_meaning.specs.Rows.{Row, axiom_rows}
+use Rattle.rdf_meaning.specs.RowShapes.{ways_behind, ways_of_rows}
 use Rattle.rdf_normal.specs.OneTriple.{lists_members}
 use Rattle.rdf_mapping.specs.Drawing.{first_row, fit, is_pair, row_for}
 use Rattle.rdf_mapping.specs.LinkedLaws.{two_parts}

@@ -8,16 +8,16 @@ use Rattle.owl_list.specs.AscendingLaws.{in_head}
 use Rattle.owl_tree.specs.declared.atom.Atom.TheVariants as atom
 use Rattle.owl_tree.specs.Trees.{Tree, leaf, node}
 use Rattle.rdf_graph.specs.declared.term.Term.TheVariants.{Blank}
-use Rattle.rdf_nodes.specs.declared.row.Part.{Part}
-use Rattle.rdf_nodes.specs.declared.row.Place.{Place}
-use Rattle.rdf_nodes.specs.declared.row.Place.TheVariants.{Subject, Predicate, Object}
-use Rattle.rdf_nodes.specs.declared.row.Site.{Site}
-use Rattle.rdf_nodes.specs.declared.row.Site.TheVariants.{TypedBy, OtherType, LinkedBy, OtherLink}
-use Rattle.rdf_nodes.specs.declared.row.Want.{Want}
-use Rattle.rdf_nodes.specs.declared.word.Word.{Word}
-use Rattle.rdf_nodes.specs.Denotation.{axiom_predicates, axiom_types}
-use Rattle.rdf_nodes.specs.Nodes.{is_iri, is_word}
-use Rattle.rdf_nodes.specs.Words.{word_iri}
+use Rattle.rdf_meaning.specs.declared.row.Part.{Part}
+use Rattle.rdf_meaning.specs.declared.row.Place.{Place}
+use Rattle.rdf_meaning.specs.declared.row.Place.TheVariants.{Subject, Predicate, Object}
+use Rattle.rdf_meaning.specs.declared.row.Site.{Site}
+use Rattle.rdf_meaning.specs.declared.row.Site.TheVariants.{TypedBy, OtherType, LinkedBy, OtherLink}
+use Rattle.rdf_meaning.specs.declared.row.Want.{Want}
+use Rattle.rdf_meaning.specs.declared.word.Word.{Word}
+use Rattle.rdf_meaning.specs.Denotation.{axiom_predicates, axiom_types}
+use Rattle.rdf_meaning.specs.Nodes.{is_iri, is_word}
+use Rattle.rdf_meaning.specs.Words.{word_iri}
 use Rattle.rdf_mapping.specs.Asides.{IsForeignForm}
 use Rattle.rdf_mapping.specs.Drawing.{linked, by_predicate, by_triple, form_of, kid_of, kids_seen, listed, node_form, placed_at}
 use Rattle.rdf_mapping.specs.Forms.{Form, twice, list_form, nodes, term_of}

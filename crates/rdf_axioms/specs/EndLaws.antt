@@ -18,16 +18,16 @@ use Rattle.owl_tree.specs.Shape.{IsShaped}
 use Rattle.owl_tree.specs.Tags.{number_of}
 use Rattle.owl_tree.specs.Trees.{Tree, leaf, node, tag_of}
 use Rattle.rdf_graph.specs.declared.term.Term.TheVariants.{Iri, Literal}
-use Rattle.rdf_nodes.specs.declared.row.Want.{Want}
-use Rattle.rdf_nodes.specs.declared.row.Want.TheVariants.{One, Many, Whole, Keys, Declared, Mark, True}
-use Rattle.rdf_nodes.specs.declared.word.Word.{Word}
-use Rattle.rdf_nodes.specs.Denotation.{kind_of_entity}
-use Rattle.rdf_nodes.specs.Kinds.{may_be_declared}
-use Rattle.rdf_nodes.specs.ListLaws.{some_passes}
-use Rattle.rdf_nodes.specs.Nodes.{is_iri, is_word}
-use Rattle.rdf_nodes.specs.Rows.{Row, node_rows}
-use Rattle.rdf_nodes.specs.WordLaws.{same_word}
-use Rattle.rdf_nodes.specs.Words.{word_iri}
+use Rattle.rdf_meaning.specs.declared.row.Want.{Want}
+use Rattle.rdf_meaning.specs.declared.row.Want.TheVariants.{One, Many, Whole, Keys, Declared, Mark, True}
+use Rattle.rdf_meaning.specs.declared.word.Word.{Word}
+use Rattle.rdf_meaning.specs.Denotation.{kind_of_entity}
+use Rattle.rdf_meaning.specs.Kinds.{may_be_declared}
+use Rattle.rdf_meaning.specs.ListLaws.{some_passes}
+use Rattle.rdf_meaning.specs.Nodes.{is_iri, is_word}
+use Rattle.rdf_meaning.specs.Rows.{Row, node_rows}
+use Rattle.rdf_meaning.specs.WordLaws.{same_word}
+use Rattle.rdf_meaning.specs.Words.{word_iri}
 use Rattle.rdf_sayable.specs.Parts.{leaves}
 use Rattle.rdf_sayable.specs.Sayable.{AreSayable}
 use Rattle.rdf_mapping.specs.Drawing.{Kid, arcs_of, facet_arcs, form_of, kids_seen, node_form, placed, row_for, tags_of}

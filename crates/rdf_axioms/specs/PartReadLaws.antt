@@ -23,14 +23,14 @@ use Rattle.owl_tree.specs.Tags.{number_of}
 use Rattle.owl_tree.specs.Trees.{Tree, Kids, leaf, node, kids_in, kids_of, list_of, tag_of}
 use Rattle.rdf_graph.specs.declared.term.Term.TheVariants.{Iri, Blank}
 use Rattle.rdf_graph.specs.declared.triple.Triple.{Triple}
-use Rattle.rdf_nodes.specs.declared.role.Role.TheVariants as role
-use Rattle.rdf_nodes.specs.declared.row.Want.{Want}
-use Rattle.rdf_nodes.specs.declared.row.Want.TheVariants.{One, Many, Whole, Keys, Declared}
-use Rattle.rdf_nodes.specs.Denotation.{AreKeys, no_key, object_key, data_key, Denotes, by_declaration, by_keys, by_whole, declared_entity, iri_leaf, kind_of_entity}
-use Rattle.rdf_nodes.specs.Kinds.{has_kind, may_be_declared}
-use Rattle.rdf_nodes.specs.KindLaws.{has_kind_is}
-use Rattle.rdf_nodes.specs.Nodes.{nil_iri, role_of}
-use Rattle.rdf_nodes.specs.Rows.{Row, node_rows}
+use Rattle.rdf_meaning.specs.declared.role.Role.TheVariants as role
+use Rattle.rdf_meaning.specs.declared.row.Want.{Want}
+use Rattle.rdf_meaning.specs.declared.row.Want.TheVariants.{One, Many, Whole, Keys, Declared}
+use Rattle.rdf_meaning.specs.Denotation.{AreKeys, no_key, object_key, data_key, Denotes, by_declaration, by_keys, by_whole, declared_entity, iri_leaf, kind_of_entity}
+use Rattle.rdf_meaning.specs.Kinds.{has_kind, may_be_declared}
+use Rattle.rdf_meaning.specs.KindLaws.{has_kind_is}
+use Rattle.rdf_meaning.specs.Nodes.{nil_iri, role_of}
+use Rattle.rdf_meaning.specs.Rows.{Row, node_rows}
 use Rattle.rdf_mapping.specs.Drawing.{Kid, form_of, forms_of, kid_of, kids_seen, listed, row_for, tags_of}
 use Rattle.rdf_mapping.specs.Forms.{Form, no_arcs, arc, blank, first_iri, list_form, nodes, rest_iri, term_of, triples}
 use Rattle.rdf_mapping.specs.FormLaws.{made_kept}

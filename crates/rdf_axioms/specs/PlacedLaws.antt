@@ -11,10 +11,10 @@ use Rattle.owl_tree.specs.declared.row.Sort.TheVariants as sort
 use Rattle.owl_tree.specs.declared.tag.Tag.{Tag}
 use Rattle.owl_tree.specs.Rows.{admits, is_tag}
 use Rattle.owl_tree.specs.Trees.{Tree, tag_of}
-use Rattle.rdf_nodes.specs.declared.row.Part.{Part}
-use Rattle.rdf_nodes.specs.declared.row.Place.{Place}
-use Rattle.rdf_nodes.specs.declared.row.Want.{Want}
-use Rattle.rdf_nodes.specs.declared.row.Want.TheVariants.{One, Many, Whole, Keys, Declared, Mark, True}
+use Rattle.rdf_meaning.specs.declared.row.Part.{Part}
+use Rattle.rdf_meaning.specs.declared.row.Place.{Place}
+use Rattle.rdf_meaning.specs.declared.row.Want.{Want}
+use Rattle.rdf_meaning.specs.declared.row.Want.TheVariants.{One, Many, Whole, Keys, Declared, Mark, True}
 use Rattle.rdf_mapping.specs.Drawing.{Kid, Placed, fit, form_of, forms_of, kid_of, listed, placed, placed_at, tags_of}
 use Rattle.rdf_mapping.specs.Forms.{Form, list_form}
 use Rattle.rdf_mapping.specs.RowDrawingLaws.{tag_seen}

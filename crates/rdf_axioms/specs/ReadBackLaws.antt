@@ -11,14 +11,14 @@ use Rattle.owl_tree.specs.Equivalence.{IsEquivalent}
 use Rattle.owl_tree.specs.Rows.{admits, is_tag}
 use Rattle.owl_tree.specs.Trees.{Tree, Kids, node, no_kids, kid, kids_of, list_of, tag_of}
 use Rattle.rdf_graph.specs.declared.triple.Triple.{Triple}
-use Rattle.rdf_nodes.specs.declared.row.Part.{Part}
-use Rattle.rdf_nodes.specs.declared.row.Site.{Site}
-use Rattle.rdf_nodes.specs.declared.row.Site.TheVariants.{Node, TypedBy, OtherType, LinkedBy, OtherLink}
-use Rattle.rdf_nodes.specs.Denotation.{of_node, axiom_predicates}
-use Rattle.rdf_nodes.specs.Nodes.{is_word}
-use Rattle.rdf_nodes.specs.Rows.{Row, axiom_rows}
-use Rattle.rdf_nodes.specs.Statements.{IsAxiomWith}
-use Rattle.rdf_nodes.specs.Words.{word_iri}
+use Rattle.rdf_meaning.specs.declared.row.Part.{Part}
+use Rattle.rdf_meaning.specs.declared.row.Site.{Site}
+use Rattle.rdf_meaning.specs.declared.row.Site.TheVariants.{Node, TypedBy, OtherType, LinkedBy, OtherLink}
+use Rattle.rdf_meaning.specs.Denotation.{of_node, axiom_predicates}
+use Rattle.rdf_meaning.specs.Nodes.{is_word}
+use Rattle.rdf_meaning.specs.Rows.{Row, axiom_rows}
+use Rattle.rdf_meaning.specs.Statements.{IsAxiomWith}
+use Rattle.rdf_meaning.specs.Words.{word_iri}
 use Rattle.rdf_mapping.specs.Drawing.{Placed, Statement, looped, arcs_of, by_kids, by_triple, fit, form_of, is_pair, kid_of, kids_seen, placed, stated, tags_of}
 use Rattle.rdf_mapping.specs.Forms.{arc_nodes, blank}
 use Rattle.rdf_mapping.specs.Frames.{AreNamedApart, IsOfNode, KeepsArcs}

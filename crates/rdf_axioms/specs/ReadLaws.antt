@@ -10,19 +10,19 @@ use Rattle.owl_tree.specs.declared.tag.Tag.{Tag}
 use Rattle.owl_tree.specs.Trees.{Tree}
 use Rattle.rdf_graph.specs.declared.term.Term.TheVariants.{Iri}
 use Rattle.rdf_graph.specs.declared.triple.Triple.{Triple}
-use Rattle.rdf_nodes.specs.declared.row.Part.{Part}
-use Rattle.rdf_nodes.specs.declared.row.Place.{Place}
-use Rattle.rdf_nodes.specs.declared.row.Place.TheVariants.{Subject, Predicate, Object}
-use Rattle.rdf_nodes.specs.declared.row.Site.{Site}
-use Rattle.rdf_nodes.specs.declared.row.Site.TheVariants.{TypedBy, OtherType, LinkedBy, OtherLink}
-use Rattle.rdf_nodes.specs.declared.row.Want.{Want}
-use Rattle.rdf_nodes.specs.declared.row.Want.TheVariants.{One}
-use Rattle.rdf_nodes.specs.declared.word.Word.{Word}
-use Rattle.rdf_nodes.specs.Denotation.{of_triple, Denotes, Holds, no_parts, part, axiom_predicates, axiom_types, site_of}
-use Rattle.rdf_nodes.specs.Nodes.{is_word, type_iri}
-use Rattle.rdf_nodes.specs.Rows.{Row, axiom_rows}
-use Rattle.rdf_nodes.specs.Statements.{IsAxiomWith}
-use Rattle.rdf_nodes.specs.Words.{word_iri}
+use Rattle.rdf_meaning.specs.declared.row.Part.{Part}
+use Rattle.rdf_meaning.specs.declared.row.Place.{Place}
+use Rattle.rdf_meaning.specs.declared.row.Place.TheVariants.{Subject, Predicate, Object}
+use Rattle.rdf_meaning.specs.declared.row.Site.{Site}
+use Rattle.rdf_meaning.specs.declared.row.Site.TheVariants.{TypedBy, OtherType, LinkedBy, OtherLink}
+use Rattle.rdf_meaning.specs.declared.row.Want.{Want}
+use Rattle.rdf_meaning.specs.declared.row.Want.TheVariants.{One}
+use Rattle.rdf_meaning.specs.declared.word.Word.{Word}
+use Rattle.rdf_meaning.specs.Denotation.{of_triple, Denotes, Holds, no_parts, part, axiom_predicates, axiom_types, site_of}
+use Rattle.rdf_meaning.specs.Nodes.{is_word, type_iri}
+use Rattle.rdf_meaning.specs.Rows.{Row, axiom_rows}
+use Rattle.rdf_meaning.specs.Statements.{IsAxiomWith}
+use Rattle.rdf_meaning.specs.Words.{word_iri}
 use Rattle.rdf_mapping.specs.Drawing.{Placed, looped, by_predicate, by_triple, placed_at}
 use Rattle.rdf_mapping.specs.Forms.{Form, plain, link, nodes, term_of}
 use Rattle.rdf_mapping.specs.Frames.{IsOfNode, Keeps}

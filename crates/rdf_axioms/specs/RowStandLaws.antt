@@ -9,18 +9,18 @@ use Rattle.owl_tree.specs.declared.tag.Tag.TheVariants as tag
 use Rattle.owl_tree.specs.Rows.{admits, is_tag, row_of}
 use Rattle.owl_tree.specs.Tags.{number_of}
 use Rattle.owl_tree.specs.Trees.{Tree, kids_in, tag_of}
-use Rattle.rdf_nodes.specs.declared.row.Part.{Part}
-use Rattle.rdf_nodes.specs.declared.row.Place.TheVariants.{Subject, Object}
-use Rattle.rdf_nodes.specs.declared.row.Site.{Site}
-use Rattle.rdf_nodes.specs.declared.row.Site.TheVariants.{LinkedBy}
-use Rattle.rdf_nodes.specs.declared.row.Want.{Want}
-use Rattle.rdf_nodes.specs.declared.row.Want.TheVariants.{One, Keys}
-use Rattle.rdf_nodes.specs.declared.word.Word.{Word}
-use Rattle.rdf_nodes.specs.declared.word.Word.TheVariants as word
-use Rattle.rdf_nodes.specs.ListLaws.{in_filter, only_one, passes}
-use Rattle.rdf_nodes.specs.Rows.{Row, axiom_rows}
-use Rattle.rdf_nodes.specs.Words.{word_number}
-use Rattle.rdf_nodes.specs.Denotation.{axiom_predicates, axiom_types}
+use Rattle.rdf_meaning.specs.declared.row.Part.{Part}
+use Rattle.rdf_meaning.specs.declared.row.Place.TheVariants.{Subject, Object}
+use Rattle.rdf_meaning.specs.declared.row.Site.{Site}
+use Rattle.rdf_meaning.specs.declared.row.Site.TheVariants.{LinkedBy}
+use Rattle.rdf_meaning.specs.declared.row.Want.{Want}
+use Rattle.rdf_meaning.specs.declared.row.Want.TheVariants.{One, Keys}
+use Rattle.rdf_meaning.specs.declared.word.Word.{Word}
+use Rattle.rdf_meaning.specs.declared.word.Word.TheVariants as word
+use Rattle.rdf_meaning.specs.ListLaws.{in_filter, only_one, passes}
+use Rattle.rdf_meaning.specs.Rows.{Row, axiom_rows}
+use Rattle.rdf_meaning.specs.Words.{word_number}
+use Rattle.rdf_meaning.specs.Denotation.{axiom_predicates, axiom_types}
 use Rattle.rdf_mapping.specs.Drawing.{fit, is_pair, kid_of, tags_of}
 use Rattle.rdf_mapping.specs.Forms.{Form, list_form}
 use Rattle.rdf_mapping.specs.Frames.{is_node_word}

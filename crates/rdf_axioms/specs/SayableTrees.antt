@@ -21,9 +21,9 @@ use Rattle.owl_tree.specs.Rows.{admits, row_of, takes}
 use Rattle.owl_tree.specs.Rows as tree
 use Rattle.owl_tree.specs.Shape.{AreShaped, IsShaped}
 use Rattle.owl_tree.specs.Trees.{Tree, Kids, leaf, node, no_kids, kid, list_of, tag_of}
-use Rattle.rdf_nodes.specs.Denotation.{kind_of_entity}
-use Rattle.rdf_nodes.specs.Kinds.{may_be_declared}
-use Rattle.rdf_nodes.specs.Nodes.{is_facet}
+use Rattle.rdf_meaning.specs.Denotation.{kind_of_entity}
+use Rattle.rdf_meaning.specs.Kinds.{may_be_declared}
+use Rattle.rdf_meaning.specs.Nodes.{is_facet}
 use Rattle.rdf_terms.specs.Vocabulary.{is_reserved, rdf, xsd}
 use Rattle.rdf_sayable.specs.Parts.{leaves, leaves_of}
 use Rattle.rdf_sayable.specs.Reasons.{reserved, facet_name}

@@ -6,11 +6,11 @@ use Rattle.owl_tree.specs.declared.tag.Tag.{Tag}
 use Rattle.owl_tree.specs.Rows.{admits, is_tag}
 use Rattle.owl_tree.specs.Tags.{is_axiom}
 use Rattle.owl_tree.specs.Trees.{Tree, Kids, no_kids, kid, list_of, tag_of}
-use Rattle.rdf_nodes.specs.declared.row.Site.{Site}
-use Rattle.rdf_nodes.specs.declared.row.Site.TheVariants.{Node, TypedBy, OtherType, LinkedBy, OtherLink}
-use Rattle.rdf_nodes.specs.declared.word.Word.{Word}
-use Rattle.rdf_nodes.specs.Rows.{Row, axiom_rows}
-use Rattle.rdf_nodes.specs.Words.{word_iri}
+use Rattle.rdf_meaning.specs.declared.row.Site.{Site}
+use Rattle.rdf_meaning.specs.declared.row.Site.TheVariants.{Node, TypedBy, OtherType, LinkedBy, OtherLink}
+use Rattle.rdf_meaning.specs.declared.word.Word.{Word}
+use Rattle.rdf_meaning.specs.Rows.{Row, axiom_rows}
+use Rattle.rdf_meaning.specs.Words.{word_iri}
 use Rattle.rdf_mapping.specs.Drawing.{Kid, Placed, looped, by_kids, by_triple, fit, form_of, is_pair, kid_of, kids_seen, loop_at, loop_by, placed, row_for, stated, stated_by, tags_of}
 use Rattle.rdf_mapping.specs.NodeDrawingLaws.{seen_each}
 use Rattle.rdf_mapping.specs.RowDrawingLaws.{tag_seen}

@@ -17,17 +17,17 @@ use Rattle.owl_tree.specs.Rows.{admits, is_tag, row_of}
 use Rattle.owl_tree.specs.Tags.{number_of}
 use Rattle.owl_tree.specs.Trees.{Tree, Kids, node, kid, list_of, tag_of}
 use Rattle.rdf_graph.specs.declared.term.Term.TheVariants.{Blank}
-use Rattle.rdf_nodes.specs.ListLaws.{nothing_else, same_front}
-use Rattle.rdf_nodes.specs.declared.row.Part.{Part}
-use Rattle.rdf_nodes.specs.declared.row.Place.TheVariants.{Subject, Object}
-use Rattle.rdf_nodes.specs.declared.row.Want.{Want}
-use Rattle.rdf_nodes.specs.declared.row.Site.{Site}
-use Rattle.rdf_nodes.specs.declared.row.Site.TheVariants.{Node, TypedBy, OtherType, LinkedBy, OtherLink}
-use Rattle.rdf_nodes.specs.declared.word.Word.{Word}
-use Rattle.rdf_nodes.specs.Denotation.{axiom_predicates}
-use Rattle.rdf_nodes.specs.Nodes.{is_iri, is_word}
-use Rattle.rdf_nodes.specs.Rows.{Row, axiom_rows}
-use Rattle.rdf_nodes.specs.Words.{word_iri}
+use Rattle.rdf_meaning.specs.ListLaws.{nothing_else, same_front}
+use Rattle.rdf_meaning.specs.declared.row.Part.{Part}
+use Rattle.rdf_meaning.specs.declared.row.Place.TheVariants.{Subject, Object}
+use Rattle.rdf_meaning.specs.declared.row.Want.{Want}
+use Rattle.rdf_meaning.specs.declared.row.Site.{Site}
+use Rattle.rdf_meaning.specs.declared.row.Site.TheVariants.{Node, TypedBy, OtherType, LinkedBy, OtherLink}
+use Rattle.rdf_meaning.specs.declared.word.Word.{Word}
+use Rattle.rdf_meaning.specs.Denotation.{axiom_predicates}
+use Rattle.rdf_meaning.specs.Nodes.{is_iri, is_word}
+use Rattle.rdf_meaning.specs.Rows.{Row, axiom_rows}
+use Rattle.rdf_meaning.specs.Words.{word_iri}
 use Rattle.rdf_mapping.specs.Drawing.{Placed, looped, by_kids, by_triple, fit, form_of, is_pair, kid_of, kids_seen, placed, placed_at, stated, statement_of, tags_of}
 use Rattle.rdf_mapping.specs.Forms.{Form, term_of}
 use Rattle.rdf_mapping.specs.Frames.{IsForeign, is_node_word}

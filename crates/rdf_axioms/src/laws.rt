@@ -11,7 +11,7 @@ ghost use Rattle.owl_tree.specs.Rows.{admits};
 ghost use Rattle.owl_tree.specs.Tags.{is_axiom};
 ghost use Rattle.owl_tree.specs.Trees.{Tree};
 ghost use Rattle.rdf_graph.specs.declared.triple.Triple.{Triple};
-ghost use Rattle.rdf_nodes.specs.Rows.{axiom_rows};
+ghost use Rattle.rdf_meaning.specs.Rows.{axiom_rows};
 ghost use Rattle.rdf_sayable.specs.Sayable.{CanSayAll};
 ghost use Rattle.rdf_normal.specs.NormalForms.{normal_form};
 ghost use Rattle.rdf_mapping.specs.Drawing.{is_pair, statement_of};

@@ -6,9 +6,9 @@ use Rattle.owl_tree.specs.Trees.{Tree, leaf, node, no_kids, kid, kids_in}
 use Rattle.rdf_graph.specs.declared.term.Term.{Term}
 use Rattle.rdf_graph.specs.declared.term.Term.TheVariants.{Iri, Blank, Literal}
 use Rattle.rdf_graph.specs.declared.triple.Triple.{Triple}
-use Rattle.rdf_nodes.specs.declared.row.Place.{Place}
-use Rattle.rdf_nodes.specs.declared.row.Place.TheVariants.{Object, Subject}
-use Rattle.rdf_nodes.specs.declared.word.Word.TheVariants as word
+use Rattle.rdf_meaning.specs.declared.row.Place.{Place}
+use Rattle.rdf_meaning.specs.declared.row.Place.TheVariants.{Object, Subject}
+use Rattle.rdf_meaning.specs.declared.word.Word.TheVariants as word
 use Rattle.rdf_forward.specs.declared.notes.Holder.TheVariants as holder
 use Rattle.rdf_forward.specs.declared.writer.Writer.{Writer}
 use Rattle.rdf_mapping.specs.Forms.{Form, Arcs, arc_nodes, arc_triples, blank, link, made, nodes, term_of, triples}

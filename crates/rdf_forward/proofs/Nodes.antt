@@ -9,9 +9,9 @@ use Rattle.std.specs.Prelude.{nat_eq}
 use Rattle.owl_tree.specs.Rows.{is_tag}
 use Rattle.owl_tree.specs.Tags.{number_of}
 use Rattle.owl_tree.specs.Trees.{Tree, leaf, node, atom_in, kids_in, tag_of}
-use Rattle.rdf_nodes.specs.declared.row.Part.{Part}
-use Rattle.rdf_nodes.specs.Rows.{Row, node_rows, row_seen}
-use Rattle.rdf_nodes.specs.declared.row.Row as held
+use Rattle.rdf_meaning.specs.declared.row.Part.{Part}
+use Rattle.rdf_meaning.specs.Rows.{Row, node_rows, row_seen}
+use Rattle.rdf_meaning.specs.declared.row.Row as held
 use Rattle.rdf_mapping.specs.Forms.{made, no_arcs}
 use Rattle.rdf_mapping.specs.Drawing.{Kid, arcs_of, facet_arcs, form_of, kid_of, node_form, placed, placed_at, placed_by, row_for, singles, tags_of}
 use Rattle.rdf_forward.specs.declared.drawn.Drawn.{Drawn}

@@ -6,9 +6,9 @@ use Rattle.owl_tree.specs.declared.tag.Tag.{Tag}
 use Rattle.owl_tree.specs.Trees.{Tree, leaf, node, no_kids, kid, kids_in, list_of, tag_of}
 use Rattle.rdf_graph.specs.declared.term.Term.{Term}
 use Rattle.rdf_graph.specs.declared.term.Term.TheVariants.{Iri, Blank, Literal}
-use Rattle.rdf_nodes.specs.declared.row.Part.{Part}
-use Rattle.rdf_nodes.specs.declared.row.Site.TheVariants as site
-use Rattle.rdf_nodes.specs.Rows.{axiom_rows}
+use Rattle.rdf_meaning.specs.declared.row.Part.{Part}
+use Rattle.rdf_meaning.specs.declared.row.Site.TheVariants as site
+use Rattle.rdf_meaning.specs.Rows.{axiom_rows}
 use Rattle.rdf_forward.specs.declared.writer.Writer.{Writer}
 use Rattle.rdf_mapping.specs.Forms.{Form, made, plain, term_of, twice}
 use Rattle.rdf_mapping.specs.Drawing.{Kid, Placed, Statement, by_kids, by_predicate, by_triple, is_pair, kid_of, placed, placed_by, row_for, singles, stated_by, statement_of, tags_of, unsaid}

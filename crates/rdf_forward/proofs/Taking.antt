@@ -7,9 +7,9 @@ use Rattle.std.proofs.lemmas.Simd.{map-map}
 use Rattle.owl_arena.specs.Held.{tree_at, trees_at}
 use Rattle.owl_arena.specs.HeldLaws.{below_later}
 use Rattle.owl_tree.specs.Trees.{Tree, Kids, leaf, node, no_kids, kid, kids_in, list_of}
-use Rattle.rdf_nodes.specs.declared.row.Want.{Want}
-use Rattle.rdf_nodes.specs.declared.row.Want.TheVariants.{Many, Whole, Keys}
-use Rattle.rdf_nodes.specs.declared.row.Part.{Part}
+use Rattle.rdf_meaning.specs.declared.row.Want.{Want}
+use Rattle.rdf_meaning.specs.declared.row.Want.TheVariants.{Many, Whole, Keys}
+use Rattle.rdf_meaning.specs.declared.row.Part.{Part}
 use Rattle.owl_tree.specs.declared.row.Sort.{Sort}
 use Rattle.owl_tree.specs.declared.tag.Tag.{Tag}
 use Rattle.rdf_mapping.specs.Forms.{Form, list_form}

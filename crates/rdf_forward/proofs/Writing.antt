@@ -8,9 +8,9 @@ use Rattle.owl_tree.specs.declared.atom.Atom.TheVariants as atom
 use Rattle.owl_tree.specs.Trees.{Tree, leaf, node, atom_in}
 use Rattle.rdf_graph.specs.declared.term.Term.{Term}
 use Rattle.rdf_graph.specs.declared.triple.Triple.{Triple}
-use Rattle.rdf_nodes.specs.declared.word.Word.{Word}
-use Rattle.rdf_nodes.specs.declared.row.Place.{Place}
-use Rattle.rdf_nodes.specs.declared.row.Place.TheVariants.{At, Subject, Predicate, Object}
+use Rattle.rdf_meaning.specs.declared.word.Word.{Word}
+use Rattle.rdf_meaning.specs.declared.row.Place.{Place}
+use Rattle.rdf_meaning.specs.declared.row.Place.TheVariants.{At, Subject, Predicate, Object}
 use Rattle.rdf_forward.specs.declared.writer.Writer.{Writer}
 use Rattle.rdf_mapping.specs.Forms.{Form, Arcs, arc, arc_nodes, arc_triples, blank, first_iri, link, list_form, made, no_arcs, nodes, rest_iri, term_of, triples, twice}
 use Rattle.rdf_mapping.specs.Drawing.{Placed, arc_iri, arcs_of, facet_arcs, form_of, kid_of, listed, placed_at}

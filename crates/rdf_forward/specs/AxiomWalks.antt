@@ -4,8 +4,8 @@ use Rattle.owl_arena.specs.Held.{tree_at}
 use Rattle.owl_tree.specs.Trees.{Tree}
 use Rattle.rdf_graph.specs.declared.term.Term.{Term}
 use Rattle.rdf_graph.specs.declared.triple.Triple.{Triple}
-use Rattle.rdf_nodes.specs.Words.{word_iri}
-use Rattle.rdf_nodes.specs.Nodes.{type_iri}
+use Rattle.rdf_meaning.specs.Words.{word_iri}
+use Rattle.rdf_meaning.specs.Nodes.{type_iri}
 use Rattle.rdf_forward.specs.declared.statement.Predicate.{Predicate}
 use Rattle.rdf_forward.specs.declared.statement.Predicate.TheVariants as predicate
 use Rattle.rdf_forward.specs.declared.writer.Writer.{Writer}

@@ -6,10 +6,10 @@ use Rattle.owl_tree.specs.Trees.{Tree}
 use Rattle.rdf_graph.specs.declared.term.Term.{Term}
 use Rattle.rdf_graph.specs.declared.term.Term.TheVariants.{Iri, Blank, Literal}
 use Rattle.rdf_graph.specs.declared.triple.Triple.{Triple}
-use Rattle.rdf_nodes.specs.Words.{word_iri}
-use Rattle.rdf_nodes.specs.Nodes.{nil_iri}
-use Rattle.rdf_nodes.specs.Denotation.{true_literal}
-use Rattle.rdf_nodes.specs.declared.row.Part.{Part}
+use Rattle.rdf_meaning.specs.Words.{word_iri}
+use Rattle.rdf_meaning.specs.Nodes.{nil_iri}
+use Rattle.rdf_meaning.specs.Denotation.{true_literal}
+use Rattle.rdf_meaning.specs.declared.row.Part.{Part}
 use Rattle.rdf_mapping.specs.Arenas.{forms_at, kids_at}
 use Rattle.rdf_forward.specs.declared.drawn.Drawn.{Drawn}
 use Rattle.rdf_forward.specs.declared.drawn.Drawn.TheVariants as drawn

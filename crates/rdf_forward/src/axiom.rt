@@ -18,7 +18,7 @@ use crate::writer::Writer;
 use owl_arena::{Arena, ExprId};
 use owl_characters::NoMemory;
 use rdf_graph::Term;
-use rdf_nodes::{Part, Place};
+use rdf_meaning::{Part, Place};
 use rdf_terms::Iri;
 
 /// The annotations of an axiom.

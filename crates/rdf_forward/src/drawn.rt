@@ -8,7 +8,7 @@ ghost use Rattle.rdf_forward.specs.Walks.{IsDrawnBelow, IsNext, Takes, TakesNone
 
 use owl_arena::{Arena, ExprId};
 use rdf_mapping::singles;
-use rdf_nodes::{Part, Place, Want, Word};
+use rdf_meaning::{Part, Place, Want, Word};
 
 /// What stands at a part of a row.
 #[derive(Clone, Copy)]

@@ -17,7 +17,7 @@ use owl_arena::{Arena, ExprId};
 use owl_characters::NoMemory;
 use owl_tree::{Atom, Tag};
 use rdf_mapping::row_for;
-use rdf_nodes::{Part, Place, node_rows};
+use rdf_meaning::{Part, Place, node_rows};
 
 impl Writer {
     /// Adds the triples of a tree.

@@ -3,9 +3,9 @@
 ghost use Rattle.std.specs.Prelude.{◌≡◌, ◌∷◌, ◌++◌, [], OnOk};
 ghost use Rattle.owl_doc.specs.Documents.{ontology_of};
 ghost use Rattle.rdf_graph.specs.declared.term.Term.TheVariants as held;
-ghost use Rattle.rdf_nodes.specs.declared.word.Word.TheVariants as word_of;
-ghost use Rattle.rdf_nodes.specs.Nodes.{type_iri};
-ghost use Rattle.rdf_nodes.specs.Words.{word_iri};
+ghost use Rattle.rdf_meaning.specs.declared.word.Word.TheVariants as word_of;
+ghost use Rattle.rdf_meaning.specs.Nodes.{type_iri};
+ghost use Rattle.rdf_meaning.specs.Words.{word_iri};
 ghost use Rattle.rdf_mapping.specs.Graphs.{import_triples, version_triples};
 ghost use Rattle.rdf_forward.specs.NoteWalks.{holder_term};
 ghost use Rattle.rdf_forward.specs.HeaderWalks.{WritesBelow, WritesHeader};
@@ -17,7 +17,7 @@ use owl_characters::NoMemory;
 use owl_doc::Doc;
 use rdf_graph::Term;
 use rdf_mapping::{type_iri, word_iri};
-use rdf_nodes::Word;
+use rdf_meaning::Word;
 use rdf_terms::Iri;
 
 impl Writer {

@@ -4,9 +4,9 @@ ghost use Rattle.std.specs.Prelude.{◌≡◌, ◌<◌, ◌∷◌, [], IfOk, IfS
 ghost use Rattle.owl_arena.specs.Held.{AreHeld, tree_at};
 ghost use Rattle.rdf_graph.specs.Terms.{IsSubject};
 ghost use Rattle.rdf_graph.specs.declared.term.Term.TheVariants as held;
-ghost use Rattle.rdf_nodes.specs.declared.word.Word.TheVariants as word_of;
-ghost use Rattle.rdf_nodes.specs.Nodes.{type_iri};
-ghost use Rattle.rdf_nodes.specs.Words.{word_iri};
+ghost use Rattle.rdf_meaning.specs.declared.word.Word.TheVariants as word_of;
+ghost use Rattle.rdf_meaning.specs.Nodes.{type_iri};
+ghost use Rattle.rdf_meaning.specs.Words.{word_iri};
 ghost use Rattle.rdf_mapping.specs.Forms.{link};
 ghost use Rattle.rdf_mapping.specs.Drawing.{atom_term};
 ghost use Rattle.rdf_mapping.specs.Notes.{annotation_in, no_notes, reified, reified_nodes};
@@ -21,7 +21,7 @@ use owl_characters::NoMemory;
 use owl_tree::Atom;
 use rdf_graph::Term;
 use rdf_mapping::{type_iri, word_iri};
-use rdf_nodes::Word;
+use rdf_meaning::Word;
 use rdf_terms::Iri;
 
 /// What annotations belong to.

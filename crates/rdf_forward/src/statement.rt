@@ -3,8 +3,8 @@
 ghost use Rattle.std.specs.Prelude.{◌≡◌, ◌<◌, ◌∷◌, [], IfOk, OnOk, length};
 ghost use Rattle.std.specs.List.{AllByRecursion};
 ghost use Rattle.owl_arena.specs.Held.{AreHeld, tree_at};
-ghost use Rattle.rdf_nodes.specs.declared.row.Site.TheVariants as sites;
-ghost use Rattle.rdf_nodes.specs.Rows.{axiom_rows};
+ghost use Rattle.rdf_meaning.specs.declared.row.Site.TheVariants as sites;
+ghost use Rattle.rdf_meaning.specs.Rows.{axiom_rows};
 ghost use Rattle.rdf_mapping.specs.Drawing.{by_kids, by_triple, form_of, is_pair, loop_by};
 ghost use Rattle.rdf_mapping.specs.Drawing.{placed, row_for, stated, stated_by, statement_of};
 ghost use Rattle.rdf_forward.specs.AxiomWalks.{WritesStatement, by_two, predicate_iri, sets_at};
@@ -17,7 +17,7 @@ use owl_characters::NoMemory;
 use owl_tree::Tag;
 use rdf_graph::Term;
 use rdf_mapping::{row_for, type_iri, word_iri};
-use rdf_nodes::{Part, Place, Row, Site, Word, axiom_rows};
+use rdf_meaning::{Part, Place, Row, Site, Word, axiom_rows};
 use rdf_terms::Iri;
 
 /// The predicate of a triple.

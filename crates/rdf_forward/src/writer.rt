@@ -15,7 +15,7 @@ use owl_characters::NoMemory;
 use owl_tree::Atom;
 use rdf_graph::{Gather, Term, Triple};
 use rdf_mapping::{arc_iri, nil, number_literal, true_literal, word_iri};
-use rdf_nodes::Word;
+use rdf_meaning::Word;
 use rdf_terms::Iri;
 use std::alloc::Global;
 

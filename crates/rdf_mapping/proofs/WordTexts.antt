@@ -8,9 +8,9 @@ use Rattle.owl_characters.specs.Iri.{IsIri, is_ascii, is_iri_character}
 use Rattle.rdf_terms.specs.Literals.{lang_string, plain_literal}
 use Rattle.rdf_terms.specs.Vocabulary.{xsd}
 use Rattle.rdf_terms.specs.WordLaws.{http_iri}
-use Rattle.rdf_nodes.specs.declared.word.Word.{Word}
-use Rattle.rdf_nodes.specs.declared.word.Word.TheVariants as word
-use Rattle.rdf_nodes.specs.Words.{word_iri}
+use Rattle.rdf_meaning.specs.declared.word.Word.{Word}
+use Rattle.rdf_meaning.specs.declared.word.Word.TheVariants as word
+use Rattle.rdf_meaning.specs.Words.{word_iri}
 
 all_ascii : (w : Word) → list_all is_ascii (word_iri w) ≡ true
 unfolding word_iri

@@ -6,7 +6,7 @@ use Rattle.owl_list.specs.AscendingLaws.{in_cases, in_none}
 use Rattle.rdf_graph.specs.declared.term.Term.{Term}
 use Rattle.rdf_graph.specs.declared.term.Term.TheVariants.{Iri, Blank, Literal}
 use Rattle.rdf_graph.specs.declared.triple.Triple.{Triple}
-use Rattle.rdf_nodes.specs.declared.word.Word.TheVariants as word
+use Rattle.rdf_meaning.specs.declared.word.Word.TheVariants as word
 use Rattle.rdf_mapping.specs.Forms.{Form, plain, made, twice, Arcs, arc_nodes, blank, link, nodes, term_of, triples}
 use Rattle.rdf_mapping.specs.Drawing.{Statement, linked, linked_back, looped, standing, unsaid}
 use Rattle.rdf_mapping.specs.FormLaws.{subjects, wider}

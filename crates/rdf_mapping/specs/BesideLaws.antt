@@ -11,12 +11,12 @@ use Rattle.owl_kind.specs.Kinds.{annotation_properties, is_built_in}
 use Rattle.owl_characters.specs.Order.{text_eq}
 use Rattle.rdf_terms.specs.Vocabulary.{is_reserved, rdf, rdfs, xsd}
 use Rattle.rdf_graph.specs.declared.triple.Triple.{Triple}
-use Rattle.rdf_nodes.specs.declared.word.Word.{Word}
-use Rattle.rdf_nodes.specs.declared.word.Word.TheVariants as word
-use Rattle.rdf_nodes.specs.Kinds.{may_be_declared}
-use Rattle.rdf_nodes.specs.ListLaws.{passes, some_passes}
-use Rattle.rdf_nodes.specs.Nodes.{carries, is_facet, type_iri}
-use Rattle.rdf_nodes.specs.Words.{is_type, word_iri}
+use Rattle.rdf_meaning.specs.declared.word.Word.{Word}
+use Rattle.rdf_meaning.specs.declared.word.Word.TheVariants as word
+use Rattle.rdf_meaning.specs.Kinds.{may_be_declared}
+use Rattle.rdf_meaning.specs.ListLaws.{passes, some_passes}
+use Rattle.rdf_meaning.specs.Nodes.{carries, is_facet, type_iri}
+use Rattle.rdf_meaning.specs.Words.{is_type, word_iri}
 use Rattle.rdf_mapping.specs.Frames.{by_facet, by_word}
 use Rattle.rdf_mapping.specs.Notes.{Notes, no_notes, note}
 use Rattle.rdf_mapping.specs.Entries.{AreAllBeside, AreAllDeclarable, IsBeside}

@@ -2,12 +2,12 @@
 use Rattle.std.specs.Prelude.{◌≡◌, ◌≤◌, ◌<◌, ◌+◌, ◌⊎◌, ℕ, suc, true, false, List, [], ◌∷◌, ◌++◌, Contains}
 use Rattle.rdf_graph.specs.declared.term.Term.{Term}
 use Rattle.rdf_graph.specs.declared.triple.Triple.{Triple}
-use Rattle.rdf_nodes.specs.declared.word.Word.{Word}
-use Rattle.rdf_nodes.specs.declared.word.Word.TheVariants as word
-use Rattle.rdf_nodes.specs.declared.role.Role.TheVariants as role
+use Rattle.rdf_meaning.specs.declared.word.Word.{Word}
+use Rattle.rdf_meaning.specs.declared.word.Word.TheVariants as word
+use Rattle.rdf_meaning.specs.declared.role.Role.TheVariants as role
 use Rattle.owl_kind.specs.declared.kind.Kind.TheVariants.{AnnotationProperty}
-use Rattle.rdf_nodes.specs.Kinds.{may_be_declared}
-use Rattle.rdf_nodes.specs.Nodes.{role_of}
+use Rattle.rdf_meaning.specs.Kinds.{may_be_declared}
+use Rattle.rdf_meaning.specs.Nodes.{role_of}
 use Rattle.rdf_mapping.specs.Frames.{IsOfNode, IsOwn}
 use Rattle.rdf_mapping.specs.Forms.{blank, link}
 use Rattle.rdf_mapping.specs.Notes.{Notes, no_notes, note, note_nodes, reified_nodes, reifying, where_some}

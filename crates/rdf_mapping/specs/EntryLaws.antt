@@ -6,10 +6,10 @@ use Rattle.owl_list.specs.AscendingLaws.{in_cases, in_head, in_none, in_tail}
 use Rattle.rdf_graph.specs.declared.term.Term.{Term}
 use Rattle.rdf_graph.specs.declared.term.Term.TheVariants.{Iri, Blank}
 use Rattle.rdf_graph.specs.declared.triple.Triple.{Triple}
-use Rattle.rdf_nodes.specs.declared.word.Word.{Word}
-use Rattle.rdf_nodes.specs.declared.word.Word.TheVariants as word
-use Rattle.rdf_nodes.specs.Nodes.{type_iri}
-use Rattle.rdf_nodes.specs.Words.{word_iri}
+use Rattle.rdf_meaning.specs.declared.word.Word.{Word}
+use Rattle.rdf_meaning.specs.declared.word.Word.TheVariants as word
+use Rattle.rdf_meaning.specs.Nodes.{type_iri}
+use Rattle.rdf_meaning.specs.Words.{word_iri}
 use Rattle.rdf_mapping.specs.Forms.{blank, link}
 use Rattle.rdf_mapping.specs.Notes.{Notes, no_notes, note, note_nodes, note_triples, reified, reified_nodes, reifying, where_some}
 use Rattle.rdf_mapping.specs.Graphs.{set_nodes, set_triples}

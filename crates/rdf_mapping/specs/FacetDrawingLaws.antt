@@ -17,14 +17,14 @@ use Rattle.owl_tree.specs.Trees.{Tree, Kids, leaf, node, no_kids, kid, list_of, 
 use Rattle.rdf_terms.specs.Literals.{LiteralParts}
 use Rattle.rdf_graph.specs.declared.term.Term.TheVariants.{Blank, Literal}
 use Rattle.rdf_graph.specs.declared.triple.Triple.{Triple}
-use Rattle.rdf_nodes.specs.declared.role.Role.{Role}
-use Rattle.rdf_nodes.specs.declared.role.Role.TheVariants as role
-use Rattle.rdf_nodes.specs.declared.row.Want.TheVariants.{One}
-use Rattle.rdf_nodes.specs.declared.word.Word.{Word}
-use Rattle.rdf_nodes.specs.declared.word.Word.TheVariants as word
-use Rattle.rdf_nodes.specs.Denotation.{Denotes, by_itself, facet_pair, facets_of, simple}
-use Rattle.rdf_nodes.specs.Nodes.{carries, first_role, is_facet, is_role, marked_roles, marks_role, role_of}
-use Rattle.rdf_nodes.specs.Rows.{node_rows}
+use Rattle.rdf_meaning.specs.declared.role.Role.{Role}
+use Rattle.rdf_meaning.specs.declared.role.Role.TheVariants as role
+use Rattle.rdf_meaning.specs.declared.row.Want.TheVariants.{One}
+use Rattle.rdf_meaning.specs.declared.word.Word.{Word}
+use Rattle.rdf_meaning.specs.declared.word.Word.TheVariants as word
+use Rattle.rdf_meaning.specs.Denotation.{Denotes, by_itself, facet_pair, facets_of, simple}
+use Rattle.rdf_meaning.specs.Nodes.{carries, first_role, is_facet, is_role, marked_roles, marks_role, role_of}
+use Rattle.rdf_meaning.specs.Rows.{node_rows}
 use Rattle.rdf_mapping.specs.Forms.{plain, made, arc, no_arcs, blank, link, nodes, triples}
 use Rattle.rdf_mapping.specs.Drawing.{row_for}
 use Rattle.rdf_mapping.specs.Frames.{AreNamedApart, IsOfNode, IsOwn, Keeps}

@@ -6,7 +6,7 @@ use Rattle.owl_list.specs.AscendingLaws.{in_cases, in_head, in_none, in_tail}
 use Rattle.rdf_graph.specs.declared.term.Term.{Term}
 use Rattle.rdf_graph.specs.declared.term.Term.TheVariants.{Iri, Blank}
 use Rattle.rdf_graph.specs.declared.triple.Triple.{Triple}
-use Rattle.rdf_nodes.specs.Nodes.{nil_iri}
+use Rattle.rdf_meaning.specs.Nodes.{nil_iri}
 use Rattle.rdf_mapping.specs.Forms.{Form, plain, made, twice, Arcs, no_arcs, arc, arc_nodes, arc_triples, blank, first_iri, link, nodes, rest_iri, term_of, triples}
 use Rattle.rdf_mapping.specs.Frames.{AreNamedApart, EachKept, Keeps, KeepsArcs, KeepsTwice, Lies, own_triples, twice_behind}
 

@@ -8,10 +8,10 @@ use Rattle.owl_list.specs.AscendingLaws.{in_cases, in_head, in_none, in_tail}
 use Rattle.rdf_graph.specs.declared.term.Term.{Term}
 use Rattle.rdf_graph.specs.declared.term.Term.TheVariants.{Iri, Blank}
 use Rattle.rdf_graph.specs.declared.triple.Triple.{Triple}
-use Rattle.rdf_nodes.specs.declared.role.Role.{Role}
-use Rattle.rdf_nodes.specs.declared.role.Role.TheVariants as role
-use Rattle.rdf_nodes.specs.Nodes.{carries, first_role, is_facet, is_own, is_structural, marked_roles, marks_role, nil_iri, role_of, words_of}
-use Rattle.rdf_nodes.specs.Words.{is_type, word_iri, word_number}
+use Rattle.rdf_meaning.specs.declared.role.Role.{Role}
+use Rattle.rdf_meaning.specs.declared.role.Role.TheVariants as role
+use Rattle.rdf_meaning.specs.Nodes.{carries, first_role, is_facet, is_own, is_structural, marked_roles, marks_role, nil_iri, role_of, words_of}
+use Rattle.rdf_meaning.specs.Words.{is_type, word_iri, word_number}
 use Rattle.rdf_mapping.specs.Forms.{Form, plain, made, twice, Arcs, no_arcs, arc, arc_nodes, arc_triples, blank, first_iri, link, list_form, nodes, rest_iri, term_of, triples}
 use Rattle.rdf_mapping.specs.FormLaws.{made_kept, twice_kept}
 use Rattle.rdf_mapping.specs.Frames.{AreNamedApart, EachKept, IsOfNode, IsOwn, own_triples, second_cell, twice_behind}

@@ -1,7 +1,7 @@
 -- What is drawn of a form makes its nodes what they are.
 use Rattle.std.specs.Prelude.{◌≡◌, ◌≤◌, ◌+◌, ℕ, suc, true, List, Contains}
 use Rattle.rdf_graph.specs.declared.triple.Triple.{Triple}
-use Rattle.rdf_nodes.specs.Nodes.{is_structural}
+use Rattle.rdf_meaning.specs.Nodes.{is_structural}
 use Rattle.rdf_mapping.specs.Forms.{Form, made, Arcs, no_arcs, arc, blank, nodes, triples}
 use Rattle.rdf_mapping.specs.Frames.{IsOfNode, Keeps, KeepsArcs, own_triples}
 

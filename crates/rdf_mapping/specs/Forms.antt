@@ -3,9 +3,9 @@ use Rattle.std.specs.Prelude.{ℕ, suc, ◌+◌, List, [], ◌∷◌, ◌++◌}
 use Rattle.rdf_graph.specs.declared.term.Term.{Term}
 use Rattle.rdf_graph.specs.declared.term.Term.TheVariants.{Iri, Blank}
 use Rattle.rdf_graph.specs.declared.triple.Triple.{Triple}
-use Rattle.rdf_nodes.specs.declared.word.Word.TheVariants as word
-use Rattle.rdf_nodes.specs.Words.{word_iri}
-use Rattle.rdf_nodes.specs.Nodes.{nil_iri}
+use Rattle.rdf_meaning.specs.declared.word.Word.TheVariants as word
+use Rattle.rdf_meaning.specs.Words.{word_iri}
+use Rattle.rdf_meaning.specs.Nodes.{nil_iri}
 
 -- A term; a node with its arcs; or a list in which the one element, which has one node, stands twice.
 mutual

@@ -13,16 +13,16 @@ use Rattle.owl_kind.specs.declared.kind.Kind.TheVariants as kind
 use Rattle.owl_kind.specs.Kinds.{annotation_properties, is_built_in}
 use Rattle.rdf_graph.specs.declared.term.Term.TheVariants.{Iri}
 use Rattle.rdf_graph.specs.declared.triple.Triple.{Triple}
-use Rattle.rdf_nodes.specs.declared.word.Word.{Word}
-use Rattle.rdf_nodes.specs.declared.word.Word.TheVariants as word
-use Rattle.rdf_nodes.specs.Kinds.{may_be_declared}
-use Rattle.rdf_nodes.specs.ListLaws.{passes, some_passes}
-use Rattle.rdf_nodes.specs.Nodes.{carries, is_facet, is_same, type_iri}
-use Rattle.rdf_nodes.specs.Words.{is_type, word_iri}
+use Rattle.rdf_meaning.specs.declared.word.Word.{Word}
+use Rattle.rdf_meaning.specs.declared.word.Word.TheVariants as word
+use Rattle.rdf_meaning.specs.Kinds.{may_be_declared}
+use Rattle.rdf_meaning.specs.ListLaws.{passes, some_passes}
+use Rattle.rdf_meaning.specs.Nodes.{carries, is_facet, is_same, type_iri}
+use Rattle.rdf_meaning.specs.Words.{is_type, word_iri}
 use Rattle.rdf_mapping.specs.Frames.{by_facet, by_word}
 use Rattle.rdf_mapping.specs.Entries.{IsBeside}
-use Rattle.rdf_nodes.specs.Denotation.{axiom_predicates}
-use Rattle.rdf_nodes.specs.Statements.{is_axiom_predicate}
+use Rattle.rdf_meaning.specs.Denotation.{axiom_predicates}
+use Rattle.rdf_meaning.specs.Statements.{is_axiom_predicate}
 use Rattle.owl_characters.specs.Order.{text_eq}
 use Rattle.rdf_mapping.specs.SortLaws.{no_true}
 use Rattle.rdf_mapping.specs.Sorts.{IsFree, IsProperty, annotation_property, data_property, object_property}

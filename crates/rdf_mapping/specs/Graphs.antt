@@ -13,9 +13,9 @@ use Rattle.rdf_graph.specs.Graphs.{set_of}
 use Rattle.rdf_graph.specs.declared.term.Term.{Term}
 use Rattle.rdf_graph.specs.declared.term.Term.TheVariants.{Iri, Blank, Literal}
 use Rattle.rdf_graph.specs.declared.triple.Triple.{Triple}
-use Rattle.rdf_nodes.specs.declared.word.Word.TheVariants as word
-use Rattle.rdf_nodes.specs.Words.{word_iri}
-use Rattle.rdf_nodes.specs.Nodes.{type_iri}
+use Rattle.rdf_meaning.specs.declared.word.Word.TheVariants as word
+use Rattle.rdf_meaning.specs.Words.{word_iri}
+use Rattle.rdf_meaning.specs.Nodes.{type_iri}
 use Rattle.rdf_mapping.specs.Forms.{Arcs, made, arc_nodes, blank, link, nodes, term_of, triples}
 use Rattle.rdf_mapping.specs.Drawing.{Statement, linked, linked_back, looped, standing, unsaid, statement_of}
 use Rattle.rdf_mapping.specs.Notes.{Notes, note_nodes, note_triples, notes_in, notes_of, reified, reified_nodes}

@@ -9,8 +9,8 @@ use Rattle.rdf_mapping.specs.Forms.{Form, Arcs, arc_nodes, blank, link, nodes, t
 use Rattle.rdf_mapping.specs.Frames.{IsAny, IsOfNode, IsOwn, Keeps, KeepsArcs, StartsApart}
 use Rattle.rdf_mapping.specs.Graphs.{Group, set_nodes, set_triples, standing_nodes, standing_triples, statement_nodes, statement_triples}
 use Rattle.rdf_mapping.specs.Notes.{Notes, no_notes, note, note_nodes, note_triples, reified, reified_nodes, reifying}
-use Rattle.rdf_nodes.specs.declared.word.Word.{Word}
-use Rattle.rdf_nodes.specs.declared.word.Word.TheVariants as word
+use Rattle.rdf_meaning.specs.declared.word.Word.{Word}
+use Rattle.rdf_meaning.specs.declared.word.Word.TheVariants as word
 
 -- the subject of the statement is no other numbered node
 abbrev pub StatesApart : (ℕ → List ℕ) → ℕ → Statement → Type 0

@@ -11,14 +11,14 @@ use Rattle.rdf_graph.specs.declared.term.Term.{Term}
 use Rattle.rdf_graph.specs.declared.triple.Triple.{Triple}
 use Rattle.rdf_graph.specs.TermLaws.{terms_total}
 use Rattle.rdf_graph.specs.Terms.{term_cmp}
-use Rattle.rdf_nodes.specs.declared.role.Role.TheVariants as role
-use Rattle.rdf_nodes.specs.declared.word.Word.TheVariants as word
-use Rattle.rdf_nodes.specs.Kinds.{has_kind}
-use Rattle.rdf_nodes.specs.ListLaws.{from_filter, in_filter, some_passes}
-use Rattle.rdf_nodes.specs.NodeLaws.{from_subject, in_subject, own_term, same_term, subjects_are}
-use Rattle.rdf_nodes.specs.Nodes.{carries, carries_some, is_role, is_same, is_structural, of_subject, role_of, subjects_of}
-use Rattle.rdf_nodes.specs.RowLaws.{same_role}
-use Rattle.rdf_nodes.specs.Statements.{header_notes, header_words, headers, is_annotation_triple, is_axiom_predicate, is_header_triple}
+use Rattle.rdf_meaning.specs.declared.role.Role.TheVariants as role
+use Rattle.rdf_meaning.specs.declared.word.Word.TheVariants as word
+use Rattle.rdf_meaning.specs.Kinds.{has_kind}
+use Rattle.rdf_meaning.specs.ListLaws.{from_filter, in_filter, some_passes}
+use Rattle.rdf_meaning.specs.NodeLaws.{from_subject, in_subject, own_term, same_term, subjects_are}
+use Rattle.rdf_meaning.specs.Nodes.{carries, carries_some, is_role, is_same, is_structural, of_subject, role_of, subjects_of}
+use Rattle.rdf_meaning.specs.RowLaws.{same_role}
+use Rattle.rdf_meaning.specs.Statements.{header_notes, header_words, headers, is_annotation_triple, is_axiom_predicate, is_header_triple}
 use Rattle.rdf_mapping.specs.NoAxiomLaws.{header_note}
 use Rattle.rdf_mapping.specs.OwnLaws.{any_from, apart_filter}
 use Rattle.rdf_mapping.specs.SortLaws.{not_annotation}

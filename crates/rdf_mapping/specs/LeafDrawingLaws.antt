@@ -27,11 +27,11 @@ use Rattle.owl_tree.specs.Tags.{number_of}
 use Rattle.owl_tree.specs.Trees.{Tree, leaf}
 use Rattle.rdf_graph.specs.declared.term.Term.TheVariants.{Blank}
 use Rattle.rdf_graph.specs.declared.triple.Triple.{Triple}
-use Rattle.rdf_nodes.specs.declared.role.Role.TheVariants as role
-use Rattle.rdf_nodes.specs.Denotation.{by_itself, iri_leaf, is_digits, or_else, simple}
-use Rattle.rdf_nodes.specs.Kinds.{has_kind}
-use Rattle.rdf_nodes.specs.KindLaws.{has_kind_is}
-use Rattle.rdf_nodes.specs.Nodes.{is_iri, is_role, role_of}
+use Rattle.rdf_meaning.specs.declared.role.Role.TheVariants as role
+use Rattle.rdf_meaning.specs.Denotation.{by_itself, iri_leaf, is_digits, or_else, simple}
+use Rattle.rdf_meaning.specs.Kinds.{has_kind}
+use Rattle.rdf_meaning.specs.KindLaws.{has_kind_is}
+use Rattle.rdf_meaning.specs.Nodes.{is_iri, is_role, role_of}
 use Rattle.rdf_mapping.specs.Drawing.{atom_term}
 use Rattle.rdf_mapping.specs.NodeDrawingLaws.{same_tag}
 use Rattle.rdf_mapping.specs.Written.{AreIndividuals, IsDrawnWell, is_wanted}

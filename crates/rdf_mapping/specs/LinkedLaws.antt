@@ -8,16 +8,16 @@ use Rattle.owl_tree.specs.declared.tag.Tag.{Tag}
 use Rattle.owl_tree.specs.Trees.{Tree, node, kid, no_kids}
 use Rattle.rdf_graph.specs.declared.term.Term.TheVariants.{Iri}
 use Rattle.rdf_graph.specs.declared.triple.Triple.{Triple}
-use Rattle.rdf_nodes.specs.declared.row.Part.{Part}
-use Rattle.rdf_nodes.specs.declared.row.Place.TheVariants.{Subject, Object}
-use Rattle.rdf_nodes.specs.declared.row.Site.TheVariants.{LinkedBy, TypedBy}
-use Rattle.rdf_nodes.specs.declared.row.Want.TheVariants.{One}
-use Rattle.rdf_nodes.specs.declared.word.Word.{Word}
-use Rattle.rdf_nodes.specs.Denotation.{Holds, axiom_predicates, axiom_types, of_triple, no_parts, part}
-use Rattle.rdf_nodes.specs.Nodes.{is_word, type_iri}
-use Rattle.rdf_nodes.specs.Rows.{Row, axiom_rows}
-use Rattle.rdf_nodes.specs.Statements.{IsAxiomWith}
-use Rattle.rdf_nodes.specs.Words.{word_iri}
+use Rattle.rdf_meaning.specs.declared.row.Part.{Part}
+use Rattle.rdf_meaning.specs.declared.row.Place.TheVariants.{Subject, Object}
+use Rattle.rdf_meaning.specs.declared.row.Site.TheVariants.{LinkedBy, TypedBy}
+use Rattle.rdf_meaning.specs.declared.row.Want.TheVariants.{One}
+use Rattle.rdf_meaning.specs.declared.word.Word.{Word}
+use Rattle.rdf_meaning.specs.Denotation.{Holds, axiom_predicates, axiom_types, of_triple, no_parts, part}
+use Rattle.rdf_meaning.specs.Nodes.{is_word, type_iri}
+use Rattle.rdf_meaning.specs.Rows.{Row, axiom_rows}
+use Rattle.rdf_meaning.specs.Statements.{IsAxiomWith}
+use Rattle.rdf_meaning.specs.Words.{word_iri}
 use Rattle.rdf_mapping.specs.Forms.{plain, link, nodes, term_of}
 use Rattle.rdf_mapping.specs.Drawing.{form_of, kid_of, linked, placed, row_for, statement_of, tags_of}
 use Rattle.rdf_mapping.specs.GroupFrames.{KeepsLinked}

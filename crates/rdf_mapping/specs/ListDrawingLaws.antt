@@ -14,17 +14,17 @@ use Rattle.owl_tree.specs.Trees.{Tree}
 use Rattle.rdf_graph.specs.declared.term.Term.{Term}
 use Rattle.rdf_graph.specs.declared.term.Term.TheVariants.{Iri, Blank}
 use Rattle.rdf_graph.specs.declared.triple.Triple.{Triple}
-use Rattle.rdf_nodes.specs.declared.role.Role.TheVariants as role
-use Rattle.rdf_nodes.specs.declared.row.Place.TheVariants.{At}
-use Rattle.rdf_nodes.specs.declared.row.Site.TheVariants.{Node}
-use Rattle.rdf_nodes.specs.declared.row.Want.TheVariants.{One, Many}
-use Rattle.rdf_nodes.specs.declared.word.Word.{Word}
-use Rattle.rdf_nodes.specs.declared.word.Word.TheVariants as word
-use Rattle.rdf_nodes.specs.Denotation.{Denotes, Lists, by_list, cell, no_cell}
-use Rattle.rdf_nodes.specs.NodeLaws.{own_term}
-use Rattle.rdf_nodes.specs.Nodes.{carries, chosen, is_iri, is_same, is_word, nil_iri, role_of, type_iri}
-use Rattle.rdf_nodes.specs.Rows.{Row}
-use Rattle.rdf_nodes.specs.Words.{is_type, word_iri, word_number}
+use Rattle.rdf_meaning.specs.declared.role.Role.TheVariants as role
+use Rattle.rdf_meaning.specs.declared.row.Place.TheVariants.{At}
+use Rattle.rdf_meaning.specs.declared.row.Site.TheVariants.{Node}
+use Rattle.rdf_meaning.specs.declared.row.Want.TheVariants.{One, Many}
+use Rattle.rdf_meaning.specs.declared.word.Word.{Word}
+use Rattle.rdf_meaning.specs.declared.word.Word.TheVariants as word
+use Rattle.rdf_meaning.specs.Denotation.{Denotes, Lists, by_list, cell, no_cell}
+use Rattle.rdf_meaning.specs.NodeLaws.{own_term}
+use Rattle.rdf_meaning.specs.Nodes.{carries, chosen, is_iri, is_same, is_word, nil_iri, role_of, type_iri}
+use Rattle.rdf_meaning.specs.Rows.{Row}
+use Rattle.rdf_meaning.specs.Words.{is_type, word_iri, word_number}
 use Rattle.rdf_mapping.specs.Forms.{twice, no_arcs, arc, blank, first_iri, link, list_form, nodes, rest_iri, term_of, triples}
 use Rattle.rdf_mapping.specs.Drawing.{arc_iri, form_of, listed}
 use Rattle.rdf_mapping.specs.Frames.{AreNamedApart, IsOfNode, IsOwn, Keeps, is_node_word}

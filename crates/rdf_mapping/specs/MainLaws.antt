@@ -11,17 +11,17 @@ use Rattle.owl_kind.specs.Kinds.{Entity}
 use Rattle.rdf_graph.specs.declared.term.Term.{Term}
 use Rattle.rdf_graph.specs.declared.term.Term.TheVariants.{Iri, Blank, Literal}
 use Rattle.rdf_graph.specs.declared.triple.Triple.{Triple}
-use Rattle.rdf_nodes.specs.declared.role.Role.TheVariants as role
-use Rattle.rdf_nodes.specs.declared.word.Word.{Word}
-use Rattle.rdf_nodes.specs.declared.word.Word.TheVariants as word
-use Rattle.rdf_nodes.specs.Denotation.{axiom_predicates, axiom_types}
-use Rattle.rdf_nodes.specs.Kinds.{has_kind}
-use Rattle.rdf_nodes.specs.ListLaws.{passes, some_passes}
-use Rattle.rdf_nodes.specs.NodeLaws.{one_word, own_term, typed_object}
-use Rattle.rdf_nodes.specs.Nodes.{carries, carries_some, is_facet, is_iri, is_same, is_word, role_of, type_iri}
-use Rattle.rdf_nodes.specs.Statements.{header_words, is_axiom_predicate}
-use Rattle.rdf_nodes.specs.WordLaws.{same_iri, same_word}
-use Rattle.rdf_nodes.specs.Words.{is_type, word_iri, word_number}
+use Rattle.rdf_meaning.specs.declared.role.Role.TheVariants as role
+use Rattle.rdf_meaning.specs.declared.word.Word.{Word}
+use Rattle.rdf_meaning.specs.declared.word.Word.TheVariants as word
+use Rattle.rdf_meaning.specs.Denotation.{axiom_predicates, axiom_types}
+use Rattle.rdf_meaning.specs.Kinds.{has_kind}
+use Rattle.rdf_meaning.specs.ListLaws.{passes, some_passes}
+use Rattle.rdf_meaning.specs.NodeLaws.{one_word, own_term, typed_object}
+use Rattle.rdf_meaning.specs.Nodes.{carries, carries_some, is_facet, is_iri, is_same, is_word, role_of, type_iri}
+use Rattle.rdf_meaning.specs.Statements.{header_words, is_axiom_predicate}
+use Rattle.rdf_meaning.specs.WordLaws.{same_iri, same_word}
+use Rattle.rdf_meaning.specs.Words.{is_type, word_iri, word_number}
 use Rattle.rdf_mapping.specs.Frames.{IsOfNode, by_facet, by_word, is_node_word}
 use Rattle.rdf_mapping.specs.FreeLaws.{free_carries}
 use Rattle.rdf_mapping.specs.OwnLaws.{any_from}

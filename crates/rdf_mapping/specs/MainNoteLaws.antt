@@ -6,13 +6,13 @@ use Rattle.std.proofs.lemmas.Bool.{both_ways, cases_Bool}
 use Rattle.std.proofs.lemmas.List.Elements.{Contains-append_cases, Contains-append_right}
 use Rattle.rdf_graph.specs.declared.term.Term.{Term}
 use Rattle.rdf_graph.specs.declared.triple.Triple.{Triple}
-use Rattle.rdf_nodes.specs.declared.role.Role.{Role}
-use Rattle.rdf_nodes.specs.declared.role.Role.TheVariants as role
-use Rattle.rdf_nodes.specs.ListLaws.{from_filter, in_filter, passes, some_passes}
-use Rattle.rdf_nodes.specs.NodeLaws.{from_subject, in_subject}
-use Rattle.rdf_nodes.specs.Nodes.{carries, carries_some, is_own, is_structural, of_subject, role_of, words_of}
-use Rattle.rdf_nodes.specs.Statements.{notes_of}
-use Rattle.rdf_nodes.specs.Words.{word_number}
+use Rattle.rdf_meaning.specs.declared.role.Role.{Role}
+use Rattle.rdf_meaning.specs.declared.role.Role.TheVariants as role
+use Rattle.rdf_meaning.specs.ListLaws.{from_filter, in_filter, passes, some_passes}
+use Rattle.rdf_meaning.specs.NodeLaws.{from_subject, in_subject}
+use Rattle.rdf_meaning.specs.Nodes.{carries, carries_some, is_own, is_structural, of_subject, role_of, words_of}
+use Rattle.rdf_meaning.specs.Statements.{notes_of}
+use Rattle.rdf_meaning.specs.Words.{word_number}
 use Rattle.rdf_mapping.specs.Frames.{IsOwn, by_word, is_node_word}
 use Rattle.rdf_mapping.specs.Notes.{Notes}
 use Rattle.rdf_mapping.specs.Entries.{AreBeside, IsAny, note_links}

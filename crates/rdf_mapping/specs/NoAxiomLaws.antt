@@ -10,15 +10,15 @@ use Rattle.owl_tree.specs.Ontologies.{Head, OntologyName}
 use Rattle.rdf_graph.specs.declared.term.Term.{Term}
 use Rattle.rdf_graph.specs.declared.term.Term.TheVariants.{Iri}
 use Rattle.rdf_graph.specs.declared.triple.Triple.{Triple}
-use Rattle.rdf_nodes.specs.declared.role.Role.TheVariants as role
-use Rattle.rdf_nodes.specs.declared.word.Word.TheVariants as word
-use Rattle.rdf_nodes.specs.Kinds.{has_kind}
-use Rattle.rdf_nodes.specs.ListLaws.{some_passes}
-use Rattle.rdf_nodes.specs.NodeLaws.{own_term}
-use Rattle.rdf_nodes.specs.Nodes.{carries, carries_some, is_role, is_same, is_structural, role_of, type_iri}
-use Rattle.rdf_nodes.specs.RowLaws.{own_role}
-use Rattle.rdf_nodes.specs.Statements.{header_words, is_annotation_triple, is_axiom_predicate, is_header_triple}
-use Rattle.rdf_nodes.specs.Words.{is_type, word_iri, word_number}
+use Rattle.rdf_meaning.specs.declared.role.Role.TheVariants as role
+use Rattle.rdf_meaning.specs.declared.word.Word.TheVariants as word
+use Rattle.rdf_meaning.specs.Kinds.{has_kind}
+use Rattle.rdf_meaning.specs.ListLaws.{some_passes}
+use Rattle.rdf_meaning.specs.NodeLaws.{own_term}
+use Rattle.rdf_meaning.specs.Nodes.{carries, carries_some, is_role, is_same, is_structural, role_of, type_iri}
+use Rattle.rdf_meaning.specs.RowLaws.{own_role}
+use Rattle.rdf_meaning.specs.Statements.{header_words, is_annotation_triple, is_axiom_predicate, is_header_triple}
+use Rattle.rdf_meaning.specs.Words.{is_type, word_iri, word_number}
 use Rattle.rdf_mapping.specs.Forms.{link}
 use Rattle.rdf_mapping.specs.FreeLaws.{free_carries, free_tells_none}
 use Rattle.rdf_mapping.specs.Graphs.{head_triples}

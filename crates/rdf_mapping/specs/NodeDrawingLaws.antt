@@ -13,11 +13,11 @@ use Rattle.owl_tree.specs.Rows.{admits, is_tag}
 use Rattle.owl_tree.specs.Tags.{number_of}
 use Rattle.owl_tree.specs.Trees.{Tree, Kids, node, no_kids, kid, kids_of, list_of}
 use Rattle.rdf_graph.specs.declared.triple.Triple.{Triple}
-use Rattle.rdf_nodes.specs.declared.row.Want.TheVariants.{One}
-use Rattle.rdf_nodes.specs.Denotation.{Denotes, by_row}
-use Rattle.rdf_nodes.specs.ListLaws.{passes}
-use Rattle.rdf_nodes.specs.Rows.{Row, node_rows}
-use Rattle.rdf_nodes.specs.Words.{is_type, word_number}
+use Rattle.rdf_meaning.specs.declared.row.Want.TheVariants.{One}
+use Rattle.rdf_meaning.specs.Denotation.{Denotes, by_row}
+use Rattle.rdf_meaning.specs.ListLaws.{passes}
+use Rattle.rdf_meaning.specs.Rows.{Row, node_rows}
+use Rattle.rdf_meaning.specs.Words.{is_type, word_number}
 use Rattle.rdf_mapping.specs.Forms.{Form, made, blank, nodes, term_of, triples}
 use Rattle.rdf_mapping.specs.Drawing.{Kid, arcs_of, fit, form_of, kid_of, kids_seen, node_form, placed, row_for, tags_of}
 use Rattle.rdf_mapping.specs.Frames.{AreNamedApart, IsOfNode, Keeps}

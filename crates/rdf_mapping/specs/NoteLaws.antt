@@ -11,15 +11,15 @@ use Rattle.owl_list.specs.AscendingLaws.{in_cases, in_head, in_none}
 use Rattle.rdf_graph.specs.declared.term.Term.{Term}
 use Rattle.rdf_graph.specs.declared.term.Term.TheVariants.{Iri}
 use Rattle.rdf_graph.specs.declared.triple.Triple.{Triple}
-use Rattle.rdf_nodes.specs.declared.role.Role.{Role}
-use Rattle.rdf_nodes.specs.declared.role.Role.TheVariants as role
-use Rattle.rdf_nodes.specs.declared.word.Word.{Word}
-use Rattle.rdf_nodes.specs.declared.word.Word.TheVariants as word
-use Rattle.rdf_nodes.specs.ListLaws.{from_filter, in_filter, passes, some_passes}
-use Rattle.rdf_nodes.specs.NodeLaws.{from_subject, in_subject, own_term, same_iri_term, same_term}
-use Rattle.rdf_nodes.specs.Nodes.{carries, carries_some, chosen, first_role, is_facet, is_same, is_own, is_structural, marked_roles, marks_role, of_subject, role_of, words_of}
-use Rattle.rdf_nodes.specs.Statements.{notes_of, reifies}
-use Rattle.rdf_nodes.specs.Words.{is_type, word_iri, word_number}
+use Rattle.rdf_meaning.specs.declared.role.Role.{Role}
+use Rattle.rdf_meaning.specs.declared.role.Role.TheVariants as role
+use Rattle.rdf_meaning.specs.declared.word.Word.{Word}
+use Rattle.rdf_meaning.specs.declared.word.Word.TheVariants as word
+use Rattle.rdf_meaning.specs.ListLaws.{from_filter, in_filter, passes, some_passes}
+use Rattle.rdf_meaning.specs.NodeLaws.{from_subject, in_subject, own_term, same_iri_term, same_term}
+use Rattle.rdf_meaning.specs.Nodes.{carries, carries_some, chosen, first_role, is_facet, is_same, is_own, is_structural, marked_roles, marks_role, of_subject, role_of, words_of}
+use Rattle.rdf_meaning.specs.Statements.{notes_of, reifies}
+use Rattle.rdf_meaning.specs.Words.{is_type, word_iri, word_number}
 use Rattle.rdf_mapping.specs.Forms.{link}
 use Rattle.rdf_mapping.specs.Frames.{IsOfNode, IsOwn, by_word, is_node_word}
 use Rattle.rdf_mapping.specs.Notes.{Notes, no_notes, note, reifying}

@@ -18,10 +18,10 @@ use Rattle.rdf_mapping.specs.Drawing.{atom_term}
 use Rattle.rdf_graph.specs.declared.term.Term.{Term}
 use Rattle.rdf_graph.specs.declared.term.Term.TheVariants.{Iri}
 use Rattle.rdf_graph.specs.declared.triple.Triple.{Triple}
-use Rattle.rdf_nodes.specs.declared.word.Word.TheVariants as word
-use Rattle.rdf_nodes.specs.AxiomLaws.{notes_of_triples, triples_have_notes}
-use Rattle.rdf_nodes.specs.Denotation.{simple}
-use Rattle.rdf_nodes.specs.Statements.{Annotates, HasNote, notes, notes_of}
+use Rattle.rdf_meaning.specs.declared.word.Word.TheVariants as word
+use Rattle.rdf_meaning.specs.AxiomLaws.{notes_of_triples, triples_have_notes}
+use Rattle.rdf_meaning.specs.Denotation.{simple}
+use Rattle.rdf_meaning.specs.Statements.{Annotates, HasNote, notes, notes_of}
 use Rattle.rdf_mapping.specs.Forms.{blank, link}
 use Rattle.rdf_mapping.specs.Notes.{Notes, no_notes, note, notes_in, reified_nodes, where_some}
 use Rattle.rdf_mapping.specs.Entries.{AreEntries, Entry, entry, entry_node, note_links, note_roots}

@@ -12,8 +12,8 @@ use Rattle.rdf_mapping.specs.Drawing.{atom_term}
 use Rattle.rdf_graph.specs.declared.term.Term.{Term}
 use Rattle.rdf_graph.specs.declared.term.Term.TheVariants.{Iri}
 use Rattle.rdf_graph.specs.declared.triple.Triple.{Triple}
-use Rattle.rdf_nodes.specs.Denotation.{simple}
-use Rattle.rdf_nodes.specs.Statements.{Annotates, Variants, notes}
+use Rattle.rdf_meaning.specs.Denotation.{simple}
+use Rattle.rdf_meaning.specs.Statements.{Annotates, Variants, notes}
 use Rattle.rdf_mapping.specs.Notes.{Notes, no_notes, note}
 
 -- the annotation of this property and value, with a set of its own

@@ -8,12 +8,12 @@ use Rattle.owl_list.specs.AscendingLaws.{in_cases, in_head, in_none}
 use Rattle.rdf_graph.specs.declared.term.Term.{Term}
 use Rattle.rdf_graph.specs.declared.term.Term.TheVariants.{Blank}
 use Rattle.rdf_graph.specs.declared.triple.Triple.{Triple}
-use Rattle.rdf_nodes.specs.declared.role.Role.TheVariants as role
-use Rattle.rdf_nodes.specs.declared.word.Word.TheVariants as word
-use Rattle.rdf_nodes.specs.ListLaws.{from_filter, in_filter}
-use Rattle.rdf_nodes.specs.NodeLaws.{nodes_are}
-use Rattle.rdf_nodes.specs.Nodes.{nodes_of, role_of}
-use Rattle.rdf_nodes.specs.Statements.{noters, notes_of, reifies}
+use Rattle.rdf_meaning.specs.declared.role.Role.TheVariants as role
+use Rattle.rdf_meaning.specs.declared.word.Word.TheVariants as word
+use Rattle.rdf_meaning.specs.ListLaws.{from_filter, in_filter}
+use Rattle.rdf_meaning.specs.NodeLaws.{nodes_are}
+use Rattle.rdf_meaning.specs.Nodes.{nodes_of, role_of}
+use Rattle.rdf_meaning.specs.Statements.{noters, notes_of, reifies}
 use Rattle.rdf_mapping.specs.Forms.{link}
 use Rattle.rdf_mapping.specs.Frames.{AreNamedApart, Keeps}
 use Rattle.rdf_mapping.specs.Notes.{Notes, no_notes, note, reified_nodes, where_some}

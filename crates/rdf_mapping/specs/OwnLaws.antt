@@ -8,15 +8,15 @@ use Rattle.owl_list.specs.AscendingLaws.{in_cases, in_head, in_none, in_tail}
 use Rattle.rdf_graph.specs.declared.term.Term.{Term}
 use Rattle.rdf_graph.specs.declared.term.Term.TheVariants.{Blank}
 use Rattle.rdf_graph.specs.declared.triple.Triple.{Triple}
-use Rattle.rdf_nodes.specs.declared.role.Role.{Role}
-use Rattle.rdf_nodes.specs.declared.role.Role.TheVariants as role
-use Rattle.rdf_nodes.specs.declared.word.Word.{Word}
-use Rattle.rdf_nodes.specs.declared.word.Word.TheVariants as word
-use Rattle.rdf_nodes.specs.Denotation.{facets_of}
-use Rattle.rdf_nodes.specs.ListLaws.{from_filter, in_filter, passes, some_passes}
-use Rattle.rdf_nodes.specs.NodeLaws.{from_subject, in_subject}
-use Rattle.rdf_nodes.specs.Nodes.{carries, chosen, first_role, is_facet, is_same, marked_roles, marks_role, of_subject, role_of, roles_of}
-use Rattle.rdf_nodes.specs.Words.{word_number}
+use Rattle.rdf_meaning.specs.declared.role.Role.{Role}
+use Rattle.rdf_meaning.specs.declared.role.Role.TheVariants as role
+use Rattle.rdf_meaning.specs.declared.word.Word.{Word}
+use Rattle.rdf_meaning.specs.declared.word.Word.TheVariants as word
+use Rattle.rdf_meaning.specs.Denotation.{facets_of}
+use Rattle.rdf_meaning.specs.ListLaws.{from_filter, in_filter, passes, some_passes}
+use Rattle.rdf_meaning.specs.NodeLaws.{from_subject, in_subject}
+use Rattle.rdf_meaning.specs.Nodes.{carries, chosen, first_role, is_facet, is_same, marked_roles, marks_role, of_subject, role_of, roles_of}
+use Rattle.rdf_meaning.specs.Words.{word_number}
 use Rattle.rdf_mapping.specs.Frames.{IsOfNode, IsOwn, by_facet, by_word, is_node_word}
 
 -- Lists that have the same elements.

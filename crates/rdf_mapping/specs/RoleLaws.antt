@@ -7,12 +7,12 @@ use Rattle.owl_list.specs.Ascending.{AreApart}
 use Rattle.owl_list.specs.AscendingLaws.{in_none}
 use Rattle.rdf_graph.specs.declared.term.Term.TheVariants.{Blank}
 use Rattle.rdf_graph.specs.declared.triple.Triple.{Triple}
-use Rattle.rdf_nodes.specs.declared.role.Role.TheVariants as role
-use Rattle.rdf_nodes.specs.ListLaws.{passes}
-use Rattle.rdf_nodes.specs.Nodes.{is_role, role_of}
-use Rattle.rdf_nodes.specs.RowLaws.{same_role}
-use Rattle.rdf_nodes.specs.Rows.{Row, axiom_rows}
-use Rattle.rdf_nodes.specs.Words.{word_number}
+use Rattle.rdf_meaning.specs.declared.role.Role.TheVariants as role
+use Rattle.rdf_meaning.specs.ListLaws.{passes}
+use Rattle.rdf_meaning.specs.Nodes.{is_role, role_of}
+use Rattle.rdf_meaning.specs.RowLaws.{same_role}
+use Rattle.rdf_meaning.specs.Rows.{Row, axiom_rows}
+use Rattle.rdf_meaning.specs.Words.{word_number}
 use Rattle.rdf_mapping.specs.Frames.{IsOfNode, IsOwn}
 use Rattle.rdf_mapping.specs.OwnLaws.{role_own}
 use Rattle.rdf_mapping.specs.Spelling.{SpellParts, is_at_node, role_by}

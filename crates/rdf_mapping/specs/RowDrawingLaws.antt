@@ -14,16 +14,16 @@ use Rattle.owl_tree.specs.Trees.{Tree, leaf, node, tag_of}
 use Rattle.rdf_graph.specs.declared.term.Term.{Term}
 use Rattle.rdf_graph.specs.declared.term.Term.TheVariants.{Iri, Literal}
 use Rattle.rdf_graph.specs.declared.triple.Triple.{Triple}
-use Rattle.rdf_nodes.specs.declared.row.Part.{Part}
-use Rattle.rdf_nodes.specs.declared.row.Place.{Place}
-use Rattle.rdf_nodes.specs.declared.row.Place.TheVariants.{At, Subject, Predicate, Object}
-use Rattle.rdf_nodes.specs.declared.row.Want.{Want}
-use Rattle.rdf_nodes.specs.declared.row.Want.TheVariants.{One, Many, Whole, Keys, Declared, Mark, True}
-use Rattle.rdf_nodes.specs.declared.word.Word.{Word}
-use Rattle.rdf_nodes.specs.declared.word.Word.TheVariants as word
-use Rattle.rdf_nodes.specs.Denotation.{Denotes, is_true, mark, true_literal}
-use Rattle.rdf_nodes.specs.Nodes.{carries, is_iri, is_word}
-use Rattle.rdf_nodes.specs.Words.{is_type, word_iri}
+use Rattle.rdf_meaning.specs.declared.row.Part.{Part}
+use Rattle.rdf_meaning.specs.declared.row.Place.{Place}
+use Rattle.rdf_meaning.specs.declared.row.Place.TheVariants.{At, Subject, Predicate, Object}
+use Rattle.rdf_meaning.specs.declared.row.Want.{Want}
+use Rattle.rdf_meaning.specs.declared.row.Want.TheVariants.{One, Many, Whole, Keys, Declared, Mark, True}
+use Rattle.rdf_meaning.specs.declared.word.Word.{Word}
+use Rattle.rdf_meaning.specs.declared.word.Word.TheVariants as word
+use Rattle.rdf_meaning.specs.Denotation.{Denotes, is_true, mark, true_literal}
+use Rattle.rdf_meaning.specs.Nodes.{carries, is_iri, is_word}
+use Rattle.rdf_meaning.specs.Words.{is_type, word_iri}
 use Rattle.rdf_mapping.specs.Forms.{Form, plain, Arcs, arc, arc_nodes, link, nodes, term_of}
 use Rattle.rdf_mapping.specs.Drawing.{Kid, arc_iri, arcs_of, fit, form_of, forms_of, kid_of, listed, placed, singles, tags_of}
 use Rattle.rdf_mapping.specs.Frames.{AreNamedApart, EachKept, IsOfNode, own_triples}

@@ -13,15 +13,15 @@ use Rattle.owl_tree.specs.declared.tag.Tag.{Tag}
 use Rattle.owl_tree.specs.declared.tag.Tag.TheVariants as tag
 use Rattle.owl_tree.specs.Rows.{admits, ends_in, fits, fits_front, fits_rest, is_tag, row_of}
 use Rattle.owl_tree.specs.Rows as tree
-use Rattle.rdf_nodes.specs.declared.row.Part.{Part}
-use Rattle.rdf_nodes.specs.declared.row.Place.{Place}
-use Rattle.rdf_nodes.specs.declared.row.Place.TheVariants.{Subject}
-use Rattle.rdf_nodes.specs.declared.row.Want.{Want}
-use Rattle.rdf_nodes.specs.declared.row.Want.TheVariants.{One, Many, Whole, Keys, Declared, Mark, True}
-use Rattle.rdf_nodes.specs.ListLaws.{from_filter, in_filter}
-use Rattle.rdf_nodes.specs.RowShapes.{is_expression, kid_wants, ways, ways_behind, ways_of_rows}
-use Rattle.rdf_nodes.specs.Rows.{Row, node_rows}
-use Rattle.rdf_nodes.specs.ShapeLaws.{each_way_has_a_row}
+use Rattle.rdf_meaning.specs.declared.row.Part.{Part}
+use Rattle.rdf_meaning.specs.declared.row.Place.{Place}
+use Rattle.rdf_meaning.specs.declared.row.Place.TheVariants.{Subject}
+use Rattle.rdf_meaning.specs.declared.row.Want.{Want}
+use Rattle.rdf_meaning.specs.declared.row.Want.TheVariants.{One, Many, Whole, Keys, Declared, Mark, True}
+use Rattle.rdf_meaning.specs.ListLaws.{from_filter, in_filter}
+use Rattle.rdf_meaning.specs.RowShapes.{is_expression, kid_wants, ways, ways_behind, ways_of_rows}
+use Rattle.rdf_meaning.specs.Rows.{Row, node_rows}
+use Rattle.rdf_meaning.specs.ShapeLaws.{each_way_has_a_row}
 use Rattle.rdf_mapping.specs.Drawing.{first_row, fit, row_for, singles, takes_one}
 
 -- parts with these wants, wherever they stand

@@ -10,20 +10,20 @@ use Rattle.owl_tree.specs.declared.row.Sort.{Sort}
 use Rattle.owl_tree.specs.Trees.{Tree}
 use Rattle.rdf_graph.specs.declared.term.Term.TheVariants.{Iri, Literal}
 use Rattle.rdf_graph.specs.declared.triple.Triple.{Triple}
-use Rattle.rdf_nodes.specs.declared.role.Role.{Role}
-use Rattle.rdf_nodes.specs.declared.role.Role.TheVariants as role
-use Rattle.rdf_nodes.specs.declared.row.Part.{Part}
-use Rattle.rdf_nodes.specs.declared.row.Place.{Place}
-use Rattle.rdf_nodes.specs.declared.row.Place.TheVariants.{At, Subject, Predicate, Object}
-use Rattle.rdf_nodes.specs.declared.row.Want.{Want}
-use Rattle.rdf_nodes.specs.declared.row.Want.TheVariants.{One, Many, Whole, Keys, Declared, Mark, True}
-use Rattle.rdf_nodes.specs.declared.word.Word.{Word}
-use Rattle.rdf_nodes.specs.Denotation.{true_literal}
-use Rattle.rdf_nodes.specs.ListLaws.{passes, some_passes}
-use Rattle.rdf_nodes.specs.Nodes.{carries, carries_some, is_own, is_word, words_of}
-use Rattle.rdf_nodes.specs.Rows.{Row, node_rows}
-use Rattle.rdf_nodes.specs.WordLaws.{same_word}
-use Rattle.rdf_nodes.specs.Words.{is_type, word_iri, word_number}
+use Rattle.rdf_meaning.specs.declared.role.Role.{Role}
+use Rattle.rdf_meaning.specs.declared.role.Role.TheVariants as role
+use Rattle.rdf_meaning.specs.declared.row.Part.{Part}
+use Rattle.rdf_meaning.specs.declared.row.Place.{Place}
+use Rattle.rdf_meaning.specs.declared.row.Place.TheVariants.{At, Subject, Predicate, Object}
+use Rattle.rdf_meaning.specs.declared.row.Want.{Want}
+use Rattle.rdf_meaning.specs.declared.row.Want.TheVariants.{One, Many, Whole, Keys, Declared, Mark, True}
+use Rattle.rdf_meaning.specs.declared.word.Word.{Word}
+use Rattle.rdf_meaning.specs.Denotation.{true_literal}
+use Rattle.rdf_meaning.specs.ListLaws.{passes, some_passes}
+use Rattle.rdf_meaning.specs.Nodes.{carries, carries_some, is_own, is_word, words_of}
+use Rattle.rdf_meaning.specs.Rows.{Row, node_rows}
+use Rattle.rdf_meaning.specs.WordLaws.{same_word}
+use Rattle.rdf_meaning.specs.Words.{is_type, word_iri, word_number}
 use Rattle.rdf_mapping.specs.Drawing.{Kid, arcs_of, fit, forms_of, kid_of, listed, placed, singles, tags_of}
 use Rattle.rdf_mapping.specs.Forms.{Form, made, twice, blank, list_form}
 use Rattle.rdf_mapping.specs.FormSorts.{AllForms, HasOwnSort, IsOfNodes}

@@ -12,9 +12,9 @@ use Rattle.owl_tree.specs.Ontologies.{HoldEquivalent}
 use Rattle.owl_tree.specs.Trees.{Tree}
 use Rattle.rdf_graph.specs.declared.term.Term.{Term}
 use Rattle.rdf_graph.specs.declared.triple.Triple.{Triple}
-use Rattle.rdf_nodes.specs.declared.word.Word.{Word}
-use Rattle.rdf_nodes.specs.declared.word.Word.TheVariants as word
-use Rattle.rdf_nodes.specs.Statements.{notes}
+use Rattle.rdf_meaning.specs.declared.word.Word.{Word}
+use Rattle.rdf_meaning.specs.declared.word.Word.TheVariants as word
+use Rattle.rdf_meaning.specs.Statements.{notes}
 use Rattle.rdf_mapping.specs.Forms.{blank, link}
 use Rattle.rdf_mapping.specs.Notes.{Notes, no_notes, note, reified_nodes, where_some}
 use Rattle.rdf_mapping.specs.Entries.{AreAllBeside, AreBeside, AreEntries, Entry, IsSaid, entry, note_entries, reified_entries, reified_roots, set_entries, set_roots}

@@ -9,13 +9,13 @@ use Rattle.std.proofs.lemmas.Slice.Eq.{bytes_eq-Decides}
 use Rattle.owl_list.specs.AscendingLaws.{in_head, in_tail}
 use Rattle.rdf_graph.specs.declared.term.Term.{Term}
 use Rattle.rdf_graph.specs.declared.term.Term.TheVariants.{Iri}
-use Rattle.rdf_nodes.specs.declared.row.Site.TheVariants.{TypedBy, OtherType, LinkedBy, OtherLink}
-use Rattle.rdf_nodes.specs.declared.word.Word.{Word}
-use Rattle.rdf_nodes.specs.declared.word.Word.TheVariants as word
-use Rattle.rdf_nodes.specs.Denotation.{axiom_predicates, axiom_types, first_of, site_of}
-use Rattle.rdf_nodes.specs.NodeLaws.{same_term}
-use Rattle.rdf_nodes.specs.Nodes.{is_same, is_word, says_type, type_iri}
-use Rattle.rdf_nodes.specs.Words.{word_iri, word_number}
+use Rattle.rdf_meaning.specs.declared.row.Site.TheVariants.{TypedBy, OtherType, LinkedBy, OtherLink}
+use Rattle.rdf_meaning.specs.declared.word.Word.{Word}
+use Rattle.rdf_meaning.specs.declared.word.Word.TheVariants as word
+use Rattle.rdf_meaning.specs.Denotation.{axiom_predicates, axiom_types, first_of, site_of}
+use Rattle.rdf_meaning.specs.NodeLaws.{same_term}
+use Rattle.rdf_meaning.specs.Nodes.{is_same, is_word, says_type, type_iri}
+use Rattle.rdf_meaning.specs.Words.{word_iri, word_number}
 use Rattle.rdf_mapping.specs.Forms.{link}
 
 -- a predicate that says which axiom a triple is

@@ -8,15 +8,15 @@ use Rattle.owl_kind.specs.Kinds.{Entity}
 use Rattle.owl_list.specs.Ascending.{HoldSame}
 use Rattle.rdf_graph.specs.declared.term.Term.{Term}
 use Rattle.rdf_graph.specs.declared.triple.Triple.{Triple}
-use Rattle.rdf_nodes.specs.declared.role.Role.{Role}
-use Rattle.rdf_nodes.specs.declared.role.Role.TheVariants as role
-use Rattle.rdf_nodes.specs.Kinds.{has_kind}
-use Rattle.rdf_nodes.specs.ListLaws.{from_filter, in_filter, passes, some_passes}
-use Rattle.rdf_nodes.specs.NodeLaws.{same_term}
-use Rattle.rdf_nodes.specs.Nodes.{carries, carries_some, is_own, is_role, is_same, is_structural, role_of, words_of}
-use Rattle.rdf_nodes.specs.RowLaws.{same_role}
-use Rattle.rdf_nodes.specs.Statements.{header_words, is_annotation_triple, is_axiom_predicate, is_header_triple, main_triples}
-use Rattle.rdf_nodes.specs.Words.{word_number}
+use Rattle.rdf_meaning.specs.declared.role.Role.{Role}
+use Rattle.rdf_meaning.specs.declared.role.Role.TheVariants as role
+use Rattle.rdf_meaning.specs.Kinds.{has_kind}
+use Rattle.rdf_meaning.specs.ListLaws.{from_filter, in_filter, passes, some_passes}
+use Rattle.rdf_meaning.specs.NodeLaws.{same_term}
+use Rattle.rdf_meaning.specs.Nodes.{carries, carries_some, is_own, is_role, is_same, is_structural, role_of, words_of}
+use Rattle.rdf_meaning.specs.RowLaws.{same_role}
+use Rattle.rdf_meaning.specs.Statements.{header_words, is_annotation_triple, is_axiom_predicate, is_header_triple, main_triples}
+use Rattle.rdf_meaning.specs.Words.{word_number}
 use Rattle.rdf_mapping.specs.Frames.{IsOfNode, by_facet, by_word, is_node_word}
 use Rattle.rdf_mapping.specs.Sorts.{AreSorted, IsAside, of_annotations, of_header, of_node, IsMain}
 

@@ -13,26 +13,26 @@ use Rattle.owl_list.specs.AscendingLaws.{in_cases, in_head, in_none, in_tail}
 use Rattle.owl_tree.specs.Trees.{Tree}
 use Rattle.rdf_graph.specs.declared.term.Term.TheVariants.{Iri, Blank}
 use Rattle.rdf_graph.specs.declared.triple.Triple.{Triple}
-use Rattle.rdf_nodes.specs.declared.role.Role.{Role}
-use Rattle.rdf_nodes.specs.declared.role.Role.TheVariants as role
-use Rattle.rdf_nodes.specs.declared.row.Part.{Part}
-use Rattle.rdf_nodes.specs.declared.row.Place.{Place}
-use Rattle.rdf_nodes.specs.declared.row.Place.TheVariants.{At, Subject, Predicate, Object}
-use Rattle.rdf_nodes.specs.declared.row.Site.{Site}
-use Rattle.rdf_nodes.specs.declared.row.Site.TheVariants.{Node, TypedBy, OtherType, LinkedBy, OtherLink}
-use Rattle.rdf_nodes.specs.declared.row.Want.{Want}
-use Rattle.rdf_nodes.specs.declared.word.Word.{Word}
-use Rattle.rdf_nodes.specs.declared.word.Word.TheVariants as word
-use Rattle.rdf_nodes.specs.Denotation.{Denotes, Fits, Holds, of_node, select, stands_at, times}
-use Rattle.rdf_nodes.specs.Denotation as denotation
-use Rattle.rdf_nodes.specs.ListLaws.{in_filter, passes}
-use Rattle.rdf_nodes.specs.NodeLaws.{one_word}
-use Rattle.rdf_nodes.specs.Nodes.{carries, chosen, first_role, is_facet, is_same, is_word, marked_roles, marks_role, role_of, says_type, type_iri, words_of}
-use Rattle.rdf_nodes.specs.RowLaws.{same_role}
-use Rattle.rdf_nodes.specs.RowTests.{is_site}
-use Rattle.rdf_nodes.specs.Rows.{Row, axiom_rows, node_rows}
-use Rattle.rdf_nodes.specs.Words.{is_type, word_iri, word_number}
-use Rattle.rdf_nodes.specs.WordLaws.{same_word}
+use Rattle.rdf_meaning.specs.declared.role.Role.{Role}
+use Rattle.rdf_meaning.specs.declared.role.Role.TheVariants as role
+use Rattle.rdf_meaning.specs.declared.row.Part.{Part}
+use Rattle.rdf_meaning.specs.declared.row.Place.{Place}
+use Rattle.rdf_meaning.specs.declared.row.Place.TheVariants.{At, Subject, Predicate, Object}
+use Rattle.rdf_meaning.specs.declared.row.Site.{Site}
+use Rattle.rdf_meaning.specs.declared.row.Site.TheVariants.{Node, TypedBy, OtherType, LinkedBy, OtherLink}
+use Rattle.rdf_meaning.specs.declared.row.Want.{Want}
+use Rattle.rdf_meaning.specs.declared.word.Word.{Word}
+use Rattle.rdf_meaning.specs.declared.word.Word.TheVariants as word
+use Rattle.rdf_meaning.specs.Denotation.{Denotes, Fits, Holds, of_node, select, stands_at, times}
+use Rattle.rdf_meaning.specs.Denotation as denotation
+use Rattle.rdf_meaning.specs.ListLaws.{in_filter, passes}
+use Rattle.rdf_meaning.specs.NodeLaws.{one_word}
+use Rattle.rdf_meaning.specs.Nodes.{carries, chosen, first_role, is_facet, is_same, is_word, marked_roles, marks_role, role_of, says_type, type_iri, words_of}
+use Rattle.rdf_meaning.specs.RowLaws.{same_role}
+use Rattle.rdf_meaning.specs.RowTests.{is_site}
+use Rattle.rdf_meaning.specs.Rows.{Row, axiom_rows, node_rows}
+use Rattle.rdf_meaning.specs.Words.{is_type, word_iri, word_number}
+use Rattle.rdf_meaning.specs.WordLaws.{same_word}
 use Rattle.rdf_mapping.specs.Drawing.{arc_iri}
 use Rattle.rdf_mapping.specs.Frames.{IsOfNode, IsOwn, is_node_word}
 use Rattle.rdf_mapping.specs.OwnLaws.{chosen_own, role_own}

@@ -10,12 +10,12 @@ use Rattle.owl_list.specs.AscendingLaws.{in_cases, in_none}
 use Rattle.owl_tree.specs.Trees.{Tree}
 use Rattle.rdf_graph.specs.declared.term.Term.{Term}
 use Rattle.rdf_graph.specs.declared.triple.Triple.{Triple}
-use Rattle.rdf_nodes.specs.declared.word.Word.TheVariants as word
-use Rattle.rdf_nodes.specs.Denotation.{of_node}
-use Rattle.rdf_nodes.specs.ListLaws.{passes}
-use Rattle.rdf_nodes.specs.Rows.{Row, axiom_rows}
-use Rattle.rdf_nodes.specs.Statements.{IsAxiomWith}
-use Rattle.rdf_nodes.specs.Words.{is_type, word_number}
+use Rattle.rdf_meaning.specs.declared.word.Word.TheVariants as word
+use Rattle.rdf_meaning.specs.Denotation.{of_node}
+use Rattle.rdf_meaning.specs.ListLaws.{passes}
+use Rattle.rdf_meaning.specs.Rows.{Row, axiom_rows}
+use Rattle.rdf_meaning.specs.Statements.{IsAxiomWith}
+use Rattle.rdf_meaning.specs.Words.{is_type, word_number}
 use Rattle.rdf_mapping.specs.Forms.{made, Arcs, arc_nodes, blank, link, nodes, triples}
 use Rattle.rdf_mapping.specs.Drawing.{arcs_of, fit, kid_of, placed, tags_of}
 use Rattle.rdf_mapping.specs.FormLaws.{apart, keeps_part, lie, made_kept, subjects, wider}

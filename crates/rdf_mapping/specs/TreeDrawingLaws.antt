@@ -16,11 +16,11 @@ use Rattle.owl_tree.specs.Tags.{number_of}
 use Rattle.owl_tree.specs.Trees.{Tree, Kids, leaf, node, no_kids, kid, list_of, tag_of}
 use Rattle.rdf_graph.specs.declared.term.Term.TheVariants.{Blank}
 use Rattle.rdf_graph.specs.declared.triple.Triple.{Triple}
-use Rattle.rdf_nodes.specs.declared.role.Role.TheVariants as role
+use Rattle.rdf_meaning.specs.declared.role.Role.TheVariants as role
 use Rattle.std.proofs.lemmas.List.Elements.{Contains-append_left, Contains-append_right}
 use Rattle.owl_doc.specs.Entities.{AreWellTyped, entities, entities_of}
-use Rattle.rdf_nodes.specs.Nodes.{role_of}
-use Rattle.rdf_nodes.specs.RowShapes.{is_expression}
+use Rattle.rdf_meaning.specs.Nodes.{role_of}
+use Rattle.rdf_meaning.specs.RowShapes.{is_expression}
 use Rattle.rdf_mapping.specs.Drawing.{kids_seen, tags_of}
 use Rattle.rdf_mapping.specs.Frames.{AreNamedApart}
 use Rattle.rdf_mapping.specs.FacetDrawingLaws.{facet_drawn}

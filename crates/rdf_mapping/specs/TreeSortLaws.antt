@@ -18,13 +18,13 @@ use Rattle.owl_tree.specs.Shape.{AreShaped, IsShaped}
 use Rattle.owl_tree.specs.Trees.{Tree, Kids, leaf, node, no_kids, kid, list_of, tag_of}
 use Rattle.rdf_graph.specs.declared.term.Term.TheVariants.{Blank}
 use Rattle.rdf_graph.specs.declared.triple.Triple.{Triple}
-use Rattle.rdf_nodes.specs.declared.role.Role.{Role}
-use Rattle.rdf_nodes.specs.declared.role.Role.TheVariants as role
-use Rattle.rdf_nodes.specs.declared.word.Word.{Word}
-use Rattle.rdf_nodes.specs.declared.word.Word.TheVariants as word
-use Rattle.rdf_nodes.specs.Nodes.{carries, is_facet, is_role, marks_role, role_of}
-use Rattle.rdf_nodes.specs.RowShapes.{is_expression}
-use Rattle.rdf_nodes.specs.Rows.{Row, node_rows}
+use Rattle.rdf_meaning.specs.declared.role.Role.{Role}
+use Rattle.rdf_meaning.specs.declared.role.Role.TheVariants as role
+use Rattle.rdf_meaning.specs.declared.word.Word.{Word}
+use Rattle.rdf_meaning.specs.declared.word.Word.TheVariants as word
+use Rattle.rdf_meaning.specs.Nodes.{carries, is_facet, is_role, marks_role, role_of}
+use Rattle.rdf_meaning.specs.RowShapes.{is_expression}
+use Rattle.rdf_meaning.specs.Rows.{Row, node_rows}
 use Rattle.rdf_mapping.specs.RowForLaws.{HasRowFor, has_row_for}
 use Rattle.owl_tree.specs.Tags.{number_of}
 use Rattle.rdf_mapping.specs.Drawing.{Kid, arcs_of, atom_term, facet_arcs, fit, form_of, kid_of, kids_seen, node_form, placed, row_for, tags_of}

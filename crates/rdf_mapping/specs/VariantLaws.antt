@@ -15,9 +15,9 @@ use Rattle.owl_tree.specs.TreeLaws.{list_of_kids_of}
 use Rattle.owl_tree.specs.Trees.{Tree, kids_of}
 use Rattle.rdf_graph.specs.declared.term.Term.{Term}
 use Rattle.rdf_graph.specs.declared.triple.Triple.{Triple}
-use Rattle.rdf_nodes.specs.ListLaws.{nothing_else}
-use Rattle.rdf_nodes.specs.Statements.{Annotates, AreSets, no_set, set, Variants, bare, noted, noters, notes, notes_of}
-use Rattle.rdf_nodes.specs.StatementLaws.{one_notes, variants_are}
+use Rattle.rdf_meaning.specs.ListLaws.{nothing_else}
+use Rattle.rdf_meaning.specs.Statements.{Annotates, AreSets, no_set, set, Variants, bare, noted, noters, notes, notes_of}
+use Rattle.rdf_meaning.specs.StatementLaws.{one_notes, variants_are}
 use Rattle.rdf_mapping.specs.Entries.{AreEntries, Entry, entry_node}
 use Rattle.rdf_mapping.specs.NoterLaws.{noters_are}
 use Rattle.rdf_mapping.specs.NoteTrees.{AreReadAs, annotation}

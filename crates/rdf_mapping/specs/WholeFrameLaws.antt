@@ -13,9 +13,9 @@ use Rattle.rdf_graph.specs.GraphLaws.{set_holds}
 use Rattle.rdf_graph.specs.Graphs.{set_of}
 use Rattle.rdf_graph.specs.TermLaws.{triples_total}
 use Rattle.rdf_graph.specs.Terms.{triple_cmp}
-use Rattle.rdf_nodes.specs.declared.word.Word.TheVariants as word
-use Rattle.rdf_nodes.specs.Nodes.{type_iri}
-use Rattle.rdf_nodes.specs.Words.{word_iri}
+use Rattle.rdf_meaning.specs.declared.word.Word.TheVariants as word
+use Rattle.rdf_meaning.specs.Nodes.{type_iri}
+use Rattle.rdf_meaning.specs.Words.{word_iri}
 use Rattle.rdf_mapping.specs.Forms.{blank, link}
 use Rattle.rdf_mapping.specs.FormLaws.{apart, keeps_part, lie, subject_of}
 use Rattle.rdf_mapping.specs.Frames.{AreNamedApart, IsAny, IsForeign, Keeps, Lies}

@@ -12,13 +12,13 @@ use Rattle.rdf_graph.specs.declared.triple.Triple.{Triple}
 use Rattle.rdf_graph.specs.GraphLaws.{set_holds}
 use Rattle.rdf_graph.specs.Terms.{triple_cmp}
 use Rattle.rdf_graph.specs.TermLaws.{triples_total}
-use Rattle.rdf_nodes.specs.declared.role.Role.{Role}
-use Rattle.rdf_nodes.specs.declared.role.Role.TheVariants as role
-use Rattle.rdf_nodes.specs.ListLaws.{from_filter, some_passes}
-use Rattle.rdf_nodes.specs.NodeLaws.{from_subject}
-use Rattle.rdf_nodes.specs.declared.word.Word.TheVariants as word
-use Rattle.rdf_nodes.specs.Words.{word_iri}
-use Rattle.rdf_nodes.specs.Nodes.{first_role, marked_roles, marks_role, of_subject, role_of, roles_of, type_iri}
+use Rattle.rdf_meaning.specs.declared.role.Role.{Role}
+use Rattle.rdf_meaning.specs.declared.role.Role.TheVariants as role
+use Rattle.rdf_meaning.specs.ListLaws.{from_filter, some_passes}
+use Rattle.rdf_meaning.specs.NodeLaws.{from_subject}
+use Rattle.rdf_meaning.specs.declared.word.Word.TheVariants as word
+use Rattle.rdf_meaning.specs.Words.{word_iri}
+use Rattle.rdf_meaning.specs.Nodes.{first_role, marked_roles, marks_role, of_subject, role_of, roles_of, type_iri}
 use Rattle.rdf_mapping.specs.Forms.{Arcs, arc_nodes, blank, link, nodes, term_of}
 use Rattle.rdf_mapping.specs.Drawing.{Statement, linked, linked_back, looped, standing, unsaid}
 use Rattle.rdf_mapping.specs.Frames.{AreNamedApart, Keeps}

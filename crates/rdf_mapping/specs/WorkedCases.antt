@@ -9,8 +9,8 @@ use Rattle.owl_tree.specs.Tags.{number_of}
 use Rattle.owl_tree.specs.Trees.{Tree, leaf, node, kids_of}
 use Rattle.rdf_terms.specs.Vocabulary.{owl, rdf}
 use Rattle.rdf_graph.specs.declared.term.Term.TheVariants.{Iri, Blank}
-use Rattle.rdf_nodes.specs.Words.{is_type, word_iri}
-use Rattle.rdf_nodes.specs.Rows.{axiom_rows, node_rows}
+use Rattle.rdf_meaning.specs.Words.{is_type, word_iri}
+use Rattle.rdf_meaning.specs.Rows.{axiom_rows, node_rows}
 use Rattle.rdf_mapping.specs.Forms.{link, triples}
 use Rattle.rdf_mapping.specs.Drawing.{fit, form_of, is_pair, placed, row_for, statement_of}
 use Rattle.rdf_mapping.specs.Graphs.{statement_triples}

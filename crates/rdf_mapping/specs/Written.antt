@@ -8,20 +8,20 @@ use Rattle.owl_tree.specs.declared.atom.Atom.TheVariants as atom
 use Rattle.owl_tree.specs.Rows.{admits}
 use Rattle.owl_tree.specs.Trees.{Tree, Kids, leaf, node, no_kids, kid, kids_of, tag_of}
 use Rattle.rdf_graph.specs.declared.triple.Triple.{Triple}
-use Rattle.rdf_nodes.specs.declared.row.Part.{Part}
-use Rattle.rdf_nodes.specs.declared.row.Want.{Want}
-use Rattle.rdf_nodes.specs.declared.row.Want.TheVariants.{One, Many, Whole, Keys, Declared, Mark, True}
-use Rattle.rdf_nodes.specs.declared.row.Place.{Place}
-use Rattle.rdf_nodes.specs.declared.row.Place.TheVariants.{At, Subject, Predicate, Object}
-use Rattle.rdf_nodes.specs.declared.word.Word.{Word}
-use Rattle.rdf_nodes.specs.declared.word.Word.TheVariants as word
+use Rattle.rdf_meaning.specs.declared.row.Part.{Part}
+use Rattle.rdf_meaning.specs.declared.row.Want.{Want}
+use Rattle.rdf_meaning.specs.declared.row.Want.TheVariants.{One, Many, Whole, Keys, Declared, Mark, True}
+use Rattle.rdf_meaning.specs.declared.row.Place.{Place}
+use Rattle.rdf_meaning.specs.declared.row.Place.TheVariants.{At, Subject, Predicate, Object}
+use Rattle.rdf_meaning.specs.declared.word.Word.{Word}
+use Rattle.rdf_meaning.specs.declared.word.Word.TheVariants as word
 use Rattle.rdf_graph.specs.declared.term.Term.TheVariants.{Blank}
-use Rattle.rdf_nodes.specs.declared.role.Role.TheVariants as role
-use Rattle.rdf_nodes.specs.Nodes.{is_facet, is_iri, is_word, role_of}
+use Rattle.rdf_meaning.specs.declared.role.Role.TheVariants as role
+use Rattle.rdf_meaning.specs.Nodes.{is_facet, is_iri, is_word, role_of}
 use Rattle.rdf_mapping.specs.Graphs.{labels_in}
-use Rattle.rdf_nodes.specs.Words.{is_type}
-use Rattle.rdf_nodes.specs.Denotation.{Denotes}
-use Rattle.rdf_nodes.specs.Rows.{Row, node_rows}
+use Rattle.rdf_meaning.specs.Words.{is_type}
+use Rattle.rdf_meaning.specs.Denotation.{Denotes}
+use Rattle.rdf_meaning.specs.Rows.{Row, node_rows}
 use Rattle.rdf_mapping.specs.Forms.{nodes, term_of, triples}
 use Rattle.rdf_mapping.specs.Drawing.{form_of, kids_seen, row_for, singles, tags_of}
 use Rattle.rdf_mapping.specs.Frames.{IsOfNode, Keeps}

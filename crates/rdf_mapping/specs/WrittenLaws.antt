@@ -11,12 +11,12 @@ use Rattle.owl_tree.specs.declared.tag.Tag.TheVariants as tag
 use Rattle.owl_tree.specs.Equivalence.{Agree, AgreeAsSetFrom, AgreeByPlace, EachHoldsOfSome, IsEquivalent, SomeHoldsOfEach, equivalents}
 use Rattle.owl_tree.specs.Rows.{admits, is_tag, row_of, set_start}
 use Rattle.owl_tree.specs.Trees.{Tree, Kids, leaf, node, no_kids, kid, kids_of, list_of}
-use Rattle.rdf_nodes.specs.declared.row.Part.{Part}
-use Rattle.rdf_nodes.specs.declared.row.Place.{Place}
-use Rattle.rdf_nodes.specs.declared.row.Want.{Want}
-use Rattle.rdf_nodes.specs.declared.row.Want.TheVariants.{One, Many, Whole, Keys, Declared, Mark, True}
-use Rattle.rdf_nodes.specs.ListLaws.{from_filter, passes}
-use Rattle.rdf_nodes.specs.Rows.{Row, node_rows}
+use Rattle.rdf_meaning.specs.declared.row.Part.{Part}
+use Rattle.rdf_meaning.specs.declared.row.Place.{Place}
+use Rattle.rdf_meaning.specs.declared.row.Want.{Want}
+use Rattle.rdf_meaning.specs.declared.row.Want.TheVariants.{One, Many, Whole, Keys, Declared, Mark, True}
+use Rattle.rdf_meaning.specs.ListLaws.{from_filter, passes}
+use Rattle.rdf_meaning.specs.Rows.{Row, node_rows}
 use Rattle.rdf_mapping.specs.Drawing.{first_row, fit, kids_seen, row_for, singles, tags_of}
 use Rattle.rdf_mapping.specs.NodeDrawingLaws.{same_tag}
 use Rattle.rdf_mapping.specs.Written.{all_written, doubled, given, given_of, next_given, written}

@@ -4,9 +4,9 @@
 ghost use Rattle.std.specs.Prelude.{true, ◌≡◌, ◌↔◌, ◌≤◌, ◌+◌, ◌*◌, ◌^◌, ℕ, length, List, [], ◌++◌, Contains};
 ghost use Rattle.std.specs.List.{list_all};
 ghost use Rattle.owl_list.specs.Ascending.{AreApart, HoldSame};
-ghost use Rattle.rdf_nodes.specs.declared.role.Role.TheVariants as role;
-ghost use Rattle.rdf_nodes.specs.Nodes.{carries_some, marks_role, role_of, words_of};
-ghost use Rattle.rdf_nodes.specs.Statements.{Variants, noters, notes, notes_of, reifies};
+ghost use Rattle.rdf_meaning.specs.declared.role.Role.TheVariants as role;
+ghost use Rattle.rdf_meaning.specs.Nodes.{carries_some, marks_role, role_of, words_of};
+ghost use Rattle.rdf_meaning.specs.Statements.{Variants, noters, notes, notes_of, reifies};
 ghost use Rattle.owl_kind.specs.Kinds.{Entity};
 ghost use Rattle.owl_tree.specs.Equivalence.{IsEquivalent};
 ghost use Rattle.owl_tree.specs.Ontologies.{HoldEquivalent, Ontology};

@@ -4,13 +4,13 @@ ghost use Rattle.std.specs.Prelude.{◌≡◌, ◌≤◌, length, map, option_ma
 ghost use Rattle.std.specs.List.{list_all};
 ghost use Rattle.owl_arena.specs.Held.{AreHeld};
 ghost use Rattle.owl_tree.specs.Rows.{admits};
-ghost use Rattle.rdf_nodes.specs.Rows.{row_seen};
+ghost use Rattle.rdf_meaning.specs.Rows.{row_seen};
 ghost use Rattle.rdf_mapping.specs.Drawing.{fit, row_for, singles, suits, takes_one};
 ghost use Rattle.rdf_mapping.specs.Arenas.{tags_at};
 
 use owl_arena::{Arena, ExprId};
 use owl_tree::{Sort, Tag};
-use rdf_nodes::{Part, Row, Want};
+use rdf_meaning::{Part, Row, Want};
 
 /// Whether a part takes one kid.
 fn takes_one(want: Want) -> bool

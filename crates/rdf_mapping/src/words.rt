@@ -5,14 +5,14 @@ ghost use Rattle.std.specs.Str.{chars};
 ghost use Rattle.rdf_graph.specs.declared.term.Term.TheVariants as held;
 ghost use Rattle.rdf_terms.specs.Literals.{lang_string, of_datatype, plain_literal};
 ghost use Rattle.rdf_terms.specs.Vocabulary.{xsd};
-ghost use Rattle.rdf_nodes.specs.Denotation.{true_literal};
-ghost use Rattle.rdf_nodes.specs.Nodes.{nil_iri, type_iri};
-ghost use Rattle.rdf_nodes.specs.Words.{word_iri};
+ghost use Rattle.rdf_meaning.specs.Denotation.{true_literal};
+ghost use Rattle.rdf_meaning.specs.Nodes.{nil_iri, type_iri};
+ghost use Rattle.rdf_meaning.specs.Words.{word_iri};
 ghost use Rattle.rdf_mapping.specs.Drawing.{arc_iri, number_literal};
 
 use owl_characters::NoMemory;
 use rdf_graph::Term;
-use rdf_nodes::Word;
+use rdf_meaning::Word;
 use rdf_terms::{Iri, Literal, LiteralFault};
 use std::alloc::Global;
 

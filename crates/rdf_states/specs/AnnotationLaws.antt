@@ -24,11 +24,11 @@ use Rattle.owl_tree.specs.Trees.{Tree, Kids, leaf, node, no_kids, kid, kids_in, 
 use Rattle.rdf_graph.specs.declared.term.Term.{Term}
 use Rattle.rdf_graph.specs.declared.term.Term.TheVariants.{Iri, Blank}
 use Rattle.rdf_graph.specs.declared.triple.Triple.{Triple}
-use Rattle.rdf_nodes.specs.declared.role.Role.TheVariants as role
-use Rattle.rdf_nodes.specs.Denotation.{simple}
-use Rattle.rdf_nodes.specs.Kinds.{has_kind, may_be_declared}
-use Rattle.rdf_nodes.specs.KindLaws.{has_kind_is}
-use Rattle.rdf_nodes.specs.Nodes.{role_of}
+use Rattle.rdf_meaning.specs.declared.role.Role.TheVariants as role
+use Rattle.rdf_meaning.specs.Denotation.{simple}
+use Rattle.rdf_meaning.specs.Kinds.{has_kind, may_be_declared}
+use Rattle.rdf_meaning.specs.KindLaws.{has_kind_is}
+use Rattle.rdf_meaning.specs.Nodes.{role_of}
 use Rattle.rdf_terms.specs.Vocabulary.{is_reserved}
 use Rattle.rdf_sayable.specs.Parts.{leaves, leaves_of}
 use Rattle.rdf_sayable.specs.Reasons.{Objection, reserved}

@@ -6,10 +6,10 @@ use Rattle.owl_tree.specs.Ontologies.{Ontology}
 use Rattle.owl_tree.specs.Trees.{Tree, tag_of}
 use Rattle.rdf_graph.specs.declared.term.Term.TheVariants.{Blank}
 use Rattle.rdf_graph.specs.declared.triple.Triple.{Triple}
-use Rattle.rdf_nodes.specs.declared.role.Role.TheVariants as role
-use Rattle.rdf_nodes.specs.Denotation.{of_node, of_triple}
-use Rattle.rdf_nodes.specs.Nodes.{role_of}
-use Rattle.rdf_nodes.specs.Statements.{IsAxiomWith}
+use Rattle.rdf_meaning.specs.declared.role.Role.TheVariants as role
+use Rattle.rdf_meaning.specs.Denotation.{of_node, of_triple}
+use Rattle.rdf_meaning.specs.Nodes.{role_of}
+use Rattle.rdf_meaning.specs.Statements.{IsAxiomWith}
 use Rattle.rdf_mapping.specs.Drawing.{statement_of}
 use Rattle.rdf_mapping.specs.Frames.{AreNamedApart, IsAny, IsForeign, IsOwn, own_triples}
 use Rattle.rdf_mapping.specs.GraphEntries.{made_nodes}

@@ -4,7 +4,7 @@ use Rattle.std.specs.Prelude.{Contains}
 use Rattle.owl_kind.specs.Kinds.{Entity}
 use Rattle.owl_list.specs.AscendingLaws.{all_from, in_head, in_tail}
 use Rattle.owl_tree.specs.Ontologies.{Ontology}
-use Rattle.rdf_nodes.specs.Statements.{Says}
+use Rattle.rdf_meaning.specs.Statements.{Says}
 use Rattle.rdf_mapping.specs.Asides.{HasForeignSubject, HaveForeignSubjects}
 use Rattle.rdf_mapping.specs.Drawing.{Statement}
 use Rattle.rdf_mapping.specs.Entries.{AreAllBeside, AreEntries}

@@ -14,13 +14,13 @@ use Rattle.owl_tree.specs.Trees.{Tree, kids_of, list_of}
 use Rattle.rdf_graph.specs.declared.term.Term.{Term}
 use Rattle.rdf_graph.specs.declared.term.Term.TheVariants.{Iri, Blank, Literal}
 use Rattle.rdf_graph.specs.declared.triple.Triple.{Triple}
-use Rattle.rdf_nodes.specs.declared.word.Word.{Word}
-use Rattle.rdf_nodes.specs.declared.word.Word.TheVariants as word
-use Rattle.rdf_nodes.specs.ListLaws.{from_filter, in_filter}
-use Rattle.rdf_nodes.specs.NodeLaws.{chosen_is, from_subject, in_chosen, in_subject}
-use Rattle.rdf_nodes.specs.Nodes.{carries, chosen, is_same, of_subject, type_iri}
-use Rattle.rdf_nodes.specs.Statements.{IsHeadOf, unnamed, named, header_notes, is_header_triple, only}
-use Rattle.rdf_nodes.specs.Words.{is_type, word_iri, word_number}
+use Rattle.rdf_meaning.specs.declared.word.Word.{Word}
+use Rattle.rdf_meaning.specs.declared.word.Word.TheVariants as word
+use Rattle.rdf_meaning.specs.ListLaws.{from_filter, in_filter}
+use Rattle.rdf_meaning.specs.NodeLaws.{chosen_is, from_subject, in_chosen, in_subject}
+use Rattle.rdf_meaning.specs.Nodes.{carries, chosen, is_same, of_subject, type_iri}
+use Rattle.rdf_meaning.specs.Statements.{IsHeadOf, unnamed, named, header_notes, is_header_triple, only}
+use Rattle.rdf_meaning.specs.Words.{is_type, word_iri, word_number}
 use Rattle.rdf_mapping.specs.AsideLaws.{set_root_triples}
 use Rattle.rdf_mapping.specs.Drawing.{statement_of}
 use Rattle.rdf_mapping.specs.Entries.{AreEntries, Entry, entry, note_links, note_roots}

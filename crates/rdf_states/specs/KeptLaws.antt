@@ -10,9 +10,9 @@ use Rattle.owl_tree.specs.Trees.{Tree}
 use Rattle.rdf_graph.specs.declared.term.Term.{Term}
 use Rattle.rdf_graph.specs.declared.term.Term.TheVariants.{Iri, Blank, Literal}
 use Rattle.rdf_graph.specs.declared.triple.Triple.{Triple}
-use Rattle.rdf_nodes.specs.Denotation.{of_node, of_triple}
-use Rattle.rdf_nodes.specs.Nodes.{is_iri}
-use Rattle.rdf_nodes.specs.Statements.{IsAxiomWith}
+use Rattle.rdf_meaning.specs.Denotation.{of_node, of_triple}
+use Rattle.rdf_meaning.specs.Nodes.{is_iri}
+use Rattle.rdf_meaning.specs.Statements.{IsAxiomWith}
 use Rattle.rdf_mapping.specs.Drawing.{Statement, linked, linked_back, looped, standing, unsaid}
 use Rattle.rdf_mapping.specs.Entries.{note_links}
 use Rattle.rdf_mapping.specs.EntryLaws.{entry_subjects, link_subjects, notes_drawn}

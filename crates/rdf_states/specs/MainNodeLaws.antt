@@ -6,8 +6,8 @@ use Rattle.owl_tree.specs.Ontologies.{Ontology}
 use Rattle.owl_tree.specs.Trees.{Tree}
 use Rattle.rdf_graph.specs.declared.term.Term.{Term}
 use Rattle.rdf_graph.specs.declared.triple.Triple.{Triple}
-use Rattle.rdf_nodes.specs.declared.role.Role.TheVariants as role
-use Rattle.rdf_nodes.specs.Nodes.{marks_role, role_of}
+use Rattle.rdf_meaning.specs.declared.role.Role.TheVariants as role
+use Rattle.rdf_meaning.specs.Nodes.{marks_role, role_of}
 use Rattle.rdf_mapping.specs.Drawing.{statement_of}
 use Rattle.rdf_mapping.specs.Entries.{AreEntries, Entry, entry_node, note_links}
 use Rattle.rdf_mapping.specs.EntryLaws.{entry_subjects, link_subjects}

@@ -10,15 +10,15 @@ use Rattle.owl_tree.specs.Ontologies.{Head, OntologyName}
 use Rattle.rdf_graph.specs.declared.term.Term.{Term}
 use Rattle.rdf_graph.specs.declared.term.Term.TheVariants.{Iri}
 use Rattle.rdf_graph.specs.declared.triple.Triple.{Triple}
-use Rattle.rdf_nodes.specs.declared.role.Role.{Role}
-use Rattle.rdf_nodes.specs.declared.role.Role.TheVariants as role
-use Rattle.rdf_nodes.specs.declared.word.Word.{Word}
-use Rattle.rdf_nodes.specs.declared.word.Word.TheVariants as word
-use Rattle.rdf_nodes.specs.Denotation.{axiom_predicates, axiom_types}
-use Rattle.rdf_nodes.specs.ListLaws.{Passing, passes, some_passes}
-use Rattle.rdf_nodes.specs.Nodes.{carries, carries_some, is_facet, is_own, is_role, is_structural, is_word, marked_roles, marks_role, role_of, type_iri, words_of}
-use Rattle.rdf_nodes.specs.RowLaws.{same_role}
-use Rattle.rdf_nodes.specs.Words.{is_type, word_iri, word_number}
+use Rattle.rdf_meaning.specs.declared.role.Role.{Role}
+use Rattle.rdf_meaning.specs.declared.role.Role.TheVariants as role
+use Rattle.rdf_meaning.specs.declared.word.Word.{Word}
+use Rattle.rdf_meaning.specs.declared.word.Word.TheVariants as word
+use Rattle.rdf_meaning.specs.Denotation.{axiom_predicates, axiom_types}
+use Rattle.rdf_meaning.specs.ListLaws.{Passing, passes, some_passes}
+use Rattle.rdf_meaning.specs.Nodes.{carries, carries_some, is_facet, is_own, is_role, is_structural, is_word, marked_roles, marks_role, role_of, type_iri, words_of}
+use Rattle.rdf_meaning.specs.RowLaws.{same_role}
+use Rattle.rdf_meaning.specs.Words.{is_type, word_iri, word_number}
 use Rattle.rdf_mapping.specs.Forms.{link}
 use Rattle.rdf_mapping.specs.Graphs.{head_triples}
 use Rattle.rdf_mapping.specs.MainLaws.{harmless}

@@ -11,8 +11,8 @@ use Rattle.owl_tree.specs.declared.atom.Atom.{Atom}
 use Rattle.owl_tree.specs.declared.tag.Tag.{Tag}
 use Rattle.owl_tree.specs.Ontologies.{IsOntology, Ontology, ontology_weight}
 use Rattle.owl_tree.specs.Trees.{Tree, Kids, leaf, node, no_kids, kid, kids_of}
-use Rattle.rdf_nodes.specs.Kinds.{HaveNoClash}
-use Rattle.rdf_nodes.specs.Statements.{Says}
+use Rattle.rdf_meaning.specs.Kinds.{HaveNoClash}
+use Rattle.rdf_meaning.specs.Statements.{Says}
 use Rattle.rdf_normal.specs.NormalForms.{normal_form, unsettled_annotations, unsettled_axioms}
 use Rattle.rdf_normal.specs.NormalFormLaws.{HasLeaf, HasLeafIn, KidsHaveLeaf, KidsMeet, LeavesMeet, annotations_have_leaf, axioms_have_leaf, leaves_of_annotations, leaves_of_axioms}
 use Rattle.rdf_normal.specs.AgainLaws.{normal_again}

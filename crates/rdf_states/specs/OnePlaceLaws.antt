@@ -15,8 +15,8 @@ use Rattle.owl_tree.specs.Tags.{is_axiom}
 use Rattle.owl_tree.specs.Trees.{Tree, Kids, leaf, node, no_kids, kid, kids_of, tag_of}
 use Rattle.rdf_graph.specs.declared.term.Term.TheVariants.{Blank}
 use Rattle.rdf_graph.specs.declared.triple.Triple.{Triple}
-use Rattle.rdf_nodes.specs.Denotation.{of_triple}
-use Rattle.rdf_nodes.specs.StatementLaws.{one_axiom}
+use Rattle.rdf_meaning.specs.Denotation.{of_triple}
+use Rattle.rdf_meaning.specs.StatementLaws.{one_axiom}
 use Rattle.std.proofs.lemmas.Bool.{or_right}
 use Rattle.rdf_normal.specs.NeedlessLaws.{bare_canonical, both_true}
 use Rattle.rdf_normal.specs.NormalForms.{bears_notes}

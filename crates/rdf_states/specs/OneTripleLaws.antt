@@ -9,14 +9,14 @@ use Rattle.owl_tree.specs.Rows.{is_tag}
 use Rattle.owl_tree.specs.Tags.{number_of}
 use Rattle.owl_tree.specs.Trees.{Tree, Kids, leaf, node, no_kids, kid, list_of}
 use Rattle.rdf_graph.specs.declared.triple.Triple.{Triple}
-use Rattle.rdf_nodes.specs.declared.row.Part.{Part}
-use Rattle.rdf_nodes.specs.declared.row.Place.{Place}
-use Rattle.rdf_nodes.specs.declared.row.Site.{Site}
-use Rattle.rdf_nodes.specs.declared.row.Site.TheVariants.{Node, TypedBy, OtherType, LinkedBy, OtherLink}
-use Rattle.rdf_nodes.specs.declared.row.Want.{Want}
-use Rattle.rdf_nodes.specs.declared.row.Want.TheVariants.{One, Many, Whole, Keys, Declared, Mark, True}
-use Rattle.rdf_nodes.specs.ListLaws.{from_filter, passes}
-use Rattle.rdf_nodes.specs.Rows.{Row, axiom_rows}
+use Rattle.rdf_meaning.specs.declared.row.Part.{Part}
+use Rattle.rdf_meaning.specs.declared.row.Place.{Place}
+use Rattle.rdf_meaning.specs.declared.row.Site.{Site}
+use Rattle.rdf_meaning.specs.declared.row.Site.TheVariants.{Node, TypedBy, OtherType, LinkedBy, OtherLink}
+use Rattle.rdf_meaning.specs.declared.row.Want.{Want}
+use Rattle.rdf_meaning.specs.declared.row.Want.TheVariants.{One, Many, Whole, Keys, Declared, Mark, True}
+use Rattle.rdf_meaning.specs.ListLaws.{from_filter, passes}
+use Rattle.rdf_meaning.specs.Rows.{Row, axiom_rows}
 use Rattle.rdf_normal.specs.OneTriple.{is_negative, is_one_triple, lists_members}
 use Rattle.rdf_mapping.specs.WrittenLaws.{first_in}
 use Rattle.rdf_mapping.specs.Drawing.{Kid, Placed, Statement, linked, linked_back, looped, standing, unsaid, fit, is_pair, kid_of, kids_seen, loop_at, loop_by, placed, row_for, stated, stated_by, statement_of, suits, tags_of, takes_one}

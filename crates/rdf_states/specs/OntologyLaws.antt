@@ -6,7 +6,7 @@ use Rattle.owl_kind.specs.Kinds.{Entity}
 use Rattle.owl_list.specs.AscendingLaws.{all_in}
 use Rattle.owl_tree.specs.Ontologies.{Ontology}
 use Rattle.owl_tree.specs.Trees.{Tree}
-use Rattle.rdf_nodes.specs.Statements.{Says}
+use Rattle.rdf_meaning.specs.Statements.{Says}
 use Rattle.rdf_mapping.specs.FreshLabels.{fresh_name}
 use Rattle.rdf_mapping.specs.FreshLabelLaws.{fresh_new}
 use Rattle.rdf_mapping.specs.GraphEntries.{made_nodes}

@@ -25,19 +25,19 @@ use Rattle.owl_tree.specs.Trees.{Tree, Kids, leaf, node, no_kids, kid, kids_of, 
 use Rattle.rdf_graph.specs.declared.term.Term.{Term}
 use Rattle.rdf_graph.specs.declared.term.Term.TheVariants.{Iri}
 use Rattle.rdf_graph.specs.declared.triple.Triple.{Triple}
-use Rattle.rdf_nodes.specs.declared.row.Place.TheVariants.{Subject, Predicate, Object}
-use Rattle.rdf_nodes.specs.declared.row.Site.{Site}
-use Rattle.rdf_nodes.specs.declared.row.Site.TheVariants.{OtherLink}
-use Rattle.rdf_nodes.specs.declared.row.Want.TheVariants.{One}
-use Rattle.rdf_nodes.specs.Denotation.{Denotes, Holds, iri_leaf, of_triple, simple, site_of}
-use Rattle.rdf_nodes.specs.DenotationLaws.{IsOne, itself, with_row, one_is, parts_are, so}
-use Rattle.rdf_nodes.specs.Kinds.{HaveNoClash, has_kind}
-use Rattle.rdf_nodes.specs.KindLaws.{has_kind_is, no_shared}
-use Rattle.rdf_nodes.specs.ListLaws.{in_filter, same_only}
-use Rattle.rdf_nodes.specs.RowLaws.{at_expression}
-use Rattle.rdf_nodes.specs.RowTests.{has_row_at}
-use Rattle.rdf_nodes.specs.Rows.{Row, axiom_rows}
-use Rattle.rdf_nodes.specs.Statements.{IsAxiomWith}
+use Rattle.rdf_meaning.specs.declared.row.Place.TheVariants.{Subject, Predicate, Object}
+use Rattle.rdf_meaning.specs.declared.row.Site.{Site}
+use Rattle.rdf_meaning.specs.declared.row.Site.TheVariants.{OtherLink}
+use Rattle.rdf_meaning.specs.declared.row.Want.TheVariants.{One}
+use Rattle.rdf_meaning.specs.Denotation.{Denotes, Holds, iri_leaf, of_triple, simple, site_of}
+use Rattle.rdf_meaning.specs.DenotationLaws.{IsOne, itself, with_row, one_is, parts_are, so}
+use Rattle.rdf_meaning.specs.Kinds.{HaveNoClash, has_kind}
+use Rattle.rdf_meaning.specs.KindLaws.{has_kind_is, no_shared}
+use Rattle.rdf_meaning.specs.ListLaws.{in_filter, same_only}
+use Rattle.rdf_meaning.specs.RowLaws.{at_expression}
+use Rattle.rdf_meaning.specs.RowTests.{has_row_at}
+use Rattle.rdf_meaning.specs.Rows.{Row, axiom_rows}
+use Rattle.rdf_meaning.specs.Statements.{IsAxiomWith}
 use Rattle.rdf_normal.specs.NormalForms.{is_about, is_same_iri, iri_at, subject_in}
 use Rattle.rdf_mapping.specs.SiteLaws.{other_link_site}
 use Rattle.rdf_mapping.specs.Sorts.{IsFree}

@@ -12,12 +12,12 @@ use Rattle.owl_tree.specs.Trees.{Tree}
 use Rattle.rdf_graph.specs.declared.term.Term.{Term}
 use Rattle.rdf_graph.specs.declared.term.Term.TheVariants.{Blank}
 use Rattle.rdf_graph.specs.declared.triple.Triple.{Triple}
-use Rattle.rdf_nodes.specs.declared.role.Role.{Role}
-use Rattle.rdf_nodes.specs.declared.role.Role.TheVariants as role
-use Rattle.rdf_nodes.specs.Nodes.{is_mixed, is_role, is_structural, of_subject, marked_roles, marks_role, role_of, roles_of}
-use Rattle.rdf_nodes.specs.RowLaws.{own_role}
-use Rattle.rdf_nodes.specs.Sound.{IsSoundBelow}
-use Rattle.rdf_nodes.specs.Statements.{IsPartOfAxiom}
+use Rattle.rdf_meaning.specs.declared.role.Role.{Role}
+use Rattle.rdf_meaning.specs.declared.role.Role.TheVariants as role
+use Rattle.rdf_meaning.specs.Nodes.{is_mixed, is_role, is_structural, of_subject, marked_roles, marks_role, role_of, roles_of}
+use Rattle.rdf_meaning.specs.RowLaws.{own_role}
+use Rattle.rdf_meaning.specs.Sound.{IsSoundBelow}
+use Rattle.rdf_meaning.specs.Statements.{IsPartOfAxiom}
 use Rattle.rdf_mapping.specs.Drawing.{statement_of}
 use Rattle.rdf_mapping.specs.Entries.{AreEntries, Entry, entry_node, entry_triples, note_links}
 use Rattle.rdf_mapping.specs.EntryLaws.{entry_subjects}

@@ -11,17 +11,17 @@ use Rattle.owl_tree.specs.Ontologies.{Ontology}
 use Rattle.owl_tree.specs.Trees.{Tree, tag_of}
 use Rattle.rdf_graph.specs.declared.term.Term.{Term}
 use Rattle.rdf_graph.specs.declared.triple.Triple.{Triple}
-use Rattle.rdf_nodes.specs.declared.role.Role.TheVariants as role
-use Rattle.rdf_nodes.specs.declared.row.Site.{Site}
-use Rattle.rdf_nodes.specs.declared.row.Site.TheVariants.{Node}
-use Rattle.rdf_nodes.specs.Denotation.{of_node, of_triple}
-use Rattle.rdf_nodes.specs.ListLaws.{passes}
-use Rattle.rdf_nodes.specs.Nodes.{carries_some, is_role, role_of, words_of}
-use Rattle.rdf_nodes.specs.RowLaws.{same_role}
-use Rattle.rdf_nodes.specs.Rows.{axiom_rows}
-use Rattle.rdf_nodes.specs.Sound.{IsSoundBelow, LeadsToSound}
-use Rattle.rdf_nodes.specs.SoundLaws.{ends_sound, main_leads}
-use Rattle.rdf_nodes.specs.Statements.{IsAxiomWith}
+use Rattle.rdf_meaning.specs.declared.role.Role.TheVariants as role
+use Rattle.rdf_meaning.specs.declared.row.Site.{Site}
+use Rattle.rdf_meaning.specs.declared.row.Site.TheVariants.{Node}
+use Rattle.rdf_meaning.specs.Denotation.{of_node, of_triple}
+use Rattle.rdf_meaning.specs.ListLaws.{passes}
+use Rattle.rdf_meaning.specs.Nodes.{carries_some, is_role, role_of, words_of}
+use Rattle.rdf_meaning.specs.RowLaws.{same_role}
+use Rattle.rdf_meaning.specs.Rows.{axiom_rows}
+use Rattle.rdf_meaning.specs.Sound.{IsSoundBelow, LeadsToSound}
+use Rattle.rdf_meaning.specs.SoundLaws.{ends_sound, main_leads}
+use Rattle.rdf_meaning.specs.Statements.{IsAxiomWith}
 use Rattle.rdf_mapping.specs.Drawing.{Statement, linked, linked_back, looped, standing, unsaid, statement_of}
 use Rattle.rdf_mapping.specs.Forms.{Form, made, link, nodes, term_of, triples}
 use Rattle.rdf_mapping.specs.FormSorts.{IsOfNodes}

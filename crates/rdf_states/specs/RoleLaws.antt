@@ -5,10 +5,10 @@ use Rattle.owl_kind.specs.Kinds.{Entity}
 use Rattle.owl_tree.specs.Ontologies.{Ontology}
 use Rattle.rdf_graph.specs.declared.term.Term.{Term}
 use Rattle.rdf_graph.specs.declared.triple.Triple.{Triple}
-use Rattle.rdf_nodes.specs.declared.role.Role.TheVariants as role
-use Rattle.rdf_nodes.specs.Nodes.{marks_role, role_of}
-use Rattle.rdf_nodes.specs.Sound.{IsSoundBelow}
-use Rattle.rdf_nodes.specs.Statements.{IsPartOfAxiom}
+use Rattle.rdf_meaning.specs.declared.role.Role.TheVariants as role
+use Rattle.rdf_meaning.specs.Nodes.{marks_role, role_of}
+use Rattle.rdf_meaning.specs.Sound.{IsSoundBelow}
+use Rattle.rdf_meaning.specs.Statements.{IsPartOfAxiom}
 use Rattle.rdf_mapping.specs.Drawing.{statement_of}
 use Rattle.rdf_mapping.specs.GraphEntries.{made_others}
 use Rattle.rdf_mapping.specs.Graphs.{header_term, notes_from, sets_of}

@@ -11,7 +11,7 @@ use Rattle.owl_tree.specs.Trees.{Tree, kids_of}
 use Rattle.rdf_graph.specs.declared.term.Term.{Term}
 use Rattle.rdf_graph.specs.declared.term.Term.TheVariants.{Blank}
 use Rattle.rdf_graph.specs.declared.triple.Triple.{Triple}
-use Rattle.rdf_nodes.specs.Nodes.{is_iri}
+use Rattle.rdf_meaning.specs.Nodes.{is_iri}
 use Rattle.rdf_mapping.specs.BesideLaws.{all_declarable_beside}
 use Rattle.rdf_mapping.specs.Drawing.{Statement, statement_of}
 use Rattle.rdf_mapping.specs.Entries.{AreAllBeside}

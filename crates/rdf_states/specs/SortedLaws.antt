@@ -18,14 +18,14 @@ use Rattle.owl_tree.specs.Trees.{Tree, Kids, leaf, kids_of}
 use Rattle.rdf_graph.specs.declared.term.Term.{Term}
 use Rattle.rdf_graph.specs.declared.term.Term.TheVariants.{Iri}
 use Rattle.rdf_graph.specs.declared.triple.Triple.{Triple}
-use Rattle.rdf_nodes.specs.declared.role.Role.{Role}
-use Rattle.rdf_nodes.specs.declared.role.Role.TheVariants as role
-use Rattle.rdf_nodes.specs.declared.word.Word.TheVariants as word
-use Rattle.rdf_nodes.specs.Kinds.{has_kind}
-use Rattle.rdf_nodes.specs.KindLaws.{has_kind_is}
-use Rattle.rdf_nodes.specs.Nodes.{carries, is_iri, is_structural, is_word, role_of, type_iri, words_of}
-use Rattle.rdf_nodes.specs.Statements.{headers, main_triples}
-use Rattle.rdf_nodes.specs.Words.{is_type, word_iri, word_number}
+use Rattle.rdf_meaning.specs.declared.role.Role.{Role}
+use Rattle.rdf_meaning.specs.declared.role.Role.TheVariants as role
+use Rattle.rdf_meaning.specs.declared.word.Word.TheVariants as word
+use Rattle.rdf_meaning.specs.Kinds.{has_kind}
+use Rattle.rdf_meaning.specs.KindLaws.{has_kind_is}
+use Rattle.rdf_meaning.specs.Nodes.{carries, is_iri, is_structural, is_word, role_of, type_iri, words_of}
+use Rattle.rdf_meaning.specs.Statements.{headers, main_triples}
+use Rattle.rdf_meaning.specs.Words.{is_type, word_iri, word_number}
 use Rattle.rdf_normal.specs.NormalForms.{is_about}
 use Rattle.rdf_mapping.specs.Asides.{HasForeignSubject, IsForeignForm}
 use Rattle.rdf_mapping.specs.Drawing.{Statement, linked, linked_back, looped, standing, unsaid, statement_of}

@@ -8,7 +8,7 @@ use Rattle.owl_tree.specs.declared.tag.Tag.{Tag}
 use Rattle.owl_tree.specs.declared.tag.Tag.TheVariants as tag
 use Rattle.owl_tree.specs.Ontologies.{IsOntology, Ontology}
 use Rattle.owl_tree.specs.Trees.{Tree, Kids, node, kid, kids_of}
-use Rattle.rdf_nodes.specs.Kinds.{HaveNoClash}
+use Rattle.rdf_meaning.specs.Kinds.{HaveNoClash}
 use Rattle.rdf_normal.specs.NormalForms.{is_about, normal_form, tidied}
 use Rattle.rdf_sayable.specs.Sayable.{CanSayAll}
 use Rattle.rdf_mapping.specs.GraphEntries.{made_nodes}

@@ -14,13 +14,13 @@ use Rattle.owl_tree.specs.TreeLaws.{kids_of_list_of}
 use Rattle.owl_tree.specs.Trees.{Tree, leaf, node, no_kids, kid, kids_of, tag_of}
 use Rattle.rdf_graph.specs.declared.term.Term.{Term}
 use Rattle.rdf_graph.specs.declared.triple.Triple.{Triple}
-use Rattle.rdf_nodes.specs.declared.role.Role.TheVariants as role
-use Rattle.rdf_nodes.specs.AxiomLaws.{axioms_of_nodes, axioms_of_triples, nodes_have_axioms, triples_have_axioms}
-use Rattle.rdf_nodes.specs.Denotation.{of_node, of_triple}
-use Rattle.rdf_nodes.specs.NodeLaws.{nodes_are}
-use Rattle.rdf_nodes.specs.Nodes.{nodes_of, role_of}
-use Rattle.rdf_nodes.specs.StatementLaws.{one_axiom, one_notes, one_variants}
-use Rattle.rdf_nodes.specs.Statements.{AreAxioms, AreNodeAxioms, HasAxiom, HasNodeAxiom, IsAxiomWith, States, main_triples, notes, notes_of}
+use Rattle.rdf_meaning.specs.declared.role.Role.TheVariants as role
+use Rattle.rdf_meaning.specs.AxiomLaws.{axioms_of_nodes, axioms_of_triples, nodes_have_axioms, triples_have_axioms}
+use Rattle.rdf_meaning.specs.Denotation.{of_node, of_triple}
+use Rattle.rdf_meaning.specs.NodeLaws.{nodes_are}
+use Rattle.rdf_meaning.specs.Nodes.{nodes_of, role_of}
+use Rattle.rdf_meaning.specs.StatementLaws.{one_axiom, one_notes, one_variants}
+use Rattle.rdf_meaning.specs.Statements.{AreAxioms, AreNodeAxioms, HasAxiom, HasNodeAxiom, IsAxiomWith, States, main_triples, notes, notes_of}
 use Rattle.rdf_mapping.specs.Drawing.{statement_of}
 use Rattle.rdf_mapping.specs.Entries.{AreEntries}
 use Rattle.rdf_mapping.specs.GraphEntries.{made_entries}

@@ -6,11 +6,11 @@ use Rattle.owl_list.specs.AscendingLaws.{in_cases, in_head, in_none, in_tail}
 use Rattle.rdf_graph.specs.declared.term.Term.{Term}
 use Rattle.rdf_graph.specs.declared.term.Term.TheVariants.{Iri}
 use Rattle.rdf_graph.specs.declared.triple.Triple.{Triple}
-use Rattle.rdf_nodes.specs.declared.role.Role.{Role}
-use Rattle.rdf_nodes.specs.declared.role.Role.TheVariants as role
-use Rattle.rdf_nodes.specs.Nodes.{is_structural, nil_iri, role_of}
-use Rattle.rdf_nodes.specs.Sound.{IsSoundBelow, sound_below, IsSoundPart}
-use Rattle.rdf_nodes.specs.Statements.{InSteps, one_step, one_more, IsDirectlyBelow, IsPartOfAxiom}
+use Rattle.rdf_meaning.specs.declared.role.Role.{Role}
+use Rattle.rdf_meaning.specs.declared.role.Role.TheVariants as role
+use Rattle.rdf_meaning.specs.Nodes.{is_structural, nil_iri, role_of}
+use Rattle.rdf_meaning.specs.Sound.{IsSoundBelow, sound_below, IsSoundPart}
+use Rattle.rdf_meaning.specs.Statements.{InSteps, one_step, one_more, IsDirectlyBelow, IsPartOfAxiom}
 use Rattle.rdf_mapping.specs.Forms.{Form, plain, made, twice, Arcs, no_arcs, arc, arc_triples, blank, first_iri, link, nodes, rest_iri, term_of, triples}
 use Rattle.rdf_mapping.specs.FormLaws.{subject_of}
 use Rattle.rdf_mapping.specs.Frames.{second_cell, twice_behind}

@@ -9,19 +9,19 @@ use Rattle.owl_tree.specs.Trees.{Tree, tag_of}
 use Rattle.rdf_graph.specs.declared.term.Term.{Term}
 use Rattle.rdf_graph.specs.declared.term.Term.TheVariants.{Iri, Blank, Literal}
 use Rattle.rdf_graph.specs.declared.triple.Triple.{Triple}
-use Rattle.rdf_nodes.specs.declared.role.Role.{Role}
-use Rattle.rdf_nodes.specs.declared.role.Role.TheVariants as role
-use Rattle.rdf_nodes.specs.Denotation.{of_node}
-use Rattle.rdf_nodes.specs.GroundLaws.{leads_grounded, no_cycle, sound_grounded}
-use Rattle.rdf_nodes.specs.Kinds.{has_kind}
-use Rattle.rdf_nodes.specs.ListLaws.{from_filter}
-use Rattle.rdf_nodes.specs.NodeLaws.{from_subject, nodes_are}
-use Rattle.rdf_nodes.specs.Nodes.{carries_some, is_iri, is_own, is_role, is_same, is_structural, nodes_of, of_subject, role_of, words_of}
-use Rattle.rdf_nodes.specs.RowLaws.{own_role}
-use Rattle.rdf_nodes.specs.Rows.{axiom_rows}
-use Rattle.rdf_nodes.specs.Sound.{IsSoundBelow}
-use Rattle.rdf_nodes.specs.SoundLaws.{main_leads}
-use Rattle.rdf_nodes.specs.Statements.{HasRow, IsAxiomWith, InSteps, one_step, one_more, IsDirectlyBelow, IsDirectlyNotedUnder, IsGrounded, IsPartOfAxiom, IsReached, at_root, below_root, below_axiom, IsReification, IsRoot, is_subject, is_object, IsSoundAs, IsWhole, ReifiesSome, an_axiom, an_annotation, Says, header_words, is_annotation_triple, is_axiom_predicate, main_triples, notes_of, reifies}
+use Rattle.rdf_meaning.specs.declared.role.Role.{Role}
+use Rattle.rdf_meaning.specs.declared.role.Role.TheVariants as role
+use Rattle.rdf_meaning.specs.Denotation.{of_node}
+use Rattle.rdf_meaning.specs.GroundLaws.{leads_grounded, no_cycle, sound_grounded}
+use Rattle.rdf_meaning.specs.Kinds.{has_kind}
+use Rattle.rdf_meaning.specs.ListLaws.{from_filter}
+use Rattle.rdf_meaning.specs.NodeLaws.{from_subject, nodes_are}
+use Rattle.rdf_meaning.specs.Nodes.{carries_some, is_iri, is_own, is_role, is_same, is_structural, nodes_of, of_subject, role_of, words_of}
+use Rattle.rdf_meaning.specs.RowLaws.{own_role}
+use Rattle.rdf_meaning.specs.Rows.{axiom_rows}
+use Rattle.rdf_meaning.specs.Sound.{IsSoundBelow}
+use Rattle.rdf_meaning.specs.SoundLaws.{main_leads}
+use Rattle.rdf_meaning.specs.Statements.{HasRow, IsAxiomWith, InSteps, one_step, one_more, IsDirectlyBelow, IsDirectlyNotedUnder, IsGrounded, IsPartOfAxiom, IsReached, at_root, below_root, below_axiom, IsReification, IsRoot, is_subject, is_object, IsSoundAs, IsWhole, ReifiesSome, an_axiom, an_annotation, Says, header_words, is_annotation_triple, is_axiom_predicate, main_triples, notes_of, reifies}
 use Rattle.rdf_mapping.specs.Drawing.{statement_of}
 use Rattle.rdf_mapping.specs.AsideLaws.{set_root_triples}
 use Rattle.rdf_mapping.specs.Entries.{AreEntries, Entry, IsBelowEntry, entry_node, entry_roots}

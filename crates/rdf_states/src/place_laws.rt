@@ -6,7 +6,7 @@ ghost use Rattle.owl_tree.specs.Ontologies.{Ontology};
 ghost use Rattle.owl_tree.specs.Trees.{Tree};
 ghost use Rattle.rdf_graph.specs.declared.term.Term.{Term};
 ghost use Rattle.rdf_graph.specs.declared.triple.Triple.{Triple};
-ghost use Rattle.rdf_nodes.specs.Sound.{IsSoundBelow};
+ghost use Rattle.rdf_meaning.specs.Sound.{IsSoundBelow};
 ghost use Rattle.rdf_mapping.specs.Entries.{Entry, IsOfEntry};
 ghost use Rattle.rdf_mapping.specs.Forms.{Form, term_of, triples};
 ghost use Rattle.rdf_mapping.specs.GraphEntries.{made_entries, made_roots};

@@ -1,6 +1,6 @@
 use Rattle.std.proofs.Common.{rules, ◌≡◌, sym, ◌∙◌}
 use Rattle.std.proofs.lemmas.Result.{on_ok_weaker}
-use Rattle.rdf_nodes.specs.Rows.{axiom_rows}
+use Rattle.rdf_meaning.specs.Rows.{axiom_rows}
 use Rattle.rdf_mapping.specs.Drawing.{by_kids, row_for, stated_by}
 use Rattle.rdf_forward.specs.AxiomWalks.{sets_at}
 use Rattle.rdf_mapping.specs.Arenas.{kids_at, tags_at}
