@@ -108,3 +108,6 @@ same_term = tells equal_terms.ghosts.eq terms.ghosts.cmp term_cmp term_laws.matc
 
 pub same_triple : (a b : Triple) → IsTrue (equal_triples.ghosts.eq a b) ↔ (a ≡ b)
 same_triple = tells equal_triples.ghosts.eq triples.ghosts.cmp triple_cmp triple_laws.matches_eq-law same_triple_order triples_total only_equal_triples_tie
+
+pub only_equal_terms_compare_equal : (a b : Term) → IsTrue (eq_by_cmp term_cmp a b) ↔ (a ≡ b)
+only_equal_terms_compare_equal = tells (eq_by_cmp term_cmp) term_cmp term_cmp (λ a b. refl) (λ a b. refl) terms_total only_equal_terms_tie

@@ -2,6 +2,8 @@
 
 ghost use Rattle.std.specs.Prelude.{◌≡◌, ◌↔◌, ◌<◌, ◌≤◌, ℕ, [], length, slice_get, IfSome, IsNone, Some};
 ghost use Rattle.std.specs.declared.cmp.Ordering.TheVariants.{Less};
+ghost use Rattle.std.specs.List.{filter};
+ghost use Rattle.std.specs.Ordering.{eq_by_cmp};
 ghost use Rattle.owl_list.specs.Ascending.{IsAscending};
 ghost use Rattle.rdf_graph.specs.BySubject.{IsCountBelow, IsCountUpTo};
 ghost use Rattle.rdf_graph.specs.Graphs.{HasNoneWith, IsGraph, IsNextWith, subject_at};
@@ -85,6 +87,22 @@ impl Graph {
             count_below(&self.triples, term),
             count_up_to(&self.triples, term),
         )
+    }
+
+    /// The triples with this subject, in order. Takes no memory.
+    pub fn about(&self, term: &Term) -> &[Triple]
+        ensures { result.now ≡ filter (λ t. eq_by_cmp term_cmp t.subject term.now) self.now }
+    {
+        let (start, end) = self.of_subject(term);
+        &self.triples[start..end]
+    }
+
+    /// All triples, in order. Takes no memory.
+    pub fn triples(&self) -> &[Triple]
+        ensures triples { result.now ≡ self.now }
+        ensures graph { IsGraph self.now }
+    {
+        &self.triples
     }
 
     /// The next place, from this one on, of a triple with this object. Takes no
