@@ -1,6 +1,7 @@
 pub mod Heads
 pub mod Copies
 pub mod Documents
+pub mod Closures
 pub mod Counts
 pub mod Entities
 pub mod EntityLaws
