@@ -15,7 +15,6 @@ use Rattle.rdf_meaning.specs.Statements.{IsAxiomWith}
 use Rattle.rdf_sayable.specs.Parts.{leaves}
 use Rattle.rdf_sayable.specs.Sayable.{AreSayable}
 use Rattle.rdf_normal.specs.AgainLaws.{IsPlain}
-use Rattle.rdf_mapping.specs.Asides.{HasForeignSubject}
 use Rattle.rdf_mapping.specs.Drawing.{Statement, linked, linked_back, looped, standing, unsaid, statement_of}
 use Rattle.rdf_mapping.specs.Forms.{arc_nodes, blank, link, nodes, term_of}
 use Rattle.rdf_mapping.specs.Frames.{IsForeign, IsOfNode, KeepsArcs}
@@ -50,7 +49,6 @@ main_of name unsaid n = []
 pub record IsWellDrawn (name : ℕ → List ℕ) (most : ℕ) (s : Statement) : Type 0 where
   pub said : s ≡ unsaid → ⊥
   pub apart : StatesApart name most s
-  pub foreign : HasForeignSubject name most s
   pub subject : (n : ℕ) → AllByRecursion (λ t. IsSubject t.subject) (main_of name s n)
   pub says : (n : ℕ) → AllByRecursion SaysAxiom (main_of name s n)
 

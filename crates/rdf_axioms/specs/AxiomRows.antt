@@ -196,17 +196,21 @@ are_three a b c (u ∷ ts) f =
     let both = and_parts (admits a u) (fits_front (b ∷ c ∷ []) Nothing ts) f in
     record { first = u; behind = ts; are = refl; admits_first = both.0; others = are_two b c ts both.1 }
 
-assertion_row : (ts : List Tag) → fits_front (sort.ObjectProperty ∷ sort.Individual ∷ sort.Individual ∷ []) Nothing ts ≡ true → HasRowIn axiom_rows tag.ObjectPropertyAssertion ts
-unfolding axiom_rows number_of
-assertion_row ts f =
-    let three = are_three sort.ObjectProperty sort.Individual sort.Individual ts f in
+-- three kids, of a row whose only way they fit
+three_row : (t : Tag) (a b c : Sort) (wants : List Want) → slice_get (ways_of_rows axiom_rows t) 0 ≡ Some wants → ((u v w : Tag) → admits a u ≡ true → admits b v ≡ true → admits c w ≡ true → fit (parts_for wants) (u ∷ v ∷ w ∷ []) ≡ true) → (ts : List Tag) → fits_front (a ∷ b ∷ c ∷ []) Nothing ts ≡ true → HasRowIn axiom_rows t ts
+three_row t a b c wants e fitting ts f =
+    let three = are_three a b c ts f in
     let two = three.others in
     let u = three.first in
-    subst (λ us. HasRowIn axiom_rows tag.ObjectPropertyAssertion us) (sym (three.are ∙ ap (λ (us : List Tag). u ∷ us) two.are))
-    (row_by_way axiom_rows tag.ObjectPropertyAssertion (u ∷ two.first ∷ two.second ∷ [])
-    (One sort.ObjectProperty ∷ One sort.Individual ∷ One sort.Individual ∷ [])
-    (way_at_place tag.ObjectPropertyAssertion 0 (One sort.ObjectProperty ∷ One sort.Individual ∷ One sort.Individual ∷ []) refl)
-    (three_fit sort.ObjectProperty sort.Individual sort.Individual u two.first two.second three.admits_first two.admits_first two.admits_second))
+    subst (λ us. HasRowIn axiom_rows t us) (sym (three.are ∙ ap (λ (us : List Tag). u ∷ us) two.are))
+    (row_by_way axiom_rows t (u ∷ two.first ∷ two.second ∷ []) wants (way_at_place t 0 wants e)
+    (fitting u two.first two.second three.admits_first two.admits_first two.admits_second))
+
+assertion_row : (ts : List Tag) → fits_front (sort.ObjectProperty ∷ sort.Individual ∷ sort.Individual ∷ []) Nothing ts ≡ true → HasRowIn axiom_rows tag.ObjectPropertyAssertion ts
+unfolding axiom_rows number_of
+assertion_row =
+    three_row tag.ObjectPropertyAssertion sort.ObjectProperty sort.Individual sort.Individual (One sort.ObjectProperty ∷ One sort.Individual ∷ One sort.Individual ∷ []) refl
+    (three_fit sort.ObjectProperty sort.Individual sort.Individual)
 
 keys_fit : (u v w : Tag) → admits sort.ClassExpression u ≡ true → admits sort.ObjectKeys v ≡ true → admits sort.DataKeys w ≡ true → fit (parts_for (One sort.ClassExpression ∷ Keys ∷ [])) (u ∷ v ∷ w ∷ []) ≡ true
 unfolding fit admits
@@ -214,14 +218,7 @@ keys_fit u v w h i j = and_from (admits sort.ClassExpression u) _ h (and_from (i
 
 key_row : (ts : List Tag) → fits_front (sort.ClassExpression ∷ sort.ObjectKeys ∷ sort.DataKeys ∷ []) Nothing ts ≡ true → HasRowIn axiom_rows tag.HasKey ts
 unfolding axiom_rows number_of
-key_row ts f =
-    let three = are_three sort.ClassExpression sort.ObjectKeys sort.DataKeys ts f in
-    let two = three.others in
-    let u = three.first in
-    subst (λ us. HasRowIn axiom_rows tag.HasKey us) (sym (three.are ∙ ap (λ (us : List Tag). u ∷ us) two.are))
-    (row_by_way axiom_rows tag.HasKey (u ∷ two.first ∷ two.second ∷ []) (One sort.ClassExpression ∷ Keys ∷ [])
-    (way_at_place tag.HasKey 0 (One sort.ClassExpression ∷ Keys ∷ []) refl)
-    (keys_fit u two.first two.second three.admits_first two.admits_first two.admits_second))
+key_row = three_row tag.HasKey sort.ClassExpression sort.ObjectKeys sort.DataKeys (One sort.ClassExpression ∷ Keys ∷ []) refl keys_fit
 
 -- two members of a set
 pair_row : (t : Tag) (s : Sort) (ts : List Tag) → slice_get (ways_of_rows axiom_rows t) 0 ≡ Some (One s ∷ One s ∷ []) → length ts ≡ 2 → list_all (admits s) ts ≡ true → HasRowIn axiom_rows t ts

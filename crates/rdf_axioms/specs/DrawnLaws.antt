@@ -18,7 +18,6 @@ use Rattle.rdf_meaning.specs.declared.word.Word.{Word}
 use Rattle.rdf_meaning.specs.Denotation.{axiom_predicates, axiom_types}
 use Rattle.rdf_meaning.specs.Nodes.{is_iri, is_word}
 use Rattle.rdf_meaning.specs.Words.{word_iri}
-use Rattle.rdf_mapping.specs.Asides.{IsForeignForm}
 use Rattle.rdf_mapping.specs.Drawing.{linked, by_predicate, by_triple, form_of, kid_of, kids_seen, listed, node_form, placed_at}
 use Rattle.rdf_mapping.specs.Forms.{Form, twice, list_form, nodes, term_of}
 use Rattle.rdf_mapping.specs.Frames.{IsForeign, StartsApart, is_node_word}
@@ -32,14 +31,9 @@ use Rattle.rdf_axioms.specs.PlacedLaws.{GivesEach}
 use Rattle.rdf_axioms.specs.RowStandLaws.{KeysAre}
 use Rattle.rdf_axioms.specs.SayableTrees.{IsSayableTree}
 
--- Where a form begins.
-
-pub record Begins (name : ℕ → List ℕ) (most : ℕ) (f : Form) : Type 0 where
-  pub apart : StartsApart name most f
-  pub foreign : IsForeignForm name most f
-
+-- A form at a part of a row begins at no other numbered node, and is what the part wants.
 pub record IsEndAt (name : ℕ → List ℕ) (most : ℕ) (k : List Entity) (w : Want) (f : Form) (us : List Tree) : Type 0 where
-  pub begins : Begins name most f
+  pub apart : StartsApart name most f
   pub known : IsKnownAt k (λ label. IsForeign name most (Blank label)) w f
 
 module _ (name : ℕ → List ℕ) (most : ℕ) (k : List Entity) where
@@ -49,40 +43,40 @@ module _ (name : ℕ → List ℕ) (most : ℕ) (k : List Entity) where
   abbrev IsGood : Tree → Type 0
   IsGood t = IsSayableTree k IsForeignLabel t
 
-  made_begins : (f : Form) → IsMade f → Begins name most f
-  made_begins f h = subst (λ q. Begins name most q) (sym h.is) (record { apart = tt; foreign = tt })
+  made_apart : (f : Form) → IsMade f → StartsApart name most f
+  made_apart f h = subst (λ q. StartsApart name most q) (sym h.is) tt
 
-  pub tree_begins : (t : Tree) → ((label : List ℕ) → Contains (labels_in t) label → IsForeign name most (Blank label)) → Begins name most (form_of t)
-  tree_begins (leaf t (atom.Iri iri)) h = record { apart = λ n less e. cc; foreign = λ n less e. cc }
-  tree_begins (leaf t (atom.Label label)) h = let is = h label (in_head label []) in record { apart = is; foreign = is }
-  tree_begins (leaf t (atom.Literal literal)) h = record { apart = λ n less e. cc; foreign = λ n less e. cc }
-  tree_begins (leaf t (atom.Number i)) h = record { apart = λ n less e. cc; foreign = λ n less e. cc }
-  tree_begins (node t ks) h = made_begins (node_form t (kids_seen ks)) (node_made t (kids_seen ks))
+  pub tree_apart : (t : Tree) → ((label : List ℕ) → Contains (labels_in t) label → IsForeign name most (Blank label)) → StartsApart name most (form_of t)
+  tree_apart (leaf t (atom.Iri iri)) h = λ n less e. cc
+  tree_apart (leaf t (atom.Label label)) h = h label (in_head label [])
+  tree_apart (leaf t (atom.Literal literal)) h = λ n less e. cc
+  tree_apart (leaf t (atom.Number i)) h = λ n less e. cc
+  tree_apart (node t ks) h = made_apart (node_form t (kids_seen ks)) (node_made t (kids_seen ks))
 
-  list_begins : (fs : List Form) → Begins name most (list_form fs)
-  list_begins [] = record { apart = λ n less e. cc; foreign = λ n less e. cc }
-  list_begins (f ∷ fs) = record { apart = tt; foreign = tt }
+  list_apart : (fs : List Form) → StartsApart name most (list_form fs)
+  list_apart [] = λ n less e. cc
+  list_apart (f ∷ fs) = tt
 
-  listed_begins : (least : ℕ) (fs : List Form) → Begins name most (listed least fs)
-  listed_begins least [] = list_begins []
-  listed_begins least (f ∷ []) = by (nat_le 2 least)
+  listed_apart : (least : ℕ) (fs : List Form) → StartsApart name most (listed least fs)
+  listed_apart least [] = list_apart []
+  listed_apart least (f ∷ []) = by (nat_le 2 least)
     where
-      by : (b : Bool) → Begins name most (cond b (twice f) (list_form (f ∷ [])))
-      by true = record { apart = tt; foreign = tt }
-      by false = list_begins (f ∷ [])
-  listed_begins least (f ∷ g ∷ fs) = list_begins (f ∷ g ∷ fs)
+      by : (b : Bool) → StartsApart name most (cond b (twice f) (list_form (f ∷ [])))
+      by true = tt
+      by false = list_apart (f ∷ [])
+  listed_apart least (f ∷ g ∷ fs) = list_apart (f ∷ g ∷ fs)
 
   pub ends_given : GivesEach (IsEndAt name most k) IsGood
   ends_given =
       record {
-        one = λ s t w m good. record { begins = tree_begins t good.labels; known = record { tree = t; is = refl; suits = m; good = good } };
-        many = λ s least ts w small enough m good. record { begins = listed_begins least (map form_of ts); known = tt };
-        whole = λ u s least t h m good. record { begins = listed_begins least (kid_of t).members; known = tt };
-        declared = λ u t h m good. record { begins = tree_begins t good.labels; known = declared_name u t h m good.shaped good.sayable };
+        one = λ s t w m good. record { apart = tree_apart t good.labels; known = record { tree = t; is = refl; suits = m; good = good } };
+        many = λ s least ts w small enough m good. record { apart = listed_apart least (map form_of ts); known = tt };
+        whole = λ u s least t h m good. record { apart = listed_apart least (kid_of t).members; known = tt };
+        declared = λ u t h m good. record { apart = tree_apart t good.labels; known = declared_name u t h m good.shaped good.sayable };
       }
 
   pub keys_given : KeysAre (IsEndAt name most k) IsGood
-  keys_given o d h i good fine some = record { begins = list_begins ((kid_of o).members ++ (kid_of d).members); known = tt }
+  keys_given o d h i good fine some = record { apart = list_apart ((kid_of o).members ++ (kid_of d).members); known = tt }
 
   -- Statements that are triples.
 
@@ -100,8 +94,7 @@ module _ (name : ℕ → List ℕ) (most : ℕ) (k : List Entity) where
       ] in
       record {
         said = λ e. cc;
-        apart = d.fact.begins.apart;
-        foreign = d.fact.begins.foreign;
+        apart = d.fact.apart;
         subject = λ n. (subject_at name k IsForeignLabel a d.form n at.0 d.fact.known, tt);
         says = λ n. (by_type w (in_words w axiom_types tests.0) refl refl (λ m. declared_at name k IsForeignLabel a d.form n (named m) d.fact.known), tt);
       }
@@ -111,12 +104,11 @@ module _ (name : ℕ → List ℕ) (most : ℕ) (k : List Entity) where
   abbrev pub IsOrdered : Form → Form → Type 0
   IsOrdered f q = (n m : ℕ) → (is_iri (term_of name q m) ≡ false) ⊎ (is_iri (term_of name f n) ≡ true)
 
-  pub linked_so : (w : Word) (f q : Form) → Contains axiom_predicates w → Begins name most f → ((n : ℕ) → IsSubject (term_of name f n)) → (is_node_word w ≡ true → IsOrdered f q) → IsWellDrawn name most (linked f (word_iri w) q)
-  linked_so w f q m begins subject ordered =
+  pub linked_so : (w : Word) (f q : Form) → Contains axiom_predicates w → StartsApart name most f → ((n : ℕ) → IsSubject (term_of name f n)) → (is_node_word w ≡ true → IsOrdered f q) → IsWellDrawn name most (linked f (word_iri w) q)
+  linked_so w f q m apart subject ordered =
       record {
         said = λ e. cc;
-        apart = begins.apart;
-        foreign = begins.foreign;
+        apart = apart;
         subject = λ n. (subject n, tt);
         says = λ n. (by_link w m refl (λ h. ordered h n (n + nodes f)), tt);
       }
@@ -124,14 +116,13 @@ module _ (name : ℕ → List ℕ) (most : ℕ) (k : List Entity) where
   linked_well : (w : Word) (pl ql : Place) (a b : Want) → (list_any (is_word w) axiom_predicates && links_at w pl ql a b) ≡ true → (d : IsEnd a) (e : IsEnd b) → (is_node_word w ≡ true → IsOrdered d.form e.form) → IsWellDrawn name most (by_triple (LinkedBy w) (placed_at pl d.form ∷ placed_at ql e.form ∷ []))
   linked_well w Subject Object a b h d e ordered =
       let tests = and_parts (list_any (is_word w) axiom_predicates) (is_subject a) h in
-      linked_so w d.form e.form (in_words w axiom_predicates tests.0) d.fact.begins (λ n. subject_at name k IsForeignLabel a d.form n tests.1 d.fact.known) ordered
+      linked_so w d.form e.form (in_words w axiom_predicates tests.0) d.fact.apart (λ n. subject_at name k IsForeignLabel a d.form n tests.1 d.fact.known) ordered
   linked_well w Object Subject a b h d e ordered =
       let tests = and_parts (list_any (is_word w) axiom_predicates) (is_subject b && not (is_node_word w)) h in
       let at = and_parts (is_subject b) (not (is_node_word w)) tests.1 in
       record {
         said = λ e. cc;
-        apart = e.fact.begins.apart;
-        foreign = e.fact.begins.foreign;
+        apart = e.fact.apart;
         subject = λ n. (subject_at name k IsForeignLabel b e.form (n + nodes d.form) at.0 e.fact.known, tt);
         says = λ n. (
           by_link w (in_words w axiom_predicates tests.0) refl (λ m. absurd (both_ways (is_node_word w) (not-true (is_node_word w) at.1) m)),
@@ -145,8 +136,7 @@ module _ (name : ℕ → List ℕ) (most : ℕ) (k : List Entity) where
       let tests = and_parts (is_class a) (is_subject b) h in
       record {
         said = λ e. cc;
-        apart = e.fact.begins.apart;
-        foreign = e.fact.begins.foreign;
+        apart = e.fact.apart;
         subject = λ n. (subject_at name k IsForeignLabel b e.form (n + nodes d.form) tests.1 e.fact.known, tt);
         says = λ n. (by_class refl (λ w. class_at name k IsForeignLabel a d.form n w tests.0 d.fact.known), tt);
       }
@@ -159,8 +149,7 @@ module _ (name : ℕ → List ℕ) (most : ℕ) (k : List Entity) where
       subst (λ p. IsWellDrawn name most (by_predicate p e.form f.form)) (sym property.is)
       (record {
         said = λ e. cc;
-        apart = e.fact.begins.apart;
-        foreign = e.fact.begins.foreign;
+        apart = e.fact.apart;
         subject = λ n. (subject_at name k IsForeignLabel b e.form n tests.1 e.fact.known, tt);
         says = λ n. (by_free property.free, tt);
       })

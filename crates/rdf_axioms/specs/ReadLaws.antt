@@ -23,7 +23,7 @@ use Rattle.rdf_meaning.specs.Nodes.{is_word, type_iri}
 use Rattle.rdf_meaning.specs.Rows.{Row, axiom_rows}
 use Rattle.rdf_meaning.specs.Statements.{IsAxiomWith}
 use Rattle.rdf_meaning.specs.Words.{word_iri}
-use Rattle.rdf_mapping.specs.Drawing.{Placed, looped, by_predicate, by_triple, placed_at}
+use Rattle.rdf_mapping.specs.Drawing.{Placed, by_predicate, by_triple, linked_back, looped, placed_at}
 use Rattle.rdf_mapping.specs.Forms.{Form, plain, link, nodes, term_of}
 use Rattle.rdf_mapping.specs.Frames.{IsOfNode, Keeps}
 use Rattle.rdf_mapping.specs.LinkedLaws.{two_parts}
@@ -60,6 +60,17 @@ module _ (name : ℕ → List ℕ) (most : ℕ) (g : List Triple) (k : List Enti
       (part (of_triple b) (at Subject a) [] x d.trees [] refl (d.fact.read n (omega (arith, few)) kept.first) (no_parts (of_triple b)))
   typed_read w _ a h site parts d = absurd (both_ways false refl (and_parts (list_any (is_word w) axiom_types) false h).1)
 
+  -- what stands at the object comes first
+  back_read : (p : List ℕ) (a c : Want) → r.parts ≡ at Object a ∷ at Subject c ∷ [] → (d : IsEnd a) (e : IsEnd c) → ((n : ℕ) → r.site ≡ site_of (link (term_of name e.form (n + nodes d.form)) p (term_of name d.form n))) → (n : ℕ) → IsReadAt name most g k t (d.trees ++ (e.trees ++ [])) (linked_back d.form p e.form) n
+  back_read p a c parts d e site n sets few kept =
+      let m = n + nodes d.form in
+      let x = term_of name d.form n in
+      let y = term_of name e.form m in
+      let b = link y p x in
+      borne b (at Object a ∷ at Subject c ∷ []) (d.trees ++ (e.trees ++ [])) (site n) parts
+      (part (of_triple b) (at Object a) (at Subject c ∷ []) x d.trees (e.trees ++ []) refl (d.fact.read n (omega (arith, few)) kept.first)
+      (part (of_triple b) (at Subject c) [] y e.trees [] refl (e.fact.read m (omega (arith, few)) kept.second) (no_parts (of_triple b))))
+
   linked_read : (w : Word) (pl ql : Place) (a c : Want) → (list_any (is_word w) axiom_predicates && links_at w pl ql a c) ≡ true → r.site ≡ LinkedBy w → r.parts ≡ at pl a ∷ at ql c ∷ [] → (d : IsEnd a) (e : IsEnd c) → IsReadOf (d.trees ++ (e.trees ++ [])) (LinkedBy w) (placed_at pl d.form ∷ placed_at ql e.form ∷ [])
   linked_read w Subject Object a c h site parts d e =
       λ n sets few kept.
@@ -72,29 +83,15 @@ module _ (name : ℕ → List ℕ) (most : ℕ) (g : List Triple) (k : List Enti
       (part (of_triple b) (at Subject a) (at Object c ∷ []) x d.trees (e.trees ++ []) refl (d.fact.read n (omega (arith, few)) kept.first)
       (part (of_triple b) (at Object c) [] y e.trees [] refl (e.fact.read m (omega (arith, few)) kept.second) (no_parts (of_triple b))))
   linked_read w Object Subject a c h site parts d e =
-      λ n sets few kept.
-      let m = n + nodes d.form in
-      let x = term_of name d.form n in
-      let y = term_of name e.form m in
-      let b = link y (word_iri w) x in
-      borne b (at Object a ∷ at Subject c ∷ []) (d.trees ++ (e.trees ++ []))
-      (site ∙ sym (linked_site w (and_parts (list_any (is_word w) axiom_predicates) _ h).0 y x)) parts
-      (part (of_triple b) (at Object a) (at Subject c ∷ []) x d.trees (e.trees ++ []) refl (d.fact.read n (omega (arith, few)) kept.first)
-      (part (of_triple b) (at Subject c) [] y e.trees [] refl (e.fact.read m (omega (arith, few)) kept.second) (no_parts (of_triple b))))
+      back_read (word_iri w) a c parts d e
+      (λ n. site ∙ sym (linked_site w (and_parts (list_any (is_word w) axiom_predicates) _ h).0 (term_of name e.form (n + nodes d.form)) (term_of name d.form n)))
   linked_read w _ _ a c h site parts d e = absurd (both_ways false refl (and_parts (list_any (is_word w) axiom_predicates) false h).1)
 
   class_read : (pl ql : Place) (a c : Want) → classes_at pl ql a c ≡ true → r.site ≡ OtherType → r.parts ≡ at pl a ∷ at ql c ∷ [] → (d : IsEnd a) (e : IsEnd c) → IsReadOf (d.trees ++ (e.trees ++ [])) OtherType (placed_at pl d.form ∷ placed_at ql e.form ∷ [])
   class_read Object Subject a c h site parts d e =
-      λ n sets few kept.
-      let m = n + nodes d.form in
-      let x = term_of name d.form n in
-      let y = term_of name e.form m in
-      let b = link y type_iri x in
       let tests = and_parts (is_class a) (is_subject c) h in
-      borne b (at Object a ∷ at Subject c ∷ []) (d.trees ++ (e.trees ++ []))
-      (site ∙ sym (other_type_site y x (λ w i same. class_at name k (IsOfIndividual g) a d.form n w tests.0 d.fact.known same))) parts
-      (part (of_triple b) (at Object a) (at Subject c ∷ []) x d.trees (e.trees ++ []) refl (d.fact.read n (omega (arith, few)) kept.first)
-      (part (of_triple b) (at Subject c) [] y e.trees [] refl (e.fact.read m (omega (arith, few)) kept.second) (no_parts (of_triple b))))
+      back_read type_iri a c parts d e
+      (λ n. site ∙ sym (other_type_site (term_of name e.form (n + nodes d.form)) (term_of name d.form n) (λ w i same. class_at name k (IsOfIndividual g) a d.form n w tests.0 d.fact.known same)))
   class_read _ _ a c h site parts d e = absurd (both_ways false refl h)
 
   -- what is kept of no nodes

@@ -38,7 +38,7 @@ use Rattle.rdf_mapping.specs.Spelling.{is_at_node}
 use Rattle.rdf_axioms.specs.AxiomReading.{AreForeignLabels, IsSayableAxiom, IsWellDrawn}
 use Rattle.rdf_axioms.specs.AxiomKidLaws.{HasNotes, axiom_node, can_behind, have_keys, inverses_ascend, kids_good}
 use Rattle.rdf_axioms.specs.AxiomRows.{HasPairRow, member, members_fit}
-use Rattle.rdf_axioms.specs.DrawnLaws.{AreOrdered, IsEndAt, IsOrdered, ends_given, keys_given, tree_begins, triple_well}
+use Rattle.rdf_axioms.specs.DrawnLaws.{AreOrdered, IsEndAt, IsOrdered, ends_given, keys_given, tree_apart, triple_well}
 use Rattle.rdf_axioms.specs.EndLaws.{in_words, named_term, property_term, tree_subject}
 use Rattle.rdf_axioms.specs.MemberLaws.{named_below}
 use Rattle.rdf_axioms.specs.Placed.{StandAt, is_of_subjects, is_triple_row}
@@ -51,7 +51,7 @@ module _ (name : ℕ → List ℕ) (most : ℕ) (k : List Entity) where
   IsGood t = IsSayableTree k (λ label. IsForeign name most (Blank label)) t
 
   node_well : (site : Site) (qs : List Placed) → is_at_node site ≡ true → IsWellDrawn name most (stated site qs)
-  node_well (Node role) qs h = record { said = λ e. cc; apart = tt; foreign = tt; subject = λ n. tt; says = λ n. tt }
+  node_well (Node role) qs h = record { said = λ e. cc; apart = tt; subject = λ n. tt; says = λ n. tt }
   node_well (TypedBy w) qs h = absurd (both_ways false refl h)
   node_well OtherType qs h = absurd (both_ways false refl h)
   node_well (LinkedBy w) qs h = absurd (both_ways false refl h)
@@ -134,11 +134,9 @@ module _ (name : ℕ → List ℕ) (most : ℕ) (k : List Entity) where
       ap (λ (ps : List Part). is_triple_row (LinkedBy p.word) ps) (sym p.parts) ∙ ap (λ (s : Site). is_triple_row s p.row.parts) (sym p.site)
       ∙ triple_row p.row p.among (link_apart p.row.site p.word p.site) in
       let parts = and_parts (list_any (is_word p.word) axiom_predicates) (is_of_subjects (member t)) test in
-      let begins = tree_begins name most k u good.labels in
       record {
         said = λ e. cc;
-        apart = begins.apart;
-        foreign = begins.foreign;
+        apart = tree_apart name most k u good.labels;
         subject = λ n. (tree_subject name (member t) u n parts.1 m good.shaped, tt);
         says = λ n. (
           by_link p.word (in_words p.word axiom_predicates parts.0) refl (λ w. elim (cases_Bool (is_iri (term_of name (form_of u) n))) [ inl y ↦ inr y | inr e ↦ inl e ]),

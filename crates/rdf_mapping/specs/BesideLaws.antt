@@ -1,25 +1,25 @@
 -- An annotation property that may be declared makes no node what it is.
 use lib.Utf8.{encode}
-use Rattle.std.proofs.Common.{◌≡◌, ◌⊎◌, ℕ, true, false, List, [], inl, inr, refl, sym, ap, ◌∙◌, subst}
+use Rattle.std.proofs.Common.{◌≡◌, ℕ, true, false, List, [], inl, inr, refl, sym, ap, ◌∙◌, subst}
 use Rattle.std.specs.Prelude.{codes, not, nat_eq}
 use Rattle.std.specs.List.{list_all, starts_with}
 use Rattle.std.specs.Str.{bytes_eq}
-use Rattle.std.proofs.lemmas.Bool.{and_parts, both_ways, cases_Bool, cond-false, cond-true, or_cases, or_left, or_right}
+use Rattle.std.proofs.lemmas.Bool.{both_ways, or_cases, or_left, or_right}
 use Rattle.std.proofs.lemmas.Slice.Eq.{bytes_eq-Decides}
 use Rattle.owl_kind.specs.declared.kind.Kind.TheVariants.{AnnotationProperty}
 use Rattle.owl_kind.specs.Kinds.{annotation_properties, is_built_in}
 use Rattle.owl_characters.specs.Order.{text_eq}
 use Rattle.rdf_terms.specs.Vocabulary.{is_reserved, rdf, rdfs, xsd}
-use Rattle.rdf_graph.specs.declared.triple.Triple.{Triple}
 use Rattle.rdf_meaning.specs.declared.word.Word.{Word}
 use Rattle.rdf_meaning.specs.declared.word.Word.TheVariants as word
 use Rattle.rdf_meaning.specs.Kinds.{may_be_declared}
 use Rattle.rdf_meaning.specs.ListLaws.{passes, some_passes}
-use Rattle.rdf_meaning.specs.Nodes.{carries, is_facet, type_iri}
-use Rattle.rdf_meaning.specs.Words.{is_type, word_iri}
+use Rattle.rdf_meaning.specs.Nodes.{is_facet, type_iri}
+use Rattle.rdf_meaning.specs.Words.{word_iri}
 use Rattle.rdf_mapping.specs.Frames.{by_facet, by_word}
 use Rattle.rdf_mapping.specs.Notes.{Notes, no_notes, note}
 use Rattle.rdf_mapping.specs.Entries.{AreAllBeside, AreAllDeclarable, IsBeside}
+use Rattle.rdf_mapping.specs.SpellingLaws.{predicate_cases}
 
 words_reserved : (w : Word) → may_be_declared AnnotationProperty (word_iri w) ≡ false
 unfolding may_be_declared is_reserved is_built_in annotation_properties word_iri encode
@@ -29,14 +29,6 @@ words_reserved _ = refl
 type_reserved : may_be_declared AnnotationProperty type_iri ≡ false
 unfolding may_be_declared is_reserved is_built_in annotation_properties encode
 type_reserved = refl
-
-predicate_is : (w : Word) (t : Triple) → carries w t ≡ true → (t.predicate ≡ type_iri) ⊎ (t.predicate ≡ word_iri w)
-unfolding carries
-predicate_is w t h =
-    elim (cases_Bool (is_type w)) [
-      | inl y ↦ inl ((bytes_eq-Decides t.predicate type_iri).0 (and_parts (bytes_eq t.predicate type_iri) _ (sym (cond-true (is_type w) _ _ y) ∙ h)).0)
-      | inr n ↦ inr ((bytes_eq-Decides t.predicate (word_iri w)).0 (and_parts (bytes_eq t.predicate (word_iri w)) _ (sym (cond-false (is_type w) _ _ n) ∙ h)).0)
-    ]
 
 lang_range_reserved : is_reserved (rdf (codes "langRange")) ≡ true
 unfolding is_reserved encode
@@ -68,7 +60,7 @@ facets_not_built_in p h b =
 pub declarable_beside : (p : List ℕ) → may_be_declared AnnotationProperty p ≡ true → IsBeside p
 unfolding may_be_declared
 declarable_beside p h t e (by_word w n c) =
-    elim (predicate_is w t c) [
+    elim (predicate_cases w t c) [
       | inl a ↦ both_ways false refl (sym (ap (may_be_declared AnnotationProperty) (sym e ∙ a) ∙ type_reserved) ∙ h)
       | inr a ↦ both_ways false refl (sym (ap (may_be_declared AnnotationProperty) (sym e ∙ a) ∙ words_reserved w) ∙ h)
     ]

@@ -8,7 +8,7 @@ use Rattle.rdf_meaning.specs.declared.role.Role.TheVariants as role
 use Rattle.owl_kind.specs.declared.kind.Kind.TheVariants.{AnnotationProperty}
 use Rattle.rdf_meaning.specs.Kinds.{may_be_declared}
 use Rattle.rdf_meaning.specs.Nodes.{role_of}
-use Rattle.rdf_mapping.specs.Frames.{IsOfNode, IsOwn}
+use Rattle.rdf_mapping.specs.Frames.{IsAny, IsOfNode, IsOwn}
 use Rattle.rdf_mapping.specs.Forms.{blank, link}
 use Rattle.rdf_mapping.specs.Notes.{Notes, no_notes, note, note_nodes, reified_nodes, reifying, where_some}
 
@@ -18,10 +18,6 @@ pub record Entry : Type 0 where
   pub word : Word
   pub triple : Triple
   pub notes : Notes
-
--- of every triple
-abbrev pub IsAny : Triple → Type 0
-IsAny t = Unit {0}
 
 abbrev pub entry : ℕ → Word → Triple → Notes → Entry
 entry n w t ns = record { number = n; word = w; triple = t; notes = ns }

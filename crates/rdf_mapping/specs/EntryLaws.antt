@@ -4,7 +4,7 @@ use Rattle.std.specs.Prelude.{Contains}
 use Rattle.std.proofs.lemmas.List.Elements.{Contains-append_cases, Contains-append_left, Contains-append_right}
 use Rattle.owl_list.specs.AscendingLaws.{in_cases, in_head, in_none, in_tail}
 use Rattle.rdf_graph.specs.declared.term.Term.{Term}
-use Rattle.rdf_graph.specs.declared.term.Term.TheVariants.{Iri, Blank}
+use Rattle.rdf_graph.specs.declared.term.Term.TheVariants.{Iri}
 use Rattle.rdf_graph.specs.declared.triple.Triple.{Triple}
 use Rattle.rdf_meaning.specs.declared.word.Word.{Word}
 use Rattle.rdf_meaning.specs.declared.word.Word.TheVariants as word
@@ -15,10 +15,11 @@ use Rattle.rdf_mapping.specs.Notes.{Notes, no_notes, note, note_nodes, note_trip
 use Rattle.rdf_mapping.specs.Graphs.{set_nodes, set_triples}
 use Rattle.rdf_mapping.specs.Frames.{AreNamedApart, IsOwn, Keeps, Lies}
 use Rattle.rdf_mapping.specs.Entries.{AreDrawn, Entry, IsBelowEntry, IsOfEntry, entry, entry_node, entry_roots, entry_triples, note_entries, note_links, note_roots, reified_entries, reified_roots, set_entries, set_roots}
+use Rattle.rdf_mapping.specs.FormLaws.{same_label}
 
 -- where there are some
 
-some_in : {X : Type 0} (ns : Notes) (xs : List X) (x : X) → Contains (where_some ns [] xs) x → Contains xs x
+pub some_in : {X : Type 0} (ns : Notes) (xs : List X) (x : X) → Contains (where_some ns [] xs) x → Contains xs x
 some_in no_notes xs x m = absurd (in_none x m)
 some_in (note p v inside more) xs x m = m
 
@@ -26,7 +27,7 @@ some_is : {X Y : Type 0} (ns : Notes) (xs : List X) (x : X) (ys : List Y) (y : Y
 some_is no_notes xs x ys y m k = absurd (in_none x m)
 some_is (note p v inside more) xs x ys y m k = k
 
-some_count : {X : Type 0} (ns : Notes) (xs : List X) (x : X) (k : ℕ) → Contains (where_some ns [] xs) x → where_some ns 0 k ≡ k
+pub some_count : {X : Type 0} (ns : Notes) (xs : List X) (x : X) (k : ℕ) → Contains (where_some ns [] xs) x → where_some ns 0 k ≡ k
 some_count no_notes xs x k m = absurd (in_none x m)
 some_count (note p v inside more) xs x k m = refl
 
@@ -40,7 +41,7 @@ link_subjects x no_notes t m = absurd (in_none t m)
 link_subjects x (note p v inside more) t m =
     elim (in_cases (link x p v) (note_links x more) t m) [ inl e ↦ all_of x t (link x p v) refl e | inr k ↦ link_subjects x more t k ]
 
-reifying_subjects : (w : Word) (x : Term) (u t : Triple) → Contains (reifying w x u) t → t.subject ≡ x
+pub reifying_subjects : (w : Word) (x : Term) (u t : Triple) → Contains (reifying w x u) t → t.subject ≡ x
 reifying_subjects w x u t m =
     let type = link x type_iri (Iri (word_iri w)) in
     let source = link x (word_iri word.AnnotatedSource) u.subject in
@@ -194,25 +195,13 @@ module _ (name : ℕ → List ℕ) where
             ];
       }
 
+  moved : (low a b : ℕ) (own : List Triple) (roots es : List Entry) (ts : List Triple) → a ≡ b → AreDrawn name low a own roots es ts → AreDrawn name low b own roots es ts
+  moved low a b own roots es ts e d = subst (λ k. AreDrawn name low k own roots es ts) e d
+
   -- those of annotations, if there are some
   drawn_some : (ns : Notes) (n k : ℕ) (roots es : List Entry) (ts : List Triple) → AreDrawn name n (n + k) [] roots es ts → AreDrawn name n (n + where_some ns 0 k) [] (where_some ns [] roots) (where_some ns [] es) (where_some ns [] ts)
   drawn_some (note p v inside more) n k roots es ts d = d
-  drawn_some no_notes n k roots es ts d =
-      let p = drawn_plain n [] in
-      record {
-        from = p.from;
-        below = λ e m. absurd (in_none e m);
-        one = p.one;
-        cases = p.cases;
-        other = p.other;
-        there = p.there;
-        root = p.root;
-        parent = p.parent;
-        inner = p.inner;
-      }
-
-  moved : (low a b : ℕ) (own : List Triple) (roots es : List Entry) (ts : List Triple) → a ≡ b → AreDrawn name low a own roots es ts → AreDrawn name low b own roots es ts
-  moved low a b own roots es ts e d = subst (λ k. AreDrawn name low k own roots es ts) e d
+  drawn_some no_notes n k roots es ts d = moved n n (n + 0) [] [] [] [] (omega arith) (drawn_plain n [])
 
   pub reified_drawn : (w : Word) (t : Triple) (ns : Notes) (n : ℕ) → AreDrawn name (suc n) (suc n + note_nodes ns) (note_links (blank name n) ns) (note_roots (blank name n) ns (suc n)) (note_entries name (blank name n) ns (suc n)) (note_triples name (blank name n) ns (suc n)) → AreDrawn name n (n + reified_nodes ns) [] (reified_roots w t ns n) (reified_entries name w t ns n) (reified name w t ns n)
   reified_drawn w t ns n d =
@@ -258,9 +247,6 @@ module _ (name : ℕ → List ℕ) where
       moved n high (n + set_nodes (ns ∷ sets)) [] (roots ++ others) (es ++ fs) (ts ++ us) (omega arith)
       (drawn_both n mid high [] [] roots others es fs ts us (omega arith) (omega arith)
       (reified_drawn word.Axiom t ns n (notes_drawn (blank name n) ns (suc n))) (sets_drawn t sets mid))
-
-same_label : (a b : List ℕ) → Blank a ≡ Blank b → a ≡ b
-same_label a b e = cc
 
 -- The node of an entry has exactly the entry's own triples, in a graph that keeps what was drawn, where the others are not of such nodes.
 module _ (name : ℕ → List ℕ) (most : ℕ) (differ : AreNamedApart name most) (Cares : Triple → Type 0) (g : List Triple) where

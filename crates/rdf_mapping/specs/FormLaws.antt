@@ -76,7 +76,7 @@ mutual
             ]
       ]
 
-same_label : (a b : List ℕ) → Blank a ≡ Blank b → a ≡ b
+pub same_label : (a b : List ℕ) → Blank a ≡ Blank b → a ≡ b
 same_label a b e = cc
 
 -- Intervals of neighbours are apart.

@@ -1,24 +1,23 @@
 -- A property that an ontology may name has no IRI that means something in a graph.
 use lib.Utf8.{encode}
-use Rattle.std.proofs.Common.{◌≡◌, ◌⊎◌, ℕ, Bool, true, false, List, [], ◌∷◌, inl, inr, refl, sym, ap, ◌∙◌}
+use Rattle.std.proofs.Common.{◌≡◌, ℕ, Bool, true, false, List, [], ◌∷◌, inl, inr, refl, sym, ap, ◌∙◌}
 use Rattle.std.specs.Prelude.{not, ◌||◌, codes, nat_eq, map}
 use Rattle.std.specs.List.{list_all, list_any, starts_with}
 use Rattle.std.specs.Str.{bytes_eq}
-use Rattle.std.proofs.lemmas.Bool.{and_parts, both_ways, cases_Bool, cond-false, cond-true, or_cases, or_left, or_right}
+use Rattle.std.proofs.lemmas.Bool.{both_ways, or_cases, or_left, or_right}
 use Rattle.std.proofs.lemmas.Slice.Eq.{bytes_eq-Decides}
 use Rattle.rdf_terms.specs.Datatypes.{has}
 use Rattle.rdf_terms.specs.Vocabulary.{is_reserved, owl, rdf, rdfs, xsd}
 use Rattle.owl_kind.specs.declared.kind.Kind.{Kind}
 use Rattle.owl_kind.specs.declared.kind.Kind.TheVariants as kind
 use Rattle.owl_kind.specs.Kinds.{annotation_properties, is_built_in}
-use Rattle.rdf_graph.specs.declared.term.Term.TheVariants.{Iri}
 use Rattle.rdf_graph.specs.declared.triple.Triple.{Triple}
 use Rattle.rdf_meaning.specs.declared.word.Word.{Word}
 use Rattle.rdf_meaning.specs.declared.word.Word.TheVariants as word
 use Rattle.rdf_meaning.specs.Kinds.{may_be_declared}
 use Rattle.rdf_meaning.specs.ListLaws.{passes, some_passes}
-use Rattle.rdf_meaning.specs.Nodes.{carries, is_facet, is_same, type_iri}
-use Rattle.rdf_meaning.specs.Words.{is_type, word_iri}
+use Rattle.rdf_meaning.specs.Nodes.{carries, is_facet, type_iri}
+use Rattle.rdf_meaning.specs.Words.{word_iri}
 use Rattle.rdf_mapping.specs.Frames.{by_facet, by_word}
 use Rattle.rdf_mapping.specs.Entries.{IsBeside}
 use Rattle.rdf_meaning.specs.Denotation.{axiom_predicates}
@@ -26,6 +25,7 @@ use Rattle.rdf_meaning.specs.Statements.{is_axiom_predicate}
 use Rattle.owl_characters.specs.Order.{text_eq}
 use Rattle.rdf_mapping.specs.SortLaws.{no_true}
 use Rattle.rdf_mapping.specs.Sorts.{IsFree, IsProperty, annotation_property, data_property, object_property}
+use Rattle.rdf_mapping.specs.SpellingLaws.{predicate_cases}
 
 no_annotation_property : (w : Word) → may_be_declared kind.AnnotationProperty (word_iri w) ≡ false
 unfolding may_be_declared is_reserved is_built_in annotation_properties word_iri encode
@@ -121,21 +121,9 @@ property_free k is p m =
       no_facet = no_true (is_facet p) (λ h. facet_undeclared k is p m h);
     }
 
-pub predicate_of : (w : Word) (t : Triple) → carries w t ≡ true → (t.predicate ≡ type_iri) ⊎ (t.predicate ≡ word_iri w)
-unfolding carries
-predicate_of w t h =
-    elim (cases_Bool (is_type w)) [
-      | inl y ↦
-          let says = and_parts (bytes_eq t.predicate type_iri) (is_same t.object (Iri (word_iri w))) (sym (cond-true (is_type w) _ _ y) ∙ h) in
-          inl ((bytes_eq-Decides t.predicate type_iri).0 says.0)
-      | inr n ↦
-          let says = and_parts (bytes_eq t.predicate (word_iri w)) _ (sym (cond-false (is_type w) _ _ n) ∙ h) in
-          inr ((bytes_eq-Decides t.predicate (word_iri w)).0 says.0)
-    ]
-
 -- a triple with such a predicate carries no word
 pub free_carries : (p : List ℕ) → IsFree p → (t : Triple) → t.predicate ≡ p → (w : Word) → carries w t ≡ true → ⊥
-free_carries p f t e w h = elim (predicate_of w t h) [ inl y ↦ f.no_type (sym e ∙ y) | inr n ↦ f.no_word w (sym e ∙ n) ]
+free_carries p f t e w h = elim (predicate_cases w t h) [ inl y ↦ f.no_type (sym e ∙ y) | inr n ↦ f.no_word w (sym e ∙ n) ]
 
 -- and makes no node what it is
 pub free_beside : (p : List ℕ) → IsFree p → IsBeside p

@@ -6,11 +6,8 @@ use Rattle.rdf_mapping.specs.Forms.{Arcs, made, arc_nodes, blank, link, nodes, t
 use Rattle.rdf_mapping.specs.Drawing.{Statement, linked, linked_back, looped, standing, unsaid}
 use Rattle.rdf_mapping.specs.Notes.{Notes, note_nodes}
 use Rattle.rdf_mapping.specs.Graphs.{Group, groups_of, head_triples, header_nodes, header_term, main_triple, notes_from, statement_nodes}
+use Rattle.rdf_mapping.specs.GroupFrames.{group_nodes}
 use Rattle.rdf_mapping.specs.Entries.{Entry, note_entries, note_links, note_roots, set_entries, set_roots}
-
-abbrev pub group_nodes : List Group → ℕ
-group_nodes [] = 0
-group_nodes (g ∷ gs) = statement_nodes g.statement g.sets + group_nodes gs
 
 -- how many nodes have no label of the ontology
 abbrev pub made_nodes : Ontology → ℕ

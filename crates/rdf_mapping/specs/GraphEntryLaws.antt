@@ -10,7 +10,8 @@ use Rattle.rdf_mapping.specs.Notes.{Notes, note_nodes, note_triples}
 use Rattle.rdf_mapping.specs.Graphs.{Group, groups_of, group_triples, head_triples, header_nodes, header_term, main_triple, made_triples, notes_from, set_nodes, set_triples, standing_nodes, standing_triples, statement_nodes, statement_triples}
 use Rattle.rdf_mapping.specs.Entries.{AreDrawn, Entry, note_entries, note_links, note_roots, set_entries, set_roots}
 use Rattle.rdf_mapping.specs.EntryLaws.{drawn_both, drawn_plain, notes_drawn, sets_drawn}
-use Rattle.rdf_mapping.specs.GraphEntries.{group_entries, group_nodes, group_others, group_roots, made_entries, made_nodes, made_others, made_roots, standing_entries, standing_others, standing_roots, statement_entries, statement_others, statement_roots}
+use Rattle.rdf_mapping.specs.GraphEntries.{group_entries, group_others, group_roots, made_entries, made_nodes, made_others, made_roots, standing_entries, standing_others, standing_roots, statement_entries, statement_others, statement_roots}
+use Rattle.rdf_mapping.specs.GroupFrames.{group_nodes}
 
 module _ (name : ℕ → List ℕ) where
   drawn_wider : (a b low high : ℕ) (own : List Triple) (roots es : List Entry) (ts : List Triple) → low ≤ a → b ≤ high → AreDrawn name a b own roots es ts → AreDrawn name low high own roots es ts

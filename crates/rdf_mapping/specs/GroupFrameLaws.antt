@@ -1,89 +1,69 @@
 -- Where the triples of annotations, axioms and groups begin, and what a graph keeps of each group.
 use Rattle.std.proofs.Common.{◌≡◌, ◌≤◌, ◌+◌, ◌⊎◌, ℕ, suc, List, [], ◌∷◌, ◌++◌, inl, inr, refl, sym, subst, arith}
 use Rattle.std.specs.Prelude.{Contains}
-use Rattle.std.specs.List.{AllByRecursion}
 use Rattle.std.proofs.lemmas.List.Elements.{Contains-append_cases, Contains-append_left, Contains-append_right}
-use Rattle.owl_list.specs.AscendingLaws.{in_cases, in_none}
+use Rattle.owl_list.specs.AscendingLaws.{in_cases, in_head, in_none, in_tail}
 use Rattle.rdf_graph.specs.declared.term.Term.{Term}
 use Rattle.rdf_graph.specs.declared.term.Term.TheVariants.{Iri, Blank, Literal}
 use Rattle.rdf_graph.specs.declared.triple.Triple.{Triple}
 use Rattle.rdf_meaning.specs.declared.word.Word.{Word}
 use Rattle.rdf_meaning.specs.declared.word.Word.TheVariants as word
-use Rattle.rdf_meaning.specs.Nodes.{type_iri}
-use Rattle.rdf_meaning.specs.Words.{word_iri}
 use Rattle.rdf_mapping.specs.Forms.{Form, plain, made, twice, Arcs, arc_nodes, blank, link, nodes, term_of, triples}
 use Rattle.rdf_mapping.specs.Drawing.{Statement, linked, linked_back, looped, standing, unsaid}
 use Rattle.rdf_mapping.specs.FormLaws.{apart, keeps_part, lie, subject_of, subjects, wider}
 use Rattle.rdf_mapping.specs.Frames.{AreNamedApart, AreOwned, IsAny, IsForeign, Keeps, Lies, StartsApart}
 use Rattle.rdf_mapping.specs.Graphs.{Group, group_triples, linked_triples, main_triple, set_nodes, set_triples, standing_nodes, standing_triples, statement_nodes, statement_triples}
-use Rattle.rdf_mapping.specs.GroupFrames.{EachGroupKept, StatesApart, group_nodes}
-use Rattle.rdf_mapping.specs.Notes.{Notes, no_notes, note, note_nodes, note_triples, reified, reified_nodes, reifying, where_some}
+use Rattle.rdf_mapping.specs.GroupFrames.{AreStatedApart, EachGroupKept, StatesApart, group_nodes}
+use Rattle.rdf_mapping.specs.Notes.{Notes, no_notes, note, note_nodes, note_triples, reified, reified_nodes, reifying}
+use Rattle.rdf_mapping.specs.Entries.{note_links}
+use Rattle.rdf_mapping.specs.EntryLaws.{link_subjects, reifying_subjects, some_count, some_in}
 
 -- Annotations.
 
-pub some_in : (ns : Notes) (xs : List Triple) (m : ℕ) (t : Triple) → Contains (where_some ns [] xs) t → Contains xs t × (where_some ns 0 m ≡ m)
-some_in no_notes xs m t h = absurd (in_none t h)
-some_in (note p v inside more) xs m t h = (h, refl)
-
-pub reifying_subject : (w : Word) (x : Term) (t u : Triple) → Contains (reifying w x t) u → u.subject ≡ x
-reifying_subject w x t u m =
-    let a = link x type_iri (Iri (word_iri w)) in
-    let b = link x (word_iri word.AnnotatedSource) t.subject in
-    let c = link x (word_iri word.AnnotatedProperty) (Iri t.predicate) in
-    let d = link x (word_iri word.AnnotatedTarget) t.object in
-    elim (in_cases a (b ∷ c ∷ d ∷ []) u m) [
-      | inl e ↦ subject_of a u e
-      | inr m ↦
-          elim (in_cases b (c ∷ d ∷ []) u m) [
-            | inl e ↦ subject_of b u e
-            | inr m ↦
-                elim (in_cases c (d ∷ []) u m) [
-                  | inl e ↦ subject_of c u e
-                  | inr m ↦ elim (in_cases d [] u m) [ inl e ↦ subject_of d u e | inr o ↦ absurd (in_none u o) ]
-                ]
+-- what reifies a triple begins at its node, or at a node of what is below it
+reified_under : (name : ℕ → List ℕ) (w : Word) (u : Triple) (ns : Notes) (n : ℕ) → ((t : Triple) → Contains (note_triples name (blank name n) ns (suc n)) t → (t.subject ≡ blank name n) ⊎ Lies name (suc n) (suc n + note_nodes ns) t.subject) → (t : Triple) → Contains (reified name w u ns n) t → Lies name n (n + reified_nodes ns) t.subject
+reified_under name w u ns n under t m =
+    let below = reifying w (blank name n) u ++ note_triples name (blank name n) ns (suc n) in
+    let high = n + reified_nodes ns in
+    let same = some_count ns below t (suc (note_nodes ns)) m in
+    elim (Contains-append_cases (reifying w (blank name n) u) (note_triples name (blank name n) ns (suc n)) t (some_in ns below t m)) [
+      | inl b ↦ lie name n n high t.subject (omega arith) (omega (arith, same)) (reifying_subjects w (blank name n) u t b)
+      | inr b ↦
+          elim (under t b) [
+            | inl e ↦ lie name n n high t.subject (omega arith) (omega (arith, same)) e
+            | inr l ↦ wider name (suc n) (suc n + note_nodes ns) n high t.subject (omega arith) (omega (arith, same)) l
           ]
     ]
 
-pub note_subjects : (name : ℕ → List ℕ) (x : Term) (ns : Notes) (n : ℕ) (t : Triple) → Contains (note_triples name x ns n) t → (t.subject ≡ x) ⊎ Lies name n (n + note_nodes ns) t.subject
-note_subjects name x no_notes n t m = absurd (in_none t m)
-note_subjects name x (note p v inside more) n t m =
+-- among all that is drawn of annotations, those of the term itself stand apart
+pub links_or_below : (name : ℕ → List ℕ) (x : Term) (ns : Notes) (n : ℕ) (t : Triple) → Contains (note_triples name x ns n) t → Contains (note_links x ns) t ⊎ Lies name n (n + note_nodes ns) t.subject
+links_or_below name x no_notes n t m = absurd (in_none t m)
+links_or_below name x (note p v inside more) n t m =
     let high = n + note_nodes (note p v inside more) in
-    let below = reifying word.Annotation (blank name n) (link x p v) ++ note_triples name (blank name n) inside (suc n) in
-    let mid = n + where_some inside 0 (suc (note_nodes inside)) in
-    elim (in_cases (link x p v) (where_some inside [] below ++ note_triples name x more mid) t m) [
-      | inl e ↦ inl (subject_of (link x p v) t e)
-      | inr m ↦
-          elim (Contains-append_cases (where_some inside [] below) (note_triples name x more mid) t m) [
+    let mid = n + reified_nodes inside in
+    let first = reified name word.Annotation (link x p v) inside n in
+    let others = note_triples name x more mid in
+    elim (in_cases (link x p v) (first ++ others) t m) [
+      | inl e ↦ inl (subst (λ u. Contains (link x p v ∷ note_links x more) u) e (in_head (link x p v) (note_links x more)))
+      | inr k ↦
+          elim (Contains-append_cases first others t k) [
             | inl a ↦
-                let q = some_in inside below (suc (note_nodes inside)) t a in
-                elim (Contains-append_cases (reifying word.Annotation (blank name n) (link x p v)) (note_triples name (blank name n) inside (suc n)) t q.0) [
-                  | inl b ↦ inr (lie name n n high t.subject (omega arith) (omega (arith, q.1)) (reifying_subject word.Annotation (blank name n) (link x p v) t b))
-                  | inr b ↦
-                      elim (note_subjects name (blank name n) inside (suc n) t b) [
-                        | inl e ↦ inr (lie name n n high t.subject (omega arith) (omega (arith, q.1)) e)
-                        | inr l ↦ inr (wider name (suc n) (suc n + note_nodes inside) n high t.subject (omega arith) (omega (arith, q.1)) l)
-                      ]
-                ]
+                let begins = reified_under name word.Annotation (link x p v) inside n
+                (λ u i. elim (links_or_below name (blank name n) inside (suc n) u i) [ inl o ↦ inl (link_subjects (blank name n) inside u o) | inr l ↦ inr l ]) t a in
+                inr (wider name n mid n high t.subject (omega arith) (omega arith) begins)
             | inr b ↦
-                elim (note_subjects name x more mid t b) [
-                  | inl e ↦ inl e
+                elim (links_or_below name x more mid t b) [
+                  | inl o ↦ inl (in_tail (link x p v) (note_links x more) t o)
                   | inr l ↦ inr (wider name mid (mid + note_nodes more) n high t.subject (omega arith) (omega arith) l)
                 ]
           ]
     ]
 
+pub note_subjects : (name : ℕ → List ℕ) (x : Term) (ns : Notes) (n : ℕ) (t : Triple) → Contains (note_triples name x ns n) t → (t.subject ≡ x) ⊎ Lies name n (n + note_nodes ns) t.subject
+note_subjects name x ns n t m = elim (links_or_below name x ns n t m) [ inl o ↦ inl (link_subjects x ns t o) | inr l ↦ inr l ]
+
 pub reified_subjects : (name : ℕ → List ℕ) (w : Word) (u : Triple) (ns : Notes) (n : ℕ) (t : Triple) → Contains (reified name w u ns n) t → Lies name n (n + reified_nodes ns) t.subject
-reified_subjects name w u ns n t m =
-    let q = some_in ns (reifying w (blank name n) u ++ note_triples name (blank name n) ns (suc n)) (suc (note_nodes ns)) t m in
-    let high = n + reified_nodes ns in
-    elim (Contains-append_cases (reifying w (blank name n) u) (note_triples name (blank name n) ns (suc n)) t q.0) [
-      | inl b ↦ lie name n n high t.subject (omega arith) (omega (arith, q.1)) (reifying_subject w (blank name n) u t b)
-      | inr b ↦
-          elim (note_subjects name (blank name n) ns (suc n) t b) [
-            | inl e ↦ lie name n n high t.subject (omega arith) (omega (arith, q.1)) e
-            | inr l ↦ wider name (suc n) (suc n + note_nodes ns) n high t.subject (omega arith) (omega (arith, q.1)) l
-          ]
-    ]
+reified_subjects name w u ns n t m = reified_under name w u ns n (note_subjects name (blank name n) ns (suc n)) t m
 
 pub set_subjects : (name : ℕ → List ℕ) (u : Triple) (sets : List Notes) (n : ℕ) (t : Triple) → Contains (set_triples name u sets n) t → Lies name n (n + set_nodes sets) t.subject
 set_subjects name u [] n t m = absurd (in_none t m)
@@ -120,7 +100,7 @@ module _ (name : ℕ → List ℕ) (most : ℕ) where
   starts (made arcs) n low high h l k = inl (lie name n low high (blank name n) l (omega (arith, k)) refl)
   starts (twice f) n low high h l k = inl (lie name n low high (blank name n) l (omega (arith, k)) refl)
 
-  main_cases : (s : Term) (p : List ℕ) (o : Term) (sets : List Triple) (t : Triple) → Contains (main_triple name s p o sets) t → (t.subject ≡ s) ⊎ Contains sets t
+  pub main_cases : (s : Term) (p : List ℕ) (o : Term) (sets : List Triple) (t : Triple) → Contains (main_triple name s p o sets) t → (t.subject ≡ s) ⊎ Contains sets t
   main_cases (Iri s) p o sets t m = elim (in_cases (link (Iri s) p o) sets t m) [ inl e ↦ inl (subject_of (link (Iri s) p o) t e) | inr k ↦ inr k ]
   main_cases (Blank s) p o sets t m = elim (in_cases (link (Blank s) p o) sets t m) [ inl e ↦ inl (subject_of (link (Blank s) p o) t e) | inr k ↦ inr k ]
   main_cases (Literal s) p o sets t m = inr m
@@ -189,7 +169,7 @@ module _ (name : ℕ → List ℕ) (most : ℕ) (differ : AreNamedApart name mos
         | inr b ↦ b
       ])
 
-  pub group_owned : (gs : List Group) (n : ℕ) → AllByRecursion (λ q. StatesApart name most q.statement) gs → AreOwned name most (group_triples name gs n) n (n + group_nodes gs)
+  pub group_owned : (gs : List Group) (n : ℕ) → AreStatedApart name most gs → AreOwned name most (group_triples name gs n) n (n + group_nodes gs)
   group_owned [] n all = λ t m. absurd (in_none t m)
   group_owned (q ∷ gs) n all =
       let mid = n + statement_nodes q.statement q.sets in
@@ -208,7 +188,7 @@ module _ (name : ℕ → List ℕ) (most : ℕ) (differ : AreNamedApart name mos
       ]
 
   -- of all groups a graph keeps each
-  pub groups_kept : (gs : List Group) (n : ℕ) → n + group_nodes gs ≤ most → AllByRecursion (λ q. StatesApart name most q.statement) gs → Keeps name IsAny g (group_triples name gs n) n (n + group_nodes gs) → EachGroupKept name g gs n
+  pub groups_kept : (gs : List Group) (n : ℕ) → n + group_nodes gs ≤ most → AreStatedApart name most gs → Keeps name IsAny g (group_triples name gs n) n (n + group_nodes gs) → EachGroupKept name g gs n
   groups_kept [] n few all k = tt
   groups_kept (q ∷ gs) n few all k =
       let mid = n + statement_nodes q.statement q.sets in

@@ -1,16 +1,15 @@
 -- What a graph keeps of the groups of axioms.
-use Rattle.std.specs.Prelude.{◌≡◌, ℕ, suc, ◌+◌, List, [], ◌∷◌, ◌++◌, Contains}
+use Rattle.std.specs.Prelude.{◌≡◌, ℕ, suc, ◌+◌, List, [], ◌∷◌, Contains}
+use Rattle.std.specs.List.{AllByRecursion}
 use Rattle.rdf_terms.specs.Literals.{LiteralParts}
 use Rattle.rdf_graph.specs.declared.term.Term.{Term}
 use Rattle.rdf_graph.specs.declared.term.Term.TheVariants.{Literal}
 use Rattle.rdf_graph.specs.declared.triple.Triple.{Triple}
 use Rattle.rdf_mapping.specs.Drawing.{Statement, linked, linked_back, looped, standing, unsaid}
 use Rattle.rdf_mapping.specs.Forms.{Form, Arcs, arc_nodes, blank, link, nodes, triples}
-use Rattle.rdf_mapping.specs.Frames.{IsAny, IsOfNode, IsOwn, Keeps, KeepsArcs, StartsApart}
+use Rattle.rdf_mapping.specs.Frames.{IsAny, IsOfNode, Keeps, KeepsArcs, StartsApart}
 use Rattle.rdf_mapping.specs.Graphs.{Group, set_nodes, set_triples, standing_nodes, standing_triples, statement_nodes, statement_triples}
-use Rattle.rdf_mapping.specs.Notes.{Notes, no_notes, note, note_nodes, note_triples, reified, reified_nodes, reifying}
-use Rattle.rdf_meaning.specs.declared.word.Word.{Word}
-use Rattle.rdf_meaning.specs.declared.word.Word.TheVariants as word
+use Rattle.rdf_mapping.specs.Notes.{Notes, no_notes, note, note_nodes, note_triples}
 
 -- the subject of the statement is no other numbered node
 abbrev pub StatesApart : (ℕ → List ℕ) → ℕ → Statement → Type 0
@@ -19,6 +18,9 @@ StatesApart name most (linked_back f p g) = StartsApart name most g
 StatesApart name most (looped p f) = StartsApart name most f
 StatesApart name most (standing arcs) = Unit {0}
 StatesApart name most unsaid = Unit {0}
+
+abbrev pub AreStatedApart : (ℕ → List ℕ) → ℕ → List Group → Type 0
+AreStatedApart name most gs = AllByRecursion (λ q. StatesApart name most q.statement) gs
 
 -- how many nodes groups have
 abbrev pub group_nodes : List Group → ℕ
@@ -58,20 +60,3 @@ pub record KeepsStanding (name : ℕ → List ℕ) (g : List Triple) (arcs : Arc
   pub node : KeepsArcs name IsOfNode g arcs n
   pub notes : (t : Triple) → Contains (note_triples name (blank name n) ns (n + suc (arc_nodes arcs))) t → Contains g t
   pub others : Keeps name IsAny g (standing_triples name arcs sets (n + (suc (arc_nodes arcs) + note_nodes ns))) (n + (suc (arc_nodes arcs) + note_nodes ns)) (n + (suc (arc_nodes arcs) + note_nodes ns) + standing_nodes arcs sets)
-
--- the annotations of the term itself
-abbrev pub note_arms : Term → Notes → List Triple
-note_arms x no_notes = []
-note_arms x (note p v inside more) = link x p v ∷ note_arms x more
-
--- what a graph keeps of each reification of an annotation of the term
-abbrev pub EachReified : (ℕ → List ℕ) → List Triple → Term → Notes → ℕ → Type 0
-EachReified name g x no_notes n = Unit {0}
-EachReified name g x (note p v inside more) n =
-    Keeps name IsAny g (reified name word.Annotation (link x p v) inside n) n (n + reified_nodes inside)
-    × EachReified name g x more (n + reified_nodes inside)
-
--- The node that reifies a triple has exactly the triples of that, and its annotations, and each of these is reified where it is annotated.
-pub record KeepsReified (name : ℕ → List ℕ) (g : List Triple) (w : Word) (t : Triple) (ns : Notes) (n : ℕ) : Type 0 where
-  pub own : IsOwn IsAny g (blank name n) (reifying w (blank name n) t ++ note_arms (blank name n) ns)
-  pub each : EachReified name g (blank name n) ns (suc n)

@@ -43,6 +43,10 @@ number_read n small =
     and_from (not (nat_eq (length (decimal n)) 0)) (list_all is_ascii_digit (decimal n))
     (ap not (ne_eqb (length (decimal n)) 0 (λ e. omega (arith, some, e)))) (digits_decimal numerals n small)
 
+pub property_tag : (t : Tag) → admits sort.ObjectProperty t ≡ true → tag.ObjectProperty ≡ t
+unfolding admits
+property_tag t h = same_tag tag.ObjectProperty t h
+
 module _ (g : List Triple) (k : List Entity) where
   -- what the leaf of a tag stands for where a tree of the sort stands
   abbrev pub IsSimple : Tag → Type 0
@@ -56,26 +60,23 @@ module _ (g : List Triple) (k : List Entity) where
   class_simple : IsSimple tag.Class
   unfolding admits row_of number_of simple kind_of
   class_simple sort.ClassExpression (atom.Iri iri) w h v ty ind = typed tag.Class iri kind.Class ty.0
-  class_simple sort.ClassExpression _ w h v ty ind = absurd (both_ways false refl h)
   class_simple sort.Class (atom.Iri iri) w h v ty ind = typed tag.Class iri kind.Class ty.0
-  class_simple sort.Class _ w h v ty ind = absurd (both_ways false refl h)
-  class_simple _ a w h v ty ind = absurd (both_ways false refl w)
+  class_simple _ (atom.Iri iri) w h v ty ind = absurd (both_ways false refl w)
+  class_simple _ _ w h v ty ind = absurd (both_ways false refl h)
 
   datatype_simple : IsSimple tag.Datatype
   unfolding admits row_of number_of simple kind_of
   datatype_simple sort.DataRange (atom.Iri iri) w h v ty ind = typed tag.Datatype iri kind.Datatype ty.0
-  datatype_simple sort.DataRange _ w h v ty ind = absurd (both_ways false refl h)
   datatype_simple sort.Datatype (atom.Iri iri) w h v ty ind = typed tag.Datatype iri kind.Datatype ty.0
-  datatype_simple sort.Datatype _ w h v ty ind = absurd (both_ways false refl h)
-  datatype_simple _ a w h v ty ind = absurd (both_ways false refl w)
+  datatype_simple _ (atom.Iri iri) w h v ty ind = absurd (both_ways false refl w)
+  datatype_simple _ _ w h v ty ind = absurd (both_ways false refl h)
 
   object_property_simple : IsSimple tag.ObjectProperty
   unfolding admits row_of number_of simple kind_of
   object_property_simple sort.ObjectPropertyExpression (atom.Iri iri) w h v ty ind = typed tag.ObjectProperty iri kind.ObjectProperty ty.0
-  object_property_simple sort.ObjectPropertyExpression _ w h v ty ind = absurd (both_ways false refl h)
   object_property_simple sort.ObjectProperty (atom.Iri iri) w h v ty ind = typed tag.ObjectProperty iri kind.ObjectProperty ty.0
-  object_property_simple sort.ObjectProperty _ w h v ty ind = absurd (both_ways false refl h)
-  object_property_simple _ a w h v ty ind = absurd (both_ways false refl w)
+  object_property_simple _ (atom.Iri iri) w h v ty ind = absurd (both_ways false refl w)
+  object_property_simple _ _ w h v ty ind = absurd (both_ways false refl h)
 
   data_property_simple : IsSimple tag.DataProperty
   unfolding admits row_of number_of simple kind_of
@@ -95,35 +96,31 @@ module _ (g : List Triple) (k : List Entity) where
   named_simple sort.Individual _ w h v ty ind = absurd (both_ways false refl h)
   named_simple _ a w h v ty ind = absurd (both_ways false refl w)
 
+  individual : (label : List ℕ) → AreIndividuals g (leaf tag.Anonymous (atom.Label label)) → cond (is_role role.Individual (role_of g (Blank label))) (Some (leaf tag.Anonymous (atom.Label label))) None ≡ Some (leaf tag.Anonymous (atom.Label label))
+  individual label ind = cond-true (is_role role.Individual (role_of g (Blank label))) (Some (leaf tag.Anonymous (atom.Label label))) None (ap (is_role role.Individual) (ind label (0, omega arith, refl)))
+
   anonymous_simple : IsSimple tag.Anonymous
   unfolding admits row_of number_of simple kind_of
-  anonymous_simple sort.Individual (atom.Label label) w h v ty ind = cond-true (is_role role.Individual (role_of g (Blank label))) (Some (leaf tag.Anonymous (atom.Label label))) None (ap (is_role role.Individual) (ind label (0, omega arith, refl)))
-  anonymous_simple sort.Individual _ w h v ty ind = absurd (both_ways false refl h)
-  anonymous_simple sort.AnnotationSubject (atom.Label label) w h v ty ind = cond-true (is_role role.Individual (role_of g (Blank label))) (Some (leaf tag.Anonymous (atom.Label label))) None (ap (is_role role.Individual) (ind label (0, omega arith, refl)))
-  anonymous_simple sort.AnnotationSubject _ w h v ty ind = absurd (both_ways false refl h)
-  anonymous_simple sort.AnnotationValue (atom.Label label) w h v ty ind =
-      ap (λ (o : Option Tree). or_else o None)
-      (cond-true (is_role role.Individual (role_of g (Blank label))) (Some (leaf tag.Anonymous (atom.Label label))) None (ap (is_role role.Individual) (ind label (0, omega arith, refl))))
-  anonymous_simple sort.AnnotationValue _ w h v ty ind = absurd (both_ways false refl h)
-  anonymous_simple _ a w h v ty ind = absurd (both_ways false refl w)
+  anonymous_simple sort.Individual (atom.Label label) w h v ty ind = individual label ind
+  anonymous_simple sort.AnnotationSubject (atom.Label label) w h v ty ind = individual label ind
+  anonymous_simple sort.AnnotationValue (atom.Label label) w h v ty ind = ap (λ (o : Option Tree). or_else o None) (individual label ind)
+  anonymous_simple _ (atom.Label label) w h v ty ind = absurd (both_ways false refl w)
+  anonymous_simple _ _ w h v ty ind = absurd (both_ways false refl h)
 
   plain_simple : IsSimple tag.PlainIri
   unfolding admits row_of number_of simple kind_of
   plain_simple sort.Iri (atom.Iri iri) w h v ty ind = refl
-  plain_simple sort.Iri _ w h v ty ind = absurd (both_ways false refl h)
   plain_simple sort.AnnotationSubject (atom.Iri iri) w h v ty ind = refl
-  plain_simple sort.AnnotationSubject _ w h v ty ind = absurd (both_ways false refl h)
   plain_simple sort.AnnotationValue (atom.Iri iri) w h v ty ind = refl
-  plain_simple sort.AnnotationValue _ w h v ty ind = absurd (both_ways false refl h)
-  plain_simple _ a w h v ty ind = absurd (both_ways false refl w)
+  plain_simple _ (atom.Iri iri) w h v ty ind = absurd (both_ways false refl w)
+  plain_simple _ _ w h v ty ind = absurd (both_ways false refl h)
 
   literal_simple : IsSimple tag.Literal
   unfolding admits row_of number_of simple kind_of
   literal_simple sort.Literal (atom.Literal literal) w h v ty ind = refl
-  literal_simple sort.Literal _ w h v ty ind = absurd (both_ways false refl h)
   literal_simple sort.AnnotationValue (atom.Literal literal) w h v ty ind = refl
-  literal_simple sort.AnnotationValue _ w h v ty ind = absurd (both_ways false refl h)
-  literal_simple _ a w h v ty ind = absurd (both_ways false refl w)
+  literal_simple _ (atom.Literal literal) w h v ty ind = absurd (both_ways false refl w)
+  literal_simple _ _ w h v ty ind = absurd (both_ways false refl h)
 
   number_simple : IsSimple tag.Number
   unfolding admits row_of number_of simple kind_of
@@ -160,13 +157,9 @@ module _ (g : List Triple) (k : List Entity) where
   property_named (atom.Iri iri) h = refl
   property_named _ h = absurd (both_ways false refl h)
 
-  object_property_is : (t : Tag) → admits sort.ObjectProperty t ≡ true → tag.ObjectProperty ≡ t
-  unfolding admits
-  object_property_is t h = same_tag tag.ObjectProperty t h
-
   pub leaf_drawn : (name : ℕ → List ℕ) (most : ℕ) (t : Tag) (a : Atom) → takes (row_of t) a ≡ true → IsAtom a → AreWellTyped k (entities (leaf t a)) → AreIndividuals g (leaf t a) → IsDrawnWell name most g k (leaf t a)
   leaf_drawn name most t a h v ty ind =
       record {
         drawn = λ s w m n few keeps. by_itself s (atom_term a) (leaf t a) (leaf_simple t s a (and_from (is_wanted s) (admits s t) w m) h v ty ind);
-        named = λ m n. property_named a (ap (λ (u : Tag). takes (row_of u) a) (object_property_is t m) ∙ h);
+        named = λ m n. property_named a (ap (λ (u : Tag). takes (row_of u) a) (property_tag t m) ∙ h);
       }

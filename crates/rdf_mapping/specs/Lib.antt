@@ -26,7 +26,6 @@ pub mod StandingLaws
 pub mod WholeFrameLaws
 pub mod SiteLaws
 pub mod LinkedLaws
-pub mod ReifiedLaws
 pub mod Entries
 pub mod EntryLaws
 pub mod NoteLaws

@@ -27,6 +27,7 @@ use Rattle.rdf_mapping.specs.FreeLaws.{free_carries}
 use Rattle.rdf_mapping.specs.OwnLaws.{any_from}
 use Rattle.rdf_mapping.specs.SortLaws.{no_true}
 use Rattle.rdf_mapping.specs.Sorts.{IsFree, IsMain, SaysAxiom, by_class, by_free, by_link, by_type}
+use Rattle.rdf_mapping.specs.SpellingLaws.{predicate_of}
 
 -- no word is of a facet, nor is rdf:type
 no_facet : (w : Word) → is_facet (word_iri w) ≡ false
@@ -65,16 +66,10 @@ carries_type w t y p o =
     ∙ and_from (bytes_eq t.predicate type_iri) (is_same t.object (Iri (word_iri w))) ((bytes_eq-Decides t.predicate type_iri).1 p) (ap (λ (x : Term). is_same x (Iri (word_iri w))) o ∙ own_term (Iri (word_iri w)))
 
 linked : (v : Word) (t : Triple) → is_type v ≡ false → carries v t ≡ true → t.predicate ≡ word_iri v
-unfolding carries
-linked v t n h =
-    let says = and_parts (bytes_eq t.predicate (word_iri v)) _ (sym (cond-false (is_type v) _ _ n) ∙ h) in
-    (bytes_eq-Decides t.predicate (word_iri v)).0 says.0
+linked v t n h = predicate_of v t h ∙ cond-false (is_type v) type_iri (word_iri v) n
 
 typed : (v : Word) (t : Triple) → is_type v ≡ true → carries v t ≡ true → t.predicate ≡ type_iri
-unfolding carries
-typed v t y h =
-    let says = and_parts (bytes_eq t.predicate type_iri) (is_same t.object (Iri (word_iri v))) (sym (cond-true (is_type v) _ _ y) ∙ h) in
-    (bytes_eq-Decides t.predicate type_iri).0 says.0
+typed v t y h = predicate_of v t h ∙ cond-true (is_type v) type_iri (word_iri v) y
 
 inverse_object : (t : Triple) → carries word.InverseOf t ≡ true → is_iri t.object ≡ true
 unfolding carries is_type word_number

@@ -13,9 +13,9 @@ use Rattle.rdf_meaning.specs.NodeLaws.{from_subject, in_subject}
 use Rattle.rdf_meaning.specs.Nodes.{carries, carries_some, is_own, is_structural, of_subject, role_of, words_of}
 use Rattle.rdf_meaning.specs.Statements.{notes_of}
 use Rattle.rdf_meaning.specs.Words.{word_number}
-use Rattle.rdf_mapping.specs.Frames.{IsOwn, by_word, is_node_word}
+use Rattle.rdf_mapping.specs.Frames.{IsAny, IsOwn, by_word, is_node_word}
 use Rattle.rdf_mapping.specs.Notes.{Notes}
-use Rattle.rdf_mapping.specs.Entries.{AreBeside, IsAny, note_links}
+use Rattle.rdf_mapping.specs.Entries.{AreBeside, note_links}
 use Rattle.rdf_mapping.specs.NoteLaws.{beside_links}
 
 main_node_words : list_all is_node_word (words_of role.Main) ≡ true

@@ -21,10 +21,10 @@ use Rattle.rdf_meaning.specs.Nodes.{carries, carries_some, chosen, first_role, i
 use Rattle.rdf_meaning.specs.Statements.{notes_of, reifies}
 use Rattle.rdf_meaning.specs.Words.{is_type, word_iri, word_number}
 use Rattle.rdf_mapping.specs.Forms.{link}
-use Rattle.rdf_mapping.specs.Frames.{IsOfNode, IsOwn, by_word, is_node_word}
+use Rattle.rdf_mapping.specs.Frames.{IsAny, IsOfNode, IsOwn, by_word, is_node_word}
 use Rattle.rdf_mapping.specs.Notes.{Notes, no_notes, note, reifying}
 use Rattle.rdf_mapping.specs.OwnLaws.{chosen_own, marks_of_node, role_own}
-use Rattle.rdf_mapping.specs.Entries.{AreBeside, Entry, IsAny, IsSaid, entry_node, entry_triples, note_links}
+use Rattle.rdf_mapping.specs.Entries.{AreBeside, Entry, IsSaid, entry_node, entry_triples, note_links}
 
 -- lists of which no element passes a test
 

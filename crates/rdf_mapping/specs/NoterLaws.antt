@@ -6,7 +6,6 @@ use Rattle.std.proofs.lemmas.List.Elements.{Contains-append_cases}
 use Rattle.owl_list.specs.Ascending.{AreApart}
 use Rattle.owl_list.specs.AscendingLaws.{in_cases, in_head, in_none}
 use Rattle.rdf_graph.specs.declared.term.Term.{Term}
-use Rattle.rdf_graph.specs.declared.term.Term.TheVariants.{Blank}
 use Rattle.rdf_graph.specs.declared.triple.Triple.{Triple}
 use Rattle.rdf_meaning.specs.declared.role.Role.TheVariants as role
 use Rattle.rdf_meaning.specs.declared.word.Word.TheVariants as word
@@ -15,11 +14,12 @@ use Rattle.rdf_meaning.specs.NodeLaws.{nodes_are}
 use Rattle.rdf_meaning.specs.Nodes.{nodes_of, role_of}
 use Rattle.rdf_meaning.specs.Statements.{noters, notes_of, reifies}
 use Rattle.rdf_mapping.specs.Forms.{link}
-use Rattle.rdf_mapping.specs.Frames.{AreNamedApart, Keeps}
+use Rattle.rdf_mapping.specs.Frames.{AreNamedApart, IsAny, Keeps}
 use Rattle.rdf_mapping.specs.Notes.{Notes, no_notes, note, reified_nodes, where_some}
-use Rattle.rdf_mapping.specs.Entries.{AreDrawn, AreEntries, Entry, IsAny, IsEntryNode, IsNoterOf, IsSaid, entry, entry_node, entry_roots, note_links, note_roots}
+use Rattle.rdf_mapping.specs.Entries.{AreDrawn, AreEntries, Entry, IsEntryNode, IsNoterOf, IsSaid, entry, entry_node, entry_roots, note_links, note_roots}
 use Rattle.rdf_mapping.specs.EntryLaws.{entries_own}
 use Rattle.rdf_mapping.specs.NoteLaws.{note_role, notes_entry, reifies_entry}
+use Rattle.rdf_mapping.specs.FormLaws.{same_label}
 
 no_individual : role.Note ≡ role.Individual → ⊥
 no_individual e = cc
@@ -83,9 +83,6 @@ root_subjects x (note p v inside more) n f m =
       | inl a ↦ ap (λ (e : Entry). e.triple.subject) (sym (some_root inside (entry n word.Annotation (link x p v) inside) f a))
       | inr b ↦ root_subjects x more (n + reified_nodes inside) f b
     ]
-
-same_label : (a b : List ℕ) → Blank a ≡ Blank b → a ≡ b
-same_label a b e = cc
 
 pub entries_are : (name : ℕ → List ℕ) (most : ℕ) → AreNamedApart name most → (g : List Triple) (low high : ℕ) (others : List Triple) (roots es : List Entry) (ts : List Triple) → high ≤ most → AreDrawn name low high others roots es ts → Keeps name IsAny g ts low high → ((e : Entry) (t : Triple) → Contains es e → Contains others t → t.subject ≡ entry_node name e → ⊥) → ((e f : Entry) → Contains es e → Contains roots f → f.triple.subject ≡ entry_node name e → ⊥) → ((e : Entry) → Contains es e → IsSaid e) → ((x : Term) → role_of g x ≡ role.Note → IsEntryNode name es x) → AreEntries name g es
 entries_are name most differ g low high others roots es ts few d k aside apart_roots said all =

@@ -1,5 +1,5 @@
 -- Where each group of axioms stands in the graph of an ontology, and the entries that reify its triples.
-use Rattle.std.proofs.Common.{◌≡◌, ◌+◌, ℕ, suc, List, [], ◌∷◌, inl, inr, subst}
+use Rattle.std.proofs.Common.{◌≡◌, ◌+◌, ℕ, suc, List, [], ◌∷◌, ◌++◌, inl, inr, refl, sym, subst}
 use Rattle.std.specs.Prelude.{Contains}
 use Rattle.std.proofs.lemmas.List.Elements.{Contains-append_cases, Contains-append_left, Contains-append_right}
 use Rattle.owl_list.specs.AscendingLaws.{in_cases, in_none}
@@ -8,6 +8,8 @@ use Rattle.rdf_mapping.specs.Graphs.{Group, group_triples, statement_nodes, stat
 use Rattle.rdf_mapping.specs.Entries.{AreDrawn, Entry, entry_node}
 use Rattle.rdf_mapping.specs.NoterLaws.{root_subjects}
 use Rattle.rdf_mapping.specs.GraphEntries.{IsAt, first, next, group_roots, statement_roots}
+use Rattle.rdf_mapping.specs.Drawing.{Statement}
+use Rattle.rdf_mapping.specs.Notes.{Notes}
 
 -- each group has a place
 pub place_of : (gs : List Group) (n : ℕ) (g : Group) → Contains gs g → (m : ℕ) × IsAt g m gs n
@@ -18,19 +20,20 @@ place_of (h ∷ gs) n g i =
       | inr k ↦ let p = place_of gs (n + statement_nodes h.statement h.sets) g k in (p.0, next h gs n p.1)
     ]
 
+-- what is drawn of a group at its place is among what is drawn of all
+drawn_at : {X : Type 0} → (own : Statement → List Notes → ℕ → List X) (all : List Group → ℕ → List X) → ((h : Group) (gs : List Group) (n : ℕ) → all (h ∷ gs) n ≡ own h.statement h.sets n ++ all gs (n + statement_nodes h.statement h.sets)) → (g : Group) (m : ℕ) (gs : List Group) (n : ℕ) → IsAt g m gs n → (x : X) → Contains (own g.statement g.sets m) x → Contains (all gs n) x
+drawn_at own all each g m _ _ (first gs) x i =
+    subst (λ xs. Contains xs x) (sym (each g gs m)) (Contains-append_left (own g.statement g.sets m) (all gs (m + statement_nodes g.statement g.sets)) x i)
+drawn_at own all each g m _ _ (next h gs n a) x i =
+    subst (λ xs. Contains xs x) (sym (each h gs n))
+    (Contains-append_right (own h.statement h.sets n) (all gs (n + statement_nodes h.statement h.sets)) x
+    (drawn_at own all each g m gs (n + statement_nodes h.statement h.sets) a x i))
+
 pub triples_at : (name : ℕ → List ℕ) (g : Group) (m : ℕ) (gs : List Group) (n : ℕ) → IsAt g m gs n → (t : Triple) → Contains (statement_triples name g.statement g.sets m) t → Contains (group_triples name gs n) t
-triples_at name g m _ _ (first gs) t i =
-    Contains-append_left (statement_triples name g.statement g.sets m) (group_triples name gs (m + statement_nodes g.statement g.sets)) t i
-triples_at name g m _ _ (next h gs n a) t i =
-    Contains-append_right (statement_triples name h.statement h.sets n) (group_triples name gs (n + statement_nodes h.statement h.sets)) t
-    (triples_at name g m gs (n + statement_nodes h.statement h.sets) a t i)
+triples_at name = drawn_at (statement_triples name) (group_triples name) (λ h gs n. refl)
 
 pub roots_at : (name : ℕ → List ℕ) (g : Group) (m : ℕ) (gs : List Group) (n : ℕ) → IsAt g m gs n → (f : Entry) → Contains (statement_roots name g.statement g.sets m) f → Contains (group_roots name gs n) f
-roots_at name g m _ _ (first gs) f i =
-    Contains-append_left (statement_roots name g.statement g.sets m) (group_roots name gs (m + statement_nodes g.statement g.sets)) f i
-roots_at name g m _ _ (next h gs n a) f i =
-    Contains-append_right (statement_roots name h.statement h.sets n) (group_roots name gs (n + statement_nodes h.statement h.sets)) f
-    (roots_at name g m gs (n + statement_nodes h.statement h.sets) a f i)
+roots_at name = drawn_at (statement_roots name) (group_roots name) (λ h gs n. refl)
 
 -- a root is that of a group
 pub record IsRootAt (name : ℕ → List ℕ) (gs : List Group) (n : ℕ) (f : Entry) : Type 0 where

@@ -16,9 +16,9 @@ use Rattle.rdf_graph.specs.declared.term.Term.TheVariants.{Iri, Literal}
 use Rattle.rdf_graph.specs.declared.triple.Triple.{Triple}
 use Rattle.rdf_meaning.specs.declared.row.Part.{Part}
 use Rattle.rdf_meaning.specs.declared.row.Place.{Place}
-use Rattle.rdf_meaning.specs.declared.row.Place.TheVariants.{At, Subject, Predicate, Object}
+use Rattle.rdf_meaning.specs.declared.row.Place.TheVariants.{At}
 use Rattle.rdf_meaning.specs.declared.row.Want.{Want}
-use Rattle.rdf_meaning.specs.declared.row.Want.TheVariants.{One, Many, Whole, Keys, Declared, Mark, True}
+use Rattle.rdf_meaning.specs.declared.row.Want.TheVariants.{One, Many, Mark, True}
 use Rattle.rdf_meaning.specs.declared.word.Word.{Word}
 use Rattle.rdf_meaning.specs.declared.word.Word.TheVariants as word
 use Rattle.rdf_meaning.specs.Denotation.{Denotes, is_true, mark, true_literal}
@@ -69,6 +69,28 @@ length_take zero (x ∷ xs) h = refl
 length_take (suc n) [] h = absurd (omega (arith, h))
 length_take (suc n) (x ∷ xs) h = ap suc (length_take n xs (omega (arith, h)))
 
+abbrev pub part_at : Word → Want → Part
+part_at w want = record { place = At w; want = want }
+
+-- What holds of no parts, and of each part that is drawn in front of others of which it holds, holds of all parts that are drawn.
+module _ (P : List Part → Type 0) (none : P []) (one : (w : Word) (s : Sort) (ps : List Part) → draws_part w (One s) ≡ true → P ps → P (part_at w (One s) ∷ ps)) (many : (w : Word) (s : Sort) (least : ℕ) (ps : List Part) → draws_part w (Many s least) ≡ true → P ps → P (part_at w (Many s least) ∷ ps)) (marked : (w : Word) (ps : List Part) → P ps → P (part_at w Mark ∷ ps)) (true_one : (w : Word) (ps : List Part) → draws_part w True ≡ true → P ps → P (part_at w True ∷ ps)) where
+  by_want : (w : Word) (want : Want) (ps : List Part) → draws_part w want ≡ true → P ps → P (part_at w want ∷ ps)
+  by_want w (One s) ps h next = one w s ps h next
+  by_want w (Many s least) ps h next = many w s least ps h next
+  by_want w Mark ps h next = marked w ps next
+  by_want w True ps h next = true_one w ps h next
+  by_want w _ ps h next = absurd (both_ways false refl h)
+
+  by_place : (p : Place) (want : Want) (ps : List Part) → draws_at p want ≡ true → P ps → P (record { place = p; want = want } ∷ ps)
+  by_place (At w) want ps h next = by_want w want ps h next
+  by_place _ want ps h next = absurd (both_ways false refl h)
+
+  pub over_parts : (ps : List Part) → list_all (λ p. draws_at p.place p.want) ps ≡ true → P ps
+  over_parts [] h = none
+  over_parts (p ∷ ps) h =
+      let parts = and_parts (draws_at p.place p.want) (list_all (λ q. draws_at q.place q.want) ps) h in
+      by_place p.place p.want ps parts.0 (over_parts ps parts.1)
+
 module _ (name : ℕ → List ℕ) (most : ℕ) (differ : AreNamedApart name most) (g : List Triple) (k : List Entity) (apart : AreApart g) (x : Term) where
   -- what is drawn by the parts
   abbrev Drawn : Arcs → ℕ → List Part → List Tree → Type 0
@@ -79,9 +101,6 @@ module _ (name : ℕ → List ℕ) (most : ℕ) (differ : AreNamedApart name mos
       (ts : List Tree) (m : ℕ) → fit ps (tags_of (map kid_of ts)) ≡ true → AllByRecursion (IsDrawnWell name most g k) ts →
       m + arc_nodes (arcs_of (placed ps (map kid_of ts))) ≤ most → EachKept name IsOfNode g (arcs_of (placed ps (map kid_of ts))) m →
       Drawn (arcs_of (placed ps (map kid_of ts))) m ps (given ps (map written ts))
-
-  abbrev part_at : Word → Want → Part
-  part_at w want = record { place = At w; want = want }
 
   -- a link, and those behind it
   linked : (w : Word) (want : Want) (f : Form) (more : Arcs) (m : ℕ) (ps : List Part) (us vs : List Tree) → carries w (link x (arc_iri w) (term_of name f m)) ≡ true → Denotes g k (term_of name f m) want us → Drawn more (m + nodes f) ps vs → Drawn (arc (arc_iri w) f more) m (part_at w want ∷ ps) (us ++ vs)
@@ -180,28 +199,10 @@ module _ (name : ℕ → List ℕ) (most : ℕ) (differ : AreNamedApart name mos
       (subst (λ us. Splits w s least ps (map form_of front) (map kid_of back) us (drop (length (map written ts) - singles ps) (map written ts)) m) (sym trees_front)
       (subst (λ vs. Splits w s least ps (map form_of front) (map kid_of back) (map written front) vs m) (sym trees_back) done))) few kept
 
-  part_draws : (w : Word) (want : Want) (ps : List Part) → draws_part w want ≡ true → Draws ps → Draws (part_at w want ∷ ps)
-  part_draws w (One s) ps h next = one_draws w s ps h next
-  part_draws w (Many s least) ps h next = many_draws w s least ps h next
-  part_draws w (Whole t s least) ps h next = absurd (both_ways false refl h)
-  part_draws w Keys ps h next = absurd (both_ways false refl h)
-  part_draws w (Declared t) ps h next = absurd (both_ways false refl h)
-  part_draws w Mark ps h next = mark_draws w ps next
-  part_draws w True ps h next = true_draws w ps h next
-
-  draws_placed : (p : Place) (want : Want) (ps : List Part) → draws_at p want ≡ true → Draws ps → Draws (record { place = p; want = want } ∷ ps)
-  draws_placed (At w) want ps h next = part_draws w want ps h next
-  draws_placed Subject want ps h next = absurd (both_ways false refl h)
-  draws_placed Predicate want ps h next = absurd (both_ways false refl h)
-  draws_placed Object want ps h next = absurd (both_ways false refl h)
-
   none_draws : Draws []
   unfolding fit placed given
   none_draws [] m f all few kept = (tt, no_parts)
   none_draws (t ∷ ts) m f all few kept = absurd (both_ways false refl f)
 
   pub parts_drawn : (ps : List Part) → list_all (λ p. draws_at p.place p.want) ps ≡ true → Draws ps
-  parts_drawn [] h = none_draws
-  parts_drawn (p ∷ ps) h =
-      let parts = and_parts (draws_at p.place p.want) (list_all (λ q. draws_at q.place q.want) ps) h in
-      draws_placed p.place p.want ps parts.0 (parts_drawn ps parts.1)
+  parts_drawn = over_parts Draws none_draws one_draws many_draws mark_draws true_draws

@@ -15,25 +15,24 @@ use Rattle.rdf_meaning.specs.declared.role.Role.TheVariants as role
 use Rattle.rdf_meaning.specs.declared.row.Part.{Part}
 use Rattle.rdf_meaning.specs.declared.row.Place.{Place}
 use Rattle.rdf_meaning.specs.declared.row.Place.TheVariants.{At, Subject, Predicate, Object}
-use Rattle.rdf_meaning.specs.declared.row.Want.{Want}
-use Rattle.rdf_meaning.specs.declared.row.Want.TheVariants.{One, Many, Whole, Keys, Declared, Mark, True}
+use Rattle.rdf_meaning.specs.declared.row.Want.TheVariants.{One, Many, Mark, True}
 use Rattle.rdf_meaning.specs.declared.word.Word.{Word}
 use Rattle.rdf_meaning.specs.Denotation.{true_literal}
 use Rattle.rdf_meaning.specs.ListLaws.{passes, some_passes}
 use Rattle.rdf_meaning.specs.Nodes.{carries, carries_some, is_own, is_word, words_of}
 use Rattle.rdf_meaning.specs.Rows.{Row, node_rows}
 use Rattle.rdf_meaning.specs.WordLaws.{same_word}
-use Rattle.rdf_meaning.specs.Words.{is_type, word_iri, word_number}
+use Rattle.rdf_meaning.specs.Words.{word_iri, word_number}
 use Rattle.rdf_mapping.specs.Drawing.{Kid, arcs_of, fit, forms_of, kid_of, listed, placed, singles, tags_of}
 use Rattle.rdf_mapping.specs.Forms.{Form, made, twice, blank, list_form}
 use Rattle.rdf_mapping.specs.FormSorts.{AllForms, HasOwnSort, IsOfNodes}
 use Rattle.rdf_mapping.specs.FormSortLaws.{list_sort, made_sort, plain_sort, structural_as, twice_sort}
 use Rattle.rdf_mapping.specs.Frames.{AreNamedApart}
 use Rattle.rdf_mapping.specs.OwnLaws.{any_from}
-use Rattle.rdf_mapping.specs.RowDrawingLaws.{parts_drawn, all_take, all_drop}
+use Rattle.rdf_mapping.specs.RowDrawingLaws.{all_drop, all_take, over_parts, part_at, parts_drawn}
 use Rattle.rdf_mapping.specs.Spelling.{CarriesAt, SpellParts, role_by}
 use Rattle.rdf_mapping.specs.SpellingLaws.{role_is}
-use Rattle.rdf_mapping.specs.Written.{IsDrawnWell, draws_at, draws_part}
+use Rattle.rdf_mapping.specs.Written.{IsDrawnWell, draws_at}
 use Rattle.rdf_mapping.specs.NodeDrawingLaws.{row_draws}
 
 -- each word of a row is one of the role that it makes
@@ -47,10 +46,6 @@ has_word r Object = false
 own_words : list_all (λ row. list_all (λ p. has_word (role_by row.parts) p.place) row.parts) node_rows ≡ true
 unfolding node_rows words_of word_number
 own_words = refl
-
-rows_draw : list_all (λ r. list_all (λ p. draws_at p.place p.want) r.parts) node_rows ≡ true
-unfolding node_rows is_type word_number
-rows_draw = refl
 
 at_word : (r : Role) (p : Place) (t : Triple) → CarriesAt p t → has_word r p ≡ true → carries_some (words_of r) t ≡ true
 at_word r (At w) t c h =
@@ -105,9 +100,6 @@ module _ (name : ℕ → List ℕ) (most : ℕ) (differ : AreNamedApart name mos
   abbrev Next : List Part → Type 0
   Next ps = (ks : List Kid) → AllByRecursion KidSort ks → AllForms P (arcs_of (placed ps ks))
 
-  abbrev part_at : Word → Want → Part
-  part_at w want = record { place = At w; want = want }
-
   one_sort : (w : Word) (s : Sort) (ps : List Part) → Next ps → Next (part_at w (One s) ∷ ps)
   unfolding placed
   one_sort w s ps next [] all = tt
@@ -127,30 +119,12 @@ module _ (name : ℕ → List ℕ) (most : ℕ) (differ : AreNamedApart name mos
   unfolding placed
   true_sort w ps next ks all = (plain_sort name most differ g (Literal true_literal), next ks all)
 
-  part_sort : (w : Word) (want : Want) (ps : List Part) → draws_part w want ≡ true → Next ps → Next (part_at w want ∷ ps)
-  part_sort w (One s) ps h next = one_sort w s ps next
-  part_sort w (Many s least) ps h next = many_sort w s least ps next
-  part_sort w (Whole t s least) ps h next = absurd (both_ways false refl h)
-  part_sort w Keys ps h next = absurd (both_ways false refl h)
-  part_sort w (Declared t) ps h next = absurd (both_ways false refl h)
-  part_sort w Mark ps h next = mark_sort w ps next
-  part_sort w True ps h next = true_sort w ps next
-
-  place_sort : (p : Place) (want : Want) (ps : List Part) → draws_at p want ≡ true → Next ps → Next (record { place = p; want = want } ∷ ps)
-  place_sort (At w) want ps h next = part_sort w want ps h next
-  place_sort Subject want ps h next = absurd (both_ways false refl h)
-  place_sort Predicate want ps h next = absurd (both_ways false refl h)
-  place_sort Object want ps h next = absurd (both_ways false refl h)
-
   none_sort : Next []
   unfolding placed
   none_sort ks all = tt
 
   placed_sort : (ps : List Part) → list_all (λ p. draws_at p.place p.want) ps ≡ true → Next ps
-  placed_sort [] h = none_sort
-  placed_sort (p ∷ ps) h =
-      let parts = and_parts (draws_at p.place p.want) (list_all (λ q. draws_at q.place q.want) ps) h in
-      place_sort p.place p.want ps parts.0 (placed_sort ps parts.1)
+  placed_sort = over_parts Next none_sort (λ w s ps h. one_sort w s ps) (λ w s least ps h. many_sort w s least ps) mark_sort (λ w ps h. true_sort w ps)
 
   module _ (k : List Entity) (apart : AreApart g) where
     row_own : (r : Row) → Contains node_rows r → (ts : List Tree) → fit r.parts (tags_of (map kid_of ts)) ≡ true → AllByRecursion (IsDrawnWell name most g k) ts → HasOwnSort name most g (arcs_of (placed r.parts (map kid_of ts)))

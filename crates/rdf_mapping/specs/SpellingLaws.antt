@@ -1,6 +1,6 @@
 -- A node whose own triples spell the parts of a row is one of the row, and holds what their objects denote.
 use lib.Utf8.{encode}
-use Rattle.std.proofs.Common.{◌≡◌, ℕ, suc, Bool, true, false, cond, List, [], ◌∷◌, length, inl, inr, refl, sym, ap, ◌∙◌, subst, arith}
+use Rattle.std.proofs.Common.{◌⊎◌, ◌≡◌, ℕ, suc, Bool, true, false, cond, List, [], ◌∷◌, length, inl, inr, refl, sym, ap, ◌∙◌, subst, arith}
 use Rattle.std.specs.Prelude.{Contains, map, not, ◌&&◌, ◌||◌, nat_eq, nat_le}
 use Rattle.std.specs.List.{filter, list_all, list_any}
 use Rattle.std.specs.Str.{bytes_eq}
@@ -64,6 +64,13 @@ predicate_of w t h =
       | inr a ↦
           (bytes_eq-Decides t.predicate (word_iri w)).0 (and_parts (bytes_eq t.predicate (word_iri w)) _ (sym (cond-false (is_type w) (says_type (word_iri w) t) _ a) ∙ h)).0
           ∙ sym (cond-false (is_type w) type_iri (word_iri w) a)
+    ]
+
+pub predicate_cases : (w : Word) (t : Triple) → carries w t ≡ true → (t.predicate ≡ type_iri) ⊎ (t.predicate ≡ word_iri w)
+predicate_cases w t h =
+    elim (cases_Bool (is_type w)) [
+      | inl y ↦ inl (predicate_of w t h ∙ cond-true (is_type w) type_iri (word_iri w) y)
+      | inr n ↦ inr (predicate_of w t h ∙ cond-false (is_type w) type_iri (word_iri w) n)
     ]
 
 pub no_facet : (w : Word) → is_facet (arc_iri w) ≡ false

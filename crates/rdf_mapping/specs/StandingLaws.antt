@@ -1,5 +1,5 @@
 -- An axiom that has a node of its own: what a graph keeps of it, and that the node is the axiom.
-use Rattle.std.proofs.Common.{◌≡◌, ◌≤◌, ◌+◌, ◌⊎◌, ℕ, suc, true, List, [], ◌∷◌, ◌++◌, inl, inr, refl, sym, subst, arith}
+use Rattle.std.proofs.Common.{◌≡◌, ◌≤◌, ◌+◌, ℕ, suc, true, List, ◌∷◌, ◌++◌, inl, inr, refl, sym, subst, arith}
 use Rattle.std.specs.Prelude.{Contains, map, not, ◌||◌}
 use Rattle.std.specs.List.{AllByRecursion, list_all}
 use Rattle.std.proofs.lemmas.Bool.{both_ways, not-true, or_cases}
@@ -10,7 +10,6 @@ use Rattle.owl_list.specs.AscendingLaws.{in_cases, in_none}
 use Rattle.owl_tree.specs.Trees.{Tree}
 use Rattle.rdf_graph.specs.declared.term.Term.{Term}
 use Rattle.rdf_graph.specs.declared.triple.Triple.{Triple}
-use Rattle.rdf_meaning.specs.declared.word.Word.TheVariants as word
 use Rattle.rdf_meaning.specs.Denotation.{of_node}
 use Rattle.rdf_meaning.specs.ListLaws.{passes}
 use Rattle.rdf_meaning.specs.Rows.{Row, axiom_rows}
@@ -19,44 +18,22 @@ use Rattle.rdf_meaning.specs.Words.{is_type, word_number}
 use Rattle.rdf_mapping.specs.Forms.{made, Arcs, arc_nodes, blank, link, nodes, triples}
 use Rattle.rdf_mapping.specs.Drawing.{arcs_of, fit, kid_of, placed, tags_of}
 use Rattle.rdf_mapping.specs.FormLaws.{apart, keeps_part, lie, made_kept, subjects, wider}
-use Rattle.rdf_mapping.specs.Frames.{AreNamedApart, IsAny, IsOfNode, Keeps, KeepsArcs, Lies}
+use Rattle.rdf_mapping.specs.Frames.{AreNamedApart, IsAny, IsOfNode, Keeps, KeepsArcs}
 use Rattle.rdf_mapping.specs.Graphs.{standing_nodes, standing_triples}
 use Rattle.rdf_mapping.specs.GroupFrames.{AreNotesApart, KeepsStanding}
-use Rattle.rdf_mapping.specs.GroupFrameLaws.{note_subjects, reifying_subject, some_in, standing_subjects}
-use Rattle.rdf_mapping.specs.Notes.{Notes, no_notes, note, note_nodes, note_triples, reifying, where_some}
+use Rattle.rdf_mapping.specs.GroupFrameLaws.{links_or_below, note_subjects, standing_subjects}
+use Rattle.rdf_mapping.specs.Notes.{Notes, no_notes, note, note_nodes, note_triples}
 use Rattle.rdf_mapping.specs.RowDrawingLaws.{parts_drawn}
 use Rattle.rdf_mapping.specs.Spelling.{is_at_node}
 use Rattle.rdf_mapping.specs.SpellingLaws.{axiom_row_written_well, spelled_fits, spelled_holds}
 use Rattle.rdf_mapping.specs.Written.{IsDrawnWell, draws_at, given, written}
+use Rattle.rdf_mapping.specs.Entries.{note_links}
 
--- an annotation of the term itself is no part of a node, and what is below begins at nodes of the interval
-plain_or_below : (name : ℕ → List ℕ) (x : Term) (ns : Notes) (n : ℕ) → AreNotesApart ns → (t : Triple) → Contains (note_triples name x ns n) t → (IsOfNode t → ⊥) ⊎ Lies name n (n + note_nodes ns) t.subject
-plain_or_below name x no_notes n h t m = absurd (in_none t m)
-plain_or_below name x (note p v inside more) n h t m =
-    let high = n + note_nodes (note p v inside more) in
-    let below = reifying word.Annotation (blank name n) (link x p v) ++ note_triples name (blank name n) inside (suc n) in
-    let mid = n + where_some inside 0 (suc (note_nodes inside)) in
-    elim (in_cases (link x p v) (where_some inside [] below ++ note_triples name x more mid) t m) [
-      | inl e ↦ inl (λ c. h.0 x (subst IsOfNode (sym e) c))
-      | inr m ↦
-          elim (Contains-append_cases (where_some inside [] below) (note_triples name x more mid) t m) [
-            | inl a ↦
-                let q = some_in inside below (suc (note_nodes inside)) t a in
-                elim (Contains-append_cases (reifying word.Annotation (blank name n) (link x p v)) (note_triples name (blank name n) inside (suc n)) t q.0) [
-                  | inl b ↦ inr (lie name n n high t.subject (omega arith) (omega (arith, q.1)) (reifying_subject word.Annotation (blank name n) (link x p v) t b))
-                  | inr b ↦
-                      elim (note_subjects name (blank name n) inside (suc n) t b) [
-                        | inl e ↦ inr (lie name n n high t.subject (omega arith) (omega (arith, q.1)) e)
-                        | inr l ↦ inr (wider name (suc n) (suc n + note_nodes inside) n high t.subject (omega arith) (omega (arith, q.1)) l)
-                      ]
-                ]
-            | inr b ↦
-                elim (plain_or_below name x more mid h.1.1 t b) [
-                  | inl e ↦ inl e
-                  | inr l ↦ inr (wider name mid (mid + note_nodes more) n high t.subject (omega arith) (omega arith) l)
-                ]
-          ]
-    ]
+-- an annotation of the term itself is no part of a node
+plain_links : (x : Term) (ns : Notes) → AreNotesApart ns → (t : Triple) → Contains (note_links x ns) t → IsOfNode t → ⊥
+plain_links x no_notes h t m c = absurd (in_none t m)
+plain_links x (note p v inside more) h t m c =
+    elim (in_cases (link x p v) (note_links x more) t m) [ inl e ↦ h.0 x (subst IsOfNode (sym e) c) | inr k ↦ plain_links x more h.1.1 t k c ]
 
 module _ (name : ℕ → List ℕ) (most : ℕ) (differ : AreNamedApart name most) (g : List Triple) where
   pub standing_kept : (arcs : Arcs) (ns : Notes) (sets : List Notes) (n : ℕ) → n + standing_nodes arcs (ns ∷ sets) ≤ most → AreNotesApart ns → Keeps name IsAny g (standing_triples name arcs (ns ∷ sets) n) n (n + standing_nodes arcs (ns ∷ sets)) → KeepsStanding name g arcs ns sets n
@@ -77,8 +54,8 @@ module _ (name : ℕ → List ℕ) (most : ℕ) (differ : AreNamedApart name mos
               | inr b ↦
                   elim (Contains-append_cases ys zs t b) [
                     | inl a ↦
-                        elim (plain_or_below name (blank name n) ns mid h t a) [
-                          | inl p ↦ absurd (p c)
+                        elim (links_or_below name (blank name n) ns mid t a) [
+                          | inl o ↦ absurd (plain_links (blank name n) ns h t o c)
                           | inr l ↦ absurd (apart name most differ n mid mid (mid + note_nodes ns) t.subject i l (omega arith) (omega (arith, few)))
                         ]
                     | inr d ↦ absurd (apart name most differ n mid next top t.subject i (standing_subjects name arcs sets next t d) (omega arith) (omega (arith, few)))

@@ -14,23 +14,20 @@ use Rattle.owl_tree.specs.Rows as tree
 use Rattle.owl_tree.specs.Shape.{AreShaped, IsShaped}
 use Rattle.owl_tree.specs.Tags.{number_of}
 use Rattle.owl_tree.specs.Trees.{Tree, Kids, leaf, node, no_kids, kid, list_of, tag_of}
-use Rattle.rdf_graph.specs.declared.term.Term.TheVariants.{Blank}
 use Rattle.rdf_graph.specs.declared.triple.Triple.{Triple}
-use Rattle.rdf_meaning.specs.declared.role.Role.TheVariants as role
 use Rattle.std.proofs.lemmas.List.Elements.{Contains-append_left, Contains-append_right}
 use Rattle.owl_doc.specs.Entities.{AreWellTyped, entities, entities_of}
-use Rattle.rdf_meaning.specs.Nodes.{role_of}
 use Rattle.rdf_meaning.specs.RowShapes.{is_expression}
 use Rattle.rdf_mapping.specs.Drawing.{kids_seen, tags_of}
 use Rattle.rdf_mapping.specs.Frames.{AreNamedApart}
 use Rattle.rdf_mapping.specs.FacetDrawingLaws.{facet_drawn}
 use Rattle.rdf_mapping.specs.Graphs.{all_labels_in, labels_in}
-use Rattle.rdf_mapping.specs.LeafDrawingLaws.{leaf_drawn}
+use Rattle.rdf_mapping.specs.LeafDrawingLaws.{leaf_drawn, property_tag}
 use Rattle.rdf_mapping.specs.NodeDrawingLaws.{node_drawn, same_tag}
 use Rattle.rdf_mapping.specs.OwnLaws.{any_from}
 use Rattle.rdf_mapping.specs.RowDrawingLaws.{tag_seen}
 use Rattle.rdf_mapping.specs.RowForLaws.{has_row_for}
-use Rattle.rdf_mapping.specs.Written.{AreIndividuals, HasFacetNames, HaveFacetNames, IsDrawn, IsDrawnWell, is_wanted}
+use Rattle.rdf_mapping.specs.Written.{AreIndividuals, HasFacetNames, HaveFacetNames, HaveIndividuals, IsDrawn, IsDrawnWell, is_wanted}
 
 -- Which nodes may stand at the parts of a row.
 
@@ -92,10 +89,6 @@ no_property_kids : (ts : List Tag) → fits (row_of tag.ObjectProperty) ts ≡ t
 unfolding row_of
 no_property_kids ts h = both_ways false refl h
 
-property_tag : (t : Tag) → admits sort.ObjectProperty t ≡ true → tag.ObjectProperty ≡ t
-unfolding admits
-property_tag t h = same_tag tag.ObjectProperty t h
-
 pub tags_each : (ks : Kids) → tags_of (kids_seen ks) ≡ map tag_of (list_of ks)
 tags_each no_kids = refl
 tags_each (kid t ks) = λ i. tag_seen t i ∷ tags_each ks i
@@ -107,6 +100,15 @@ all_front P (x ∷ xs) ys h = (h.0, all_front P xs ys h.1)
 pub all_back : {X : Type 0} (P : X → Type 0) (xs ys : List X) → AllByRecursion P (xs ++ ys) → AllByRecursion P ys
 all_back P [] ys h = h
 all_back P (x ∷ xs) ys h = all_back P xs ys h.1
+
+-- what holds of trees that are shaped and well typed, of the first of some kids and of the others
+pub first_and_others : {A B : Type 0} → (g : List Triple) (k : List Entity) (t : Tree) (ks : Kids) → (IsShaped t → AreWellTyped k (entities t) → HasFacetNames t → AreIndividuals g t → A) → (AreShaped ks → AreWellTyped k (entities_of ks) → HaveFacetNames ks → HaveIndividuals g ks → B) → AreShaped (kid t ks) → AreWellTyped k (entities_of (kid t ks)) → HaveFacetNames (kid t ks) → HaveIndividuals g (kid t ks) → A × B
+first_and_others g k t ks first others shaped typed names single = (
+  first shaped.0 (all_front (λ e. HasKind k e.kind e.iri) (entities t) (entities_of ks) typed) names.0
+      (λ label m. single label (Contains-append_left (labels_in t) (all_labels_in ks) label m)),
+  others shaped.1 (all_back (λ e. HasKind k e.kind e.iri) (entities t) (entities_of ks) typed) names.1
+      (λ label m. single label (Contains-append_right (labels_in t) (all_labels_in ks) label m)),
+)
 
 module _ (name : ℕ → List ℕ) (most : ℕ) (differ : AreNamedApart name most) (g : List Triple) (k : List Entity) (apart : AreApart g) where
   node_by_tag : (s : Sort) (t : Tag) (ks : Kids) → is_wanted s ≡ true → admits s t ≡ true → fits (row_of t) (map tag_of (list_of ks)) ≡ true → AreShaped ks → HaveFacetNames ks → AllByRecursion (IsDrawnWell name most g k) (list_of ks) → IsDrawn name most g k s (node t ks)
@@ -140,11 +142,6 @@ module _ (name : ℕ → List ℕ) (most : ℕ) (differ : AreNamedApart name mos
           named = λ m n. absurd (no_property_kids (map tag_of (list_of ks)) (ap (λ (u : Tag). fits (row_of u) (map tag_of (list_of ks))) (property_tag t m) ∙ shaped.0.row));
         }
 
-    pub kids_drawn : (ks : Kids) → AreShaped ks → AreWellTyped k (entities_of ks) → HaveFacetNames ks → ((label : List ℕ) → Contains (all_labels_in ks) label → role_of g (Blank label) ≡ role.Individual) → AllByRecursion (IsDrawnWell name most g k) (list_of ks)
+    pub kids_drawn : (ks : Kids) → AreShaped ks → AreWellTyped k (entities_of ks) → HaveFacetNames ks → HaveIndividuals g ks → AllByRecursion (IsDrawnWell name most g k) (list_of ks)
     kids_drawn no_kids shaped typed names single = tt
-    kids_drawn (kid t ks) shaped typed names single = (
-      tree_drawn t shaped.0 (all_front (λ e. HasKind k e.kind e.iri) (entities t) (entities_of ks) typed) names.0
-          (λ label m. single label (Contains-append_left (labels_in t) (all_labels_in ks) label m)),
-      kids_drawn ks shaped.1 (all_back (λ e. HasKind k e.kind e.iri) (entities t) (entities_of ks) typed) names.1
-          (λ label m. single label (Contains-append_right (labels_in t) (all_labels_in ks) label m)),
-    )
+    kids_drawn (kid t ks) shaped typed names single = first_and_others g k t ks (tree_drawn t) (kids_drawn ks) shaped typed names single

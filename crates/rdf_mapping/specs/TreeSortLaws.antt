@@ -1,11 +1,10 @@
 -- What is drawn of a tree makes its nodes what they are.
 use Rattle.std.proofs.Common.{◌≡◌, ℕ, suc, Bool, true, false, List, [], ◌∷◌, inl, inr, refl, sym, ap, ◌∙◌, subst}
-use Rattle.std.specs.Prelude.{Contains, map, ◌&&◌, ◌||◌, Option, None, Some}
+use Rattle.std.specs.Prelude.{map, ◌&&◌, ◌||◌, Option, None, Some}
 use Rattle.std.specs.List.{AllByRecursion}
 use Rattle.std.proofs.lemmas.Bool.{and_parts, both_ways, cases_Bool, or_cases}
-use Rattle.std.proofs.lemmas.List.Elements.{Contains-append_left, Contains-append_right}
 use Rattle.owl_doc.specs.Entities.{AreWellTyped, entities, entities_of}
-use Rattle.owl_kind.specs.Kinds.{Entity, HasKind}
+use Rattle.owl_kind.specs.Kinds.{Entity}
 use Rattle.owl_list.specs.Ascending.{AreApart}
 use Rattle.owl_list.specs.AscendingLaws.{in_cases, in_none}
 use Rattle.owl_tree.specs.declared.atom.Atom.{Atom}
@@ -16,13 +15,9 @@ use Rattle.owl_tree.specs.declared.tag.Tag.TheVariants as tag
 use Rattle.owl_tree.specs.Rows.{admits, fits, is_tag, row_of}
 use Rattle.owl_tree.specs.Shape.{AreShaped, IsShaped}
 use Rattle.owl_tree.specs.Trees.{Tree, Kids, leaf, node, no_kids, kid, list_of, tag_of}
-use Rattle.rdf_graph.specs.declared.term.Term.TheVariants.{Blank}
 use Rattle.rdf_graph.specs.declared.triple.Triple.{Triple}
-use Rattle.rdf_meaning.specs.declared.role.Role.{Role}
 use Rattle.rdf_meaning.specs.declared.role.Role.TheVariants as role
-use Rattle.rdf_meaning.specs.declared.word.Word.{Word}
-use Rattle.rdf_meaning.specs.declared.word.Word.TheVariants as word
-use Rattle.rdf_meaning.specs.Nodes.{carries, is_facet, is_role, marks_role, role_of}
+use Rattle.rdf_meaning.specs.Nodes.{is_facet}
 use Rattle.rdf_meaning.specs.RowShapes.{is_expression}
 use Rattle.rdf_meaning.specs.Rows.{Row, node_rows}
 use Rattle.rdf_mapping.specs.RowForLaws.{HasRowFor, has_row_for}
@@ -32,12 +27,10 @@ use Rattle.rdf_mapping.specs.Forms.{Form, made, arc, no_arcs, blank, link, term_
 use Rattle.rdf_mapping.specs.FormSorts.{IsOfNodes}
 use Rattle.rdf_mapping.specs.FormSortLaws.{made_sort, plain_sort, structural_as}
 use Rattle.rdf_mapping.specs.Frames.{AreNamedApart}
-use Rattle.rdf_mapping.specs.Graphs.{all_labels_in, labels_in}
 use Rattle.rdf_mapping.specs.NodeDrawingLaws.{same_tag, seen_each, row_form}
 use Rattle.rdf_mapping.specs.RowSortLaws.{row_sort}
-use Rattle.rdf_mapping.specs.SpellingLaws.{no_facet, predicate_of}
-use Rattle.rdf_mapping.specs.TreeDrawingLaws.{kids_drawn, tags_each, all_front, all_back}
-use Rattle.rdf_mapping.specs.Written.{AreIndividuals, HasFacetNames, HaveFacetNames, IsDrawnWell}
+use Rattle.rdf_mapping.specs.TreeDrawingLaws.{first_and_others, kids_drawn, tags_each}
+use Rattle.rdf_mapping.specs.Written.{AreIndividuals, HasFacetNames, HaveFacetNames, HaveIndividuals, IsDrawnWell}
 use Rattle.rdf_mapping.specs.FacetDrawingLaws.{facet_role, no_facet_kids, facet_tag}
 
 -- a tree that is no expression is drawn by no row
@@ -60,30 +53,6 @@ no_form t ks e h = rw (e, h) refl
 
 pub facet_form : (t : Tag) (ks : List Kid) → is_tag tag.FacetPair t ≡ true → node_form t ks ≡ made (facet_arcs ks)
 facet_form t ks e = rw e refl
-
--- the node of a facet
-
-no_word : (v : Word) (t : Triple) → is_facet t.predicate ≡ true → carries v t ≡ false
-no_word v t h =
-    elim (cases_Bool (carries v t)) [
-      | inl a ↦ absurd (both_ways (is_facet t.predicate) (ap is_facet (predicate_of v t a) ∙ no_facet v) h)
-      | inr b ↦ b
-    ]
-
-facet_marks : (r : Role) (t : Triple) → is_facet t.predicate ≡ true → marks_role r t ≡ is_role role.Facet r
-unfolding marks_role
-facet_marks role.List t h = λ i. no_word word.First t h i || (no_word word.Rest t h i || false)
-facet_marks role.Property t h = no_word word.InverseOf t h
-facet_marks role.Class t h = λ i. no_word word.Class t h i || (no_word word.Restriction t h i || false)
-facet_marks role.Range t h = no_word word.Datatype t h
-facet_marks role.Facet t h = h
-facet_marks role.Main t h =
-    λ i.
-    no_word word.AllDisjointClasses t h i
-    || (no_word word.AllDisjointProperties t h i || (no_word word.AllDifferent t h i || (no_word word.NegativePropertyAssertion t h i || false)))
-facet_marks role.Note t h = λ i. no_word word.Axiom t h i || (no_word word.Annotation t h i || false)
-facet_marks role.Header t h = no_word word.Ontology t h
-facet_marks role.Individual t h = refl
 
 module _ (name : ℕ → List ℕ) (most : ℕ) (differ : AreNamedApart name most) (g : List Triple) (k : List Entity) (apart : AreApart g) where
   abbrev P : Form → Type 0
@@ -152,11 +121,6 @@ module _ (name : ℕ → List ℕ) (most : ℕ) (differ : AreNamedApart name mos
     tree_sort (node t ks) shaped typed names single =
         node_sort t ks shaped.0.row shaped.1 names (kids_drawn name most differ g k apart ks shaped.1 typed names single) (kids_sort ks shaped.1 typed names single)
 
-    pub kids_sort : (ks : Kids) → AreShaped ks → AreWellTyped k (entities_of ks) → HaveFacetNames ks → ((label : List ℕ) → Contains (all_labels_in ks) label → role_of g (Blank label) ≡ role.Individual) → AllByRecursion (λ q. IsOfNodes name most g q.form) (kids_seen ks)
+    pub kids_sort : (ks : Kids) → AreShaped ks → AreWellTyped k (entities_of ks) → HaveFacetNames ks → HaveIndividuals g ks → AllByRecursion (λ q. IsOfNodes name most g q.form) (kids_seen ks)
     kids_sort no_kids shaped typed names single = tt
-    kids_sort (kid t ks) shaped typed names single = (
-      tree_sort t shaped.0 (all_front (λ e. HasKind k e.kind e.iri) (entities t) (entities_of ks) typed) names.0
-          (λ label m. single label (Contains-append_left (labels_in t) (all_labels_in ks) label m)),
-      kids_sort ks shaped.1 (all_back (λ e. HasKind k e.kind e.iri) (entities t) (entities_of ks) typed) names.1
-          (λ label m. single label (Contains-append_right (labels_in t) (all_labels_in ks) label m)),
-    )
+    kids_sort (kid t ks) shaped typed names single = first_and_others g k t ks (tree_sort t) (kids_sort ks) shaped typed names single

@@ -1,18 +1,14 @@
 -- What the graph of an ontology keeps.
 use Rattle.std.proofs.Common.{◌≡◌, ◌≤◌, ◌+◌, ◌*◌, ◌^◌, ◌⊎◌, ℕ, List, ◌∷◌, ◌++◌, length, inl, inr, refl, subst, arith}
 use Rattle.std.specs.Prelude.{Contains, map, Option, None, Some}
-use Rattle.std.specs.List.{AllByRecursion}
 use Rattle.std.proofs.lemmas.List.Elements.{Contains-append_cases, Contains-append_right}
-use Rattle.owl_list.specs.Ascending.{AreApart}
-use Rattle.owl_list.specs.AscendingLaws.{ascending_apart, from_map, in_cases}
+use Rattle.owl_list.specs.AscendingLaws.{from_map, in_cases}
 use Rattle.owl_tree.specs.Ontologies.{Head, Ontology, OntologyName}
 use Rattle.rdf_graph.specs.declared.term.Term.{Term}
 use Rattle.rdf_graph.specs.declared.term.Term.TheVariants.{Iri}
 use Rattle.rdf_graph.specs.declared.triple.Triple.{Triple}
 use Rattle.rdf_graph.specs.GraphLaws.{set_holds}
 use Rattle.rdf_graph.specs.Graphs.{set_of}
-use Rattle.rdf_graph.specs.TermLaws.{triples_total}
-use Rattle.rdf_graph.specs.Terms.{triple_cmp}
 use Rattle.rdf_meaning.specs.declared.word.Word.TheVariants as word
 use Rattle.rdf_meaning.specs.Nodes.{type_iri}
 use Rattle.rdf_meaning.specs.Words.{word_iri}
@@ -22,16 +18,13 @@ use Rattle.rdf_mapping.specs.Frames.{AreNamedApart, IsAny, IsForeign, Keeps, Lie
 use Rattle.rdf_mapping.specs.FreshLabels.{fresh_name}
 use Rattle.rdf_mapping.specs.FreshLabelLaws.{fresh_apart}
 use Rattle.rdf_mapping.specs.Graphs.{graph_of, group_triples, groups_of, head_triples, header_nodes, header_term, labels_of, made_triples, notes_from}
-use Rattle.rdf_mapping.specs.GroupFrames.{EachGroupKept, StatesApart, group_nodes}
+use Rattle.rdf_mapping.specs.GroupFrames.{AreStatedApart, EachGroupKept, group_nodes}
 use Rattle.rdf_mapping.specs.GroupFrameLaws.{groups_kept, note_subjects}
 use Rattle.rdf_mapping.specs.Notes.{note_nodes, note_triples}
 
 -- a set of triples keeps all of them
 pub set_keeps : (name : ℕ → List ℕ) (Cares : Triple → Type 0) (ts : List Triple) (low high : ℕ) → Keeps name Cares (set_of ts) ts low high
 set_keeps name Cares ts low high = record { there = λ t m. (set_holds ts t).1 m; back = λ t i c m. (set_holds ts t).0 m }
-
-pub set_apart : (ts : List Triple) → AreApart (set_of ts)
-set_apart ts = ascending_apart triple_cmp triples_total ts
 
 pub fresh_named_apart : (labels : List (List ℕ)) (most : ℕ) → most + length labels ≤ 9 * 10 ^ 18 → AreNamedApart (fresh_name labels) most
 fresh_named_apart labels most few = λ m n a b e. fresh_apart labels m n (omega (arith, few, a)) (omega (arith, few, b)) e
@@ -76,7 +69,7 @@ header_starts name most None = inl (lie name 0 0 1 (blank name 0) (omega arith) 
 header_starts name most (Some n) = inr (λ i h e. cc)
 
 -- of all that is made of an ontology its set keeps each group of axioms
-pub made_kept : (name : ℕ → List ℕ) (most : ℕ) → AreNamedApart name most → (o : Ontology) → header_nodes o.head.name + note_nodes (notes_from o.annotations) + group_nodes (groups_of o.axioms) ≤ most → AllByRecursion (λ q. StatesApart name most q.statement) (groups_of o.axioms) → EachGroupKept name (set_of (made_triples name o)) (groups_of o.axioms) (header_nodes o.head.name + note_nodes (notes_from o.annotations))
+pub made_kept : (name : ℕ → List ℕ) (most : ℕ) → AreNamedApart name most → (o : Ontology) → header_nodes o.head.name + note_nodes (notes_from o.annotations) + group_nodes (groups_of o.axioms) ≤ most → AreStatedApart name most (groups_of o.axioms) → EachGroupKept name (set_of (made_triples name o)) (groups_of o.axioms) (header_nodes o.head.name + note_nodes (notes_from o.annotations))
 made_kept name most differ o few all =
     let x = header_term name o.head.name in
     let h = header_nodes o.head.name in
@@ -113,10 +106,6 @@ made_kept name most differ o few all =
     ]))
 
 -- so the graph of an ontology keeps each group of its axioms
-pub graph_keeps : (o : Ontology) (most : ℕ) → most + length (labels_of o) ≤ 9 * 10 ^ 18 → header_nodes o.head.name + note_nodes (notes_from o.annotations) + group_nodes (groups_of o.axioms) ≤ most → AllByRecursion (λ q. StatesApart (fresh_name (labels_of o)) most q.statement) (groups_of o.axioms) → EachGroupKept (fresh_name (labels_of o)) (graph_of o) (groups_of o.axioms) (header_nodes o.head.name + note_nodes (notes_from o.annotations))
+pub graph_keeps : (o : Ontology) (most : ℕ) → most + length (labels_of o) ≤ 9 * 10 ^ 18 → header_nodes o.head.name + note_nodes (notes_from o.annotations) + group_nodes (groups_of o.axioms) ≤ most → AreStatedApart (fresh_name (labels_of o)) most (groups_of o.axioms) → EachGroupKept (fresh_name (labels_of o)) (graph_of o) (groups_of o.axioms) (header_nodes o.head.name + note_nodes (notes_from o.annotations))
 unfolding graph_of
 graph_keeps o most room few all = made_kept (fresh_name (labels_of o)) most (fresh_named_apart (labels_of o) most room) o few all
-
-pub graph_apart : (o : Ontology) → AreApart (graph_of o)
-unfolding graph_of
-graph_apart o = set_apart (made_triples (fresh_name (labels_of o)) o)

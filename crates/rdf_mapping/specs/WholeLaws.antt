@@ -1,39 +1,36 @@
 -- The graph of an ontology has the entries that are drawn, and no other reifications.
-use Rattle.std.proofs.Common.{◌≡◌, ◌≤◌, ◌<◌, ◌+◌, ◌*◌, ◌^◌, ◌⊎◌, ℕ, suc, true, List, [], ◌∷◌, ◌++◌, length, inl, inr, refl, sym, ap, ◌∙◌, subst, arith}
-use Rattle.std.specs.Prelude.{Contains, Option, None, Some, map}
+use Rattle.std.proofs.Common.{◌≡◌, ◌≤◌, ◌<◌, ◌+◌, ◌*◌, ◌^◌, ◌⊎◌, ℕ, suc, true, List, [], ◌∷◌, ◌++◌, length, inl, inr, sym, ◌∙◌, subst, arith}
+use Rattle.std.specs.Prelude.{Contains, Option, None, Some}
 use Rattle.std.specs.List.{list_any}
 use Rattle.std.proofs.lemmas.List.Elements.{Contains-append_cases}
-use Rattle.owl_list.specs.Ascending.{AreApart}
-use Rattle.owl_list.specs.AscendingLaws.{ascending_apart, from_map, in_cases, in_head, in_none, in_tail}
-use Rattle.owl_tree.specs.Ontologies.{Head, Ontology, OntologyName}
+use Rattle.owl_list.specs.AscendingLaws.{in_head, in_none, in_tail}
+use Rattle.owl_tree.specs.Ontologies.{Ontology, OntologyName}
 use Rattle.rdf_graph.specs.declared.term.Term.{Term}
 use Rattle.rdf_graph.specs.declared.term.Term.TheVariants.{Iri, Blank, Literal}
 use Rattle.rdf_graph.specs.declared.triple.Triple.{Triple}
-use Rattle.rdf_graph.specs.GraphLaws.{set_holds}
-use Rattle.rdf_graph.specs.Terms.{triple_cmp}
-use Rattle.rdf_graph.specs.TermLaws.{triples_total}
 use Rattle.rdf_meaning.specs.declared.role.Role.{Role}
 use Rattle.rdf_meaning.specs.declared.role.Role.TheVariants as role
 use Rattle.rdf_meaning.specs.ListLaws.{from_filter, some_passes}
 use Rattle.rdf_meaning.specs.NodeLaws.{from_subject}
-use Rattle.rdf_meaning.specs.declared.word.Word.TheVariants as word
-use Rattle.rdf_meaning.specs.Words.{word_iri}
-use Rattle.rdf_meaning.specs.Nodes.{first_role, marked_roles, marks_role, of_subject, role_of, roles_of, type_iri}
+use Rattle.rdf_meaning.specs.Nodes.{first_role, marked_roles, marks_role, of_subject, role_of, roles_of}
 use Rattle.rdf_mapping.specs.Forms.{Arcs, arc_nodes, blank, link, nodes, term_of}
 use Rattle.rdf_mapping.specs.Drawing.{Statement, linked, linked_back, looped, standing, unsaid}
-use Rattle.rdf_mapping.specs.Frames.{AreNamedApart, Keeps}
+use Rattle.rdf_mapping.specs.Frames.{AreNamedApart}
 use Rattle.rdf_mapping.specs.FreshLabels.{fresh_name}
-use Rattle.rdf_mapping.specs.FreshLabelLaws.{fresh_apart}
 use Rattle.rdf_mapping.specs.Notes.{Notes, note_nodes}
 use Rattle.rdf_mapping.specs.Graphs.{Group, graph_of, groups_of, head_triples, header_nodes, header_term, labels_of, made_triples, notes_from, statement_nodes}
-use Rattle.rdf_mapping.specs.Entries.{AreAllBeside, AreEntries, Entry, IsAny, IsSaid, entry_node, note_entries, note_links, note_roots}
+use Rattle.rdf_mapping.specs.Entries.{AreAllBeside, AreEntries, Entry, IsSaid, entry_node, note_entries, note_links, note_roots}
 use Rattle.rdf_mapping.specs.EntryLaws.{entry_subjects, link_subjects, notes_drawn}
 use Rattle.rdf_mapping.specs.NoterLaws.{entries_are, root_subjects}
 use Rattle.rdf_mapping.specs.SetLaws.{notes_said, sets_said}
-use Rattle.rdf_mapping.specs.GraphEntries.{group_entries, group_nodes, group_others, group_roots, made_entries, made_nodes, made_others, made_roots, standing_entries, statement_entries}
+use Rattle.rdf_mapping.specs.GraphEntries.{group_entries, group_others, group_roots, made_entries, made_nodes, made_others, made_roots, standing_entries, statement_entries}
+use Rattle.rdf_mapping.specs.GroupFrames.{AreStatedApart, group_nodes}
 use Rattle.rdf_mapping.specs.GraphEntryLaws.{made_drawn}
-use Rattle.rdf_mapping.specs.Asides.{HaveForeignSubjects, IsForeign, IsFree}
+use Rattle.rdf_mapping.specs.Asides.{IsBesideEntries}
 use Rattle.rdf_mapping.specs.AsideLaws.{groups_aside}
+use Rattle.rdf_mapping.specs.FormLaws.{same_label}
+use Rattle.rdf_mapping.specs.GraphLaws.{graph_holds, graph_keeps}
+use Rattle.rdf_mapping.specs.WholeFrameLaws.{fresh_named_apart, head_subject}
 
 -- entries of statements are said
 
@@ -91,9 +88,6 @@ marked g (Blank label) r n e = has_role g (Blank label) r (first_is (roles_of g 
 no_individual : role.Note ≡ role.Individual → ⊥
 no_individual e = cc
 
-same_label : (a b : List ℕ) → Blank a ≡ Blank b → a ≡ b
-same_label a b e = cc
-
 no_blank : (iri label : List ℕ) → Iri iri ≡ Blank label → ⊥
 no_blank iri label e = cc
 
@@ -103,60 +97,9 @@ header_aside : (name : ℕ → List ℕ) (most : ℕ) → AreNamedApart name mos
 header_aside name most differ None k from below e = let same = differ 0 k (omega (arith, below)) below (same_label (name 0) (name k) e) in omega (arith, from, same)
 header_aside name most differ (Some n) k from below e = no_blank n.iri (name k) e
 
-subject_at : (x : Term) (t u : Triple) → t ≡ u → t.subject ≡ x → u.subject ≡ x
-subject_at x t u e h = ap (λ (v : Triple). v.subject) (sym e) ∙ h
-
-import_subjects : (x : Term) (imports : List (List ℕ)) (t : Triple) → Contains (map (λ i. link x (word_iri word.Imports) (Iri i)) imports) t → t.subject ≡ x
-import_subjects x imports t m =
-    let v = from_map (λ i. link x (word_iri word.Imports) (Iri i)) imports t m in
-    subject_at x (link x (word_iri word.Imports) (Iri v.element)) t v.value refl
-
-named_subjects : (x : Term) (iri : List ℕ) (version : Option (List ℕ)) (imports : List (List ℕ)) (t : Triple) → Contains (head_triples x (record { name = Some (record { iri = iri; version = version }); imports = imports })) t → t.subject ≡ x
-named_subjects x iri None imports t m =
-    let first = link x type_iri (Iri (word_iri word.Ontology)) in
-    elim (in_cases first (map (λ i. link x (word_iri word.Imports) (Iri i)) imports) t m) [ inl e ↦ subject_at x first t e refl | inr k ↦ import_subjects x imports t k ]
-named_subjects x iri (Some v) imports t m =
-    let first = link x type_iri (Iri (word_iri word.Ontology)) in
-    let second = link x (word_iri word.VersionIri) (Iri v) in
-    let others = map (λ i. link x (word_iri word.Imports) (Iri i)) imports in
-    elim (in_cases first (second ∷ others) t m) [
-      | inl e ↦ subject_at x first t e refl
-      | inr k ↦ elim (in_cases second others t k) [ inl e ↦ subject_at x second t e refl | inr l ↦ import_subjects x imports t l ]
-    ]
-
-head_subjects_by : (x : Term) (n : Option OntologyName) (imports : List (List ℕ)) (t : Triple) → Contains (head_triples x (record { name = n; imports = imports })) t → t.subject ≡ x
-head_subjects_by x None imports t m =
-    let first = link x type_iri (Iri (word_iri word.Ontology)) in
-    elim (in_cases first (map (λ i. link x (word_iri word.Imports) (Iri i)) imports) t m) [ inl e ↦ subject_at x first t e refl | inr k ↦ import_subjects x imports t k ]
-head_subjects_by x (Some n) imports t m = named_subjects x n.iri n.version imports t m
-
-head_subjects : (x : Term) (h : Head) (t : Triple) → Contains (head_triples x h) t → t.subject ≡ x
-head_subjects x h t m = head_subjects_by x h.name h.imports t m
-
--- The graph keeps all that is drawn.
-pub graph_keeps : (name : ℕ → List ℕ) (o : Ontology) (low high : ℕ) → name ≡ fresh_name (labels_of o) → Keeps name IsAny (graph_of o) (made_triples name o) low high
-unfolding graph_of
-graph_keeps name o low high e =
-    subst (λ (f : ℕ → List ℕ). Keeps f IsAny (graph_of o) (made_triples f o) low high) (sym e)
-    (record {
-      there = λ t m. (set_holds (made_triples (fresh_name (labels_of o)) o) t).1 m;
-      back = λ t l c m. (set_holds (made_triples (fresh_name (labels_of o)) o) t).0 m;
-    })
-
-pub graph_apart : (o : Ontology) → AreApart (graph_of o)
-unfolding graph_of
-graph_apart o = ascending_apart triple_cmp triples_total (made_triples (fresh_name (labels_of o)) o)
-
-in_made : (o : Ontology) (t : Triple) → Contains (graph_of o) t → Contains (made_triples (fresh_name (labels_of o)) o) t
-unfolding graph_of
-in_made o t m = (set_holds (made_triples (fresh_name (labels_of o)) o) t).0 m
-
-graph_named : (o : Ontology) → made_nodes o + length (labels_of o) ≤ 9 * 10 ^ 18 → AreNamedApart (fresh_name (labels_of o)) (made_nodes o)
-graph_named o few m n a b e = fresh_apart (labels_of o) m n (omega (arith, few, a)) (omega (arith, few, b)) e
-
 -- Where nothing beside the entries is a mark of a reification, they are the entries of the graph.
-module _ (o : Ontology) (few : made_nodes o + length (labels_of o) ≤ 9 * 10 ^ 18) (foreign : HaveForeignSubjects (fresh_name (labels_of o)) (made_nodes o) (groups_of o.axioms)) where
-  aside : (e : Entry) (x : Term) → Contains (made_entries (fresh_name (labels_of o)) o) e → (x ≡ header_term (fresh_name (labels_of o)) o.head.name) ⊎ (IsForeign (fresh_name (labels_of o)) (made_nodes o) x ⊎ IsFree (fresh_name (labels_of o)) (made_nodes o) (header_nodes o.head.name + note_nodes (notes_from o.annotations)) (header_nodes o.head.name + note_nodes (notes_from o.annotations) + group_nodes (groups_of o.axioms)) (group_entries (fresh_name (labels_of o)) (groups_of o.axioms) (header_nodes o.head.name + note_nodes (notes_from o.annotations))) x) → x ≡ entry_node (fresh_name (labels_of o)) e → ⊥
+module _ (o : Ontology) (few : made_nodes o + length (labels_of o) ≤ 9 * 10 ^ 18) (stated_apart : AreStatedApart (fresh_name (labels_of o)) (made_nodes o) (groups_of o.axioms)) where
+  aside : (e : Entry) (x : Term) → Contains (made_entries (fresh_name (labels_of o)) o) e → (x ≡ header_term (fresh_name (labels_of o)) o.head.name) ⊎ IsBesideEntries (fresh_name (labels_of o)) (made_nodes o) (header_nodes o.head.name + note_nodes (notes_from o.annotations)) (header_nodes o.head.name + note_nodes (notes_from o.annotations) + group_nodes (groups_of o.axioms)) (group_entries (fresh_name (labels_of o)) (groups_of o.axioms) (header_nodes o.head.name + note_nodes (notes_from o.annotations))) x → x ≡ entry_node (fresh_name (labels_of o)) e → ⊥
   aside e x m place is =
       let name = fresh_name (labels_of o) in
       let most = made_nodes o in
@@ -164,7 +107,7 @@ module _ (o : Ontology) (few : made_nodes o + length (labels_of o) ≤ 9 * 10 ^ 
       let ns = notes_from o.annotations in
       let b = a + note_nodes ns in
       let h = header_term name o.head.name in
-      let differ = graph_named o few in
+      let differ = fresh_named_apart (labels_of o) (made_nodes o) few in
       let d = made_drawn name o in
       let below = d.below e m in
       let from = d.from e m in
@@ -195,11 +138,11 @@ module _ (o : Ontology) (few : made_nodes o + length (labels_of o) ≤ 9 * 10 ^ 
       let h = header_term name o.head.name in
       let es = made_entries name o in
       let d = made_drawn name o in
-      let groups = groups_aside name most gs b foreign in
-      entries_are name most (graph_named o few) (graph_of o) a most (made_others name o) (made_roots name o) es (made_triples name o) (omega arith) d (graph_keeps name o a most refl)
+      let groups = groups_aside name most gs b stated_apart in
+      entries_are name most (fresh_named_apart (labels_of o) (made_nodes o) few) (graph_of o) a most (made_others name o) (made_roots name o) es (made_triples name o) (omega arith) d (graph_keeps o a most)
       (λ e t m k i.
       elim (Contains-append_cases (head_triples h o.head) (note_links h ns ++ group_others name gs b) t k) [
-        | inl j ↦ aside e t.subject m (inl (head_subjects h o.head t j)) i
+        | inl j ↦ aside e t.subject m (inl (head_subject h o.head t j)) i
         | inr j ↦
             elim (Contains-append_cases (note_links h ns) (group_others name gs b) t j) [
               | inl l ↦ aside e t.subject m (inl (link_subjects h ns t l)) i
@@ -218,7 +161,7 @@ module _ (o : Ontology) (few : made_nodes o + length (labels_of o) ≤ 9 * 10 ^ 
       ])
       (λ x r.
       let k = marked (graph_of o) x role.Note no_individual r in
-      elim (d.cases k.triple (in_made o k.triple k.inside)) [
+      elim (d.cases k.triple ((graph_holds o k.triple).0 k.inside)) [
         | inl j ↦ absurd (no_marks k.triple j k.marks)
         | inr j ↦ record { entry = j.entry; among = j.among; is = sym k.subject ∙ entry_subjects name j.entry k.triple j.inside }
       ])

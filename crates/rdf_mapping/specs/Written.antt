@@ -18,7 +18,7 @@ use Rattle.rdf_meaning.specs.declared.word.Word.TheVariants as word
 use Rattle.rdf_graph.specs.declared.term.Term.TheVariants.{Blank}
 use Rattle.rdf_meaning.specs.declared.role.Role.TheVariants as role
 use Rattle.rdf_meaning.specs.Nodes.{is_facet, is_iri, is_word, role_of}
-use Rattle.rdf_mapping.specs.Graphs.{labels_in}
+use Rattle.rdf_mapping.specs.Graphs.{all_labels_in, labels_in}
 use Rattle.rdf_meaning.specs.Words.{is_type}
 use Rattle.rdf_meaning.specs.Denotation.{Denotes}
 use Rattle.rdf_meaning.specs.Rows.{Row, node_rows}
@@ -123,6 +123,9 @@ draws_at Object want = false
 -- the labels in the tree are those of nodes that are nothing but individuals
 abbrev pub AreIndividuals : List Triple → Tree → Type 0
 AreIndividuals g t = (label : List ℕ) → Contains (labels_in t) label → role_of g (Blank label) ≡ role.Individual
+
+abbrev pub HaveIndividuals : List Triple → Kids → Type 0
+HaveIndividuals g ks = (label : List ℕ) → Contains (all_labels_in ks) label → role_of g (Blank label) ≡ role.Individual
 
 -- each facet has an IRI of facets
 abbrev mutual

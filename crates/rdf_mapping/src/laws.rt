@@ -2,7 +2,6 @@
 
 ghost use Rattle.std.specs.List.{filter, list_all, list_any};
 ghost use Rattle.owl_list.specs.Ascending.{AreApart};
-ghost use Rattle.rdf_meaning.specs.declared.role.Role.{Role};
 ghost use Rattle.rdf_meaning.specs.declared.word.Word.{Word};
 ghost use Rattle.owl_kind.specs.Kinds.{Entity};
 ghost use Rattle.owl_tree.specs.Trees.{Tree};
@@ -54,8 +53,8 @@ ghost use Rattle.rdf_mapping.specs.Drawing.{Statement, linked, linked_back, loop
 ghost use Rattle.rdf_mapping.specs.Forms.{link, plain};
 ghost use Rattle.rdf_mapping.specs.Frames.{AreOwned, IsAny, IsForeign};
 ghost use Rattle.rdf_mapping.specs.Graphs.{Group, graph_of, group_triples, groups_of, header_nodes, labels_of, notes_from, standing_nodes, standing_triples, statement_nodes, statement_triples};
-ghost use Rattle.rdf_mapping.specs.GroupFrames.{AreNotesApart, EachGroupKept, IsSubject, KeepsReified, KeepsStanding, KeepsLinked, KeepsLooped, StatesApart, group_nodes};
-ghost use Rattle.rdf_mapping.specs.Notes.{Notes, note, note_nodes, note_triples, reified, reified_nodes};
+ghost use Rattle.rdf_mapping.specs.GroupFrames.{AreNotesApart, AreStatedApart, EachGroupKept, IsSubject, KeepsStanding, KeepsLinked, KeepsLooped, StatesApart, group_nodes};
+ghost use Rattle.rdf_mapping.specs.Notes.{Notes, note_nodes, note_triples};
 ghost use Rattle.rdf_mapping.specs.FreshLabels.{fresh_name};
 
 /// Laws: nodes with other numbers have other labels, and none of the labels
@@ -196,7 +195,7 @@ pub fn groups_are_kept_apart()
         → AreOwned name most (statement_triples name s sets n) n (n + statement_nodes s sets) }
     ensures groups { (name : ℕ → List ℕ) (most : ℕ) → AreNamedApart name most
         → (g : List Triple) (gs : List Group) (n : ℕ) → n + group_nodes gs ≤ most
-        → AllByRecursion (λ q. StatesApart name most q.statement) gs
+        → AreStatedApart name most gs
         → Keeps name IsAny g (group_triples name gs n) n (n + group_nodes gs)
         → EachGroupKept name g gs n }
 {}
@@ -249,15 +248,14 @@ pub fn axioms_with_nodes_are_drawn()
         → IsAxiomWith g k (of_node (blank name n)) r.tag (given r.parts (map written ts)) }
 {}
 
-/// Laws: numbers for which there is room have labels of their own, the graph of
-/// an ontology has each triple once, and keeps each group of its axioms.
+/// Laws: numbers for which there is room have labels of their own, and the graph
+/// of an ontology keeps each group of its axioms.
 pub fn graphs_keep_their_groups()
     ensures labels { (labels : List (List ℕ)) (most : ℕ) → most + length labels ≤ 9 * 10 ^ 18
         → AreNamedApart (fresh_name labels) most }
-    ensures once { (o : Ontology) → AreApart (graph_of o) }
     ensures groups { (o : Ontology) (most : ℕ) → most + length (labels_of o) ≤ 9 * 10 ^ 18
         → header_nodes o.head.name + note_nodes (notes_from o.annotations) + group_nodes (groups_of o.axioms) ≤ most
-        → AllByRecursion (λ q. StatesApart (fresh_name (labels_of o)) most q.statement) (groups_of o.axioms)
+        → AreStatedApart (fresh_name (labels_of o)) most (groups_of o.axioms)
         → EachGroupKept (fresh_name (labels_of o)) (graph_of o) (groups_of o.axioms) (header_nodes o.head.name + note_nodes (notes_from o.annotations)) }
 {}
 
@@ -296,15 +294,4 @@ pub fn linked_axioms_are_drawn()
         → (sets : List Notes) (n : ℕ) → n + nodes (form_of a) ≤ most
         → KeepsLinked name g (link (term_of name (form_of a) n) type_iri (Iri (word_iri w))) (form_of a) (plain (Iri (word_iri w))) sets n
         → IsAxiomWith g k (of_triple (link (term_of name (form_of a) n) type_iri (Iri (word_iri w)))) r.tag (written a ∷ []) }
-{}
-
-/// Law: where a graph keeps a reification, its node has exactly the triples of
-/// it and its annotations, and each of these is kept reified where it is
-/// annotated in turn.
-pub fn reifications_are_kept()
-    ensures { (name : ℕ → List ℕ) (most : ℕ) → AreNamedApart name most
-        → (g : List Triple) (w : Word) (u : Triple) (p : List ℕ) (v : Term) (inside more : Notes) (n : ℕ)
-        → n + reified_nodes (note p v inside more) ≤ most
-        → Keeps name IsAny g (reified name w u (note p v inside more) n) n (n + reified_nodes (note p v inside more))
-        → KeepsReified name g w u (note p v inside more) n }
 {}

@@ -16,11 +16,12 @@ ghost use Rattle.rdf_mapping.specs.PlaceLaws.{IsRootAt};
 ghost use Rattle.rdf_mapping.specs.VariantLaws.{AreOwnSets, IsOwnSet};
 ghost use Rattle.rdf_graph.specs.declared.term.Term.{Term};
 ghost use Rattle.rdf_graph.specs.declared.triple.Triple.{Triple};
-ghost use Rattle.rdf_mapping.specs.Entries.{AreAllBeside, AreAllDeclarable, AreBeside, AreDrawn, AreEntries, Entry, IsAny, IsEntryNode, IsNoterOf, IsSaid, entry_node, entry_triples, note_entries, note_links, note_roots, set_entries, set_roots};
-ghost use Rattle.rdf_mapping.specs.Frames.{AreNamedApart, IsOwn, Keeps};
-ghost use Rattle.rdf_mapping.specs.Asides.{AreAside, HasForeignSubject, HaveForeignSubjects};
+ghost use Rattle.rdf_mapping.specs.Entries.{AreAllBeside, AreAllDeclarable, AreBeside, AreDrawn, AreEntries, Entry, IsEntryNode, IsNoterOf, IsSaid, entry_node, entry_triples, note_entries, note_links, note_roots, set_entries, set_roots};
+ghost use Rattle.rdf_mapping.specs.Frames.{AreNamedApart, IsAny, IsOwn, Keeps};
+ghost use Rattle.rdf_mapping.specs.Asides.{AreAside};
 ghost use Rattle.rdf_mapping.specs.Drawing.{Statement};
-ghost use Rattle.rdf_mapping.specs.GraphEntries.{IsAt, group_entries, group_nodes, group_others, group_roots, made_entries, made_nodes, made_others, made_roots, statement_entries, statement_others, statement_roots};
+ghost use Rattle.rdf_mapping.specs.GraphEntries.{IsAt, group_entries, group_others, group_roots, made_entries, made_nodes, made_others, made_roots, statement_entries, statement_others, statement_roots};
+ghost use Rattle.rdf_mapping.specs.GroupFrames.{AreStatedApart, StatesApart, group_nodes};
 ghost use Rattle.rdf_mapping.specs.FreshLabels.{fresh_name};
 ghost use Rattle.rdf_mapping.specs.Graphs.{Group, axiom_notes, bare, graph_of, group_of, group_triples, groups_of, header_nodes, labels_of, notes_from, made_triples, set_nodes, set_triples, sets_of, statement_nodes, statement_triples};
 ghost use Rattle.rdf_mapping.specs.Notes.{Notes, no_notes, note_nodes, notes_in, note_triples};
@@ -157,21 +158,20 @@ pub fn graphs_are_drawn_by_entries()
 /// node of an entry.
 pub fn others_are_aside()
     ensures statement { (name : ℕ → List ℕ) (most : ℕ) (s : Statement) (sets : List Notes) (n : ℕ)
-        → HasForeignSubject name most s
+        → StatesApart name most s
         → AreAside name most n (n + statement_nodes s sets) (statement_others name s sets n) (statement_roots name s sets n) (statement_entries name s sets n) }
     ensures groups { (name : ℕ → List ℕ) (most : ℕ) (gs : List Group) (n : ℕ)
-        → HaveForeignSubjects name most gs
+        → AreStatedApart name most gs
         → AreAside name most n (n + group_nodes gs) (group_others name gs n) (group_roots name gs n) (group_entries name gs n) }
 {}
 
-/// Laws: no triple stands twice in the graph of an ontology. Its reifications
-/// are those of the entries, where nothing that is drawn beside them is a mark of
-/// one, no predicate of an annotation makes a node what it is, and there are
-/// fewer nodes and labels than fresh labels.
+/// Law: the reifications in the graph of an ontology are those of the entries,
+/// where nothing that is drawn beside them is a mark of one, no predicate of an
+/// annotation makes a node what it is, and there are fewer nodes and labels than
+/// fresh labels.
 pub fn graphs_have_their_entries()
-    ensures apart { (o : Ontology) → AreApart (graph_of o) }
-    ensures entries { (o : Ontology) → made_nodes o + length (labels_of o) ≤ 9 * 10 ^ 18
-        → HaveForeignSubjects (fresh_name (labels_of o)) (made_nodes o) (groups_of o.axioms)
+    ensures { (o : Ontology) → made_nodes o + length (labels_of o) ≤ 9 * 10 ^ 18
+        → AreStatedApart (fresh_name (labels_of o)) (made_nodes o) (groups_of o.axioms)
         → AreAllBeside (notes_from o.annotations) → ((g : Group) (ns : Notes)
         → Contains (groups_of o.axioms) g → Contains g.sets ns → AreAllBeside ns) → ((t : Triple)
         → Contains (made_others (fresh_name (labels_of o)) o) t → marks_role role.Note t ≡ true → ⊥)

@@ -72,9 +72,13 @@ needed_by : (b : Bool) (ts : List Tree) → cond b (needed (cond b (needed ts) t
 needed_by true ts = needed_twice ts
 needed_by false ts = refl
 
-in_needed_by : (b : Bool) (ts : List Tree) (u : Tree) → Contains (cond b (needed ts) ts) u → Contains ts u
-in_needed_by true ts u m = (from_filter (λ t. not (is_needless ts t)) ts u m).0
-in_needed_by false ts u m = m
+-- a needed kid is a kid
+pub in_needed_in : (t : Tag) (ts : List Tree) (u : Tree) → Contains (needed_in t ts) u → Contains ts u
+in_needed_in t ts u = by (is_tag tag.Notes t)
+  where
+    by : (b : Bool) → Contains (cond b (needed ts) ts) u → Contains ts u
+    by true m = (from_filter (λ v. not (is_needless ts v)) ts u m).0
+    by false m = m
 
 -- Tidy trees.
 
@@ -102,7 +106,7 @@ tidieds_map (kid t ks) = ap (λ (us : List Tree). tidied t ∷ us) (tidieds_map 
 tidy_node : (t : Tag) (ts : List Tree) → AllByRecursion IsTidy ts → IsTidy (over t (needed_in t (arranged (set_start (row_of t)) ts)))
 tidy_node t ts h =
     let us : List Tree = needed_in t (arranged (set_start (row_of t)) ts) in
-    let all : AllByRecursion IsTidy us = all_from IsTidy us (λ u m. all_in IsTidy ts u h ((arranged_holds (set_start (row_of t)) ts u).0 (in_needed_by (is_tag tag.Notes t) (arranged (set_start (row_of t)) ts) u m))) in
+    let all : AllByRecursion IsTidy us = all_from IsTidy us (λ u m. all_in IsTidy ts u h ((arranged_holds (set_start (row_of t)) ts u).0 (in_needed_in t (arranged (set_start (row_of t)) ts) u m))) in
     record {
       canonical = node_of_forms t us (forms_stay us all) ∙ ap (over t) (in_order t ts);
       tidied =

@@ -1,5 +1,5 @@
 -- The annotations of a normal form that can be said are read back, and are settled.
-use Rattle.std.proofs.Common.{◌≡◌, ◌⊎◌, ℕ, Bool, true, false, cond, not, List, [], ◌∷◌, ◌++◌, inl, inr, refl, sym, ap, ◌∙◌, subst}
+use Rattle.std.proofs.Common.{◌≡◌, ◌⊎◌, ℕ, Bool, true, false, not, List, [], ◌∷◌, ◌++◌, inl, inr, refl, sym, ap, ◌∙◌, subst}
 use Rattle.std.specs.Prelude.{Contains, ◌&&◌, ◌||◌, map, Some, None, if◌then◌else◌}
 use Rattle.std.specs.List.{list_all, list_any}
 use Rattle.std.proofs.lemmas.Bool.{and_from, and_parts, both_ways, cond-true}
@@ -22,13 +22,11 @@ use Rattle.owl_tree.specs.Tags.{number_of}
 use Rattle.owl_tree.specs.TreeLaws.{list_of_kids_of}
 use Rattle.owl_tree.specs.Trees.{Tree, Kids, leaf, node, no_kids, kid, kids_in, list_of, tag_of}
 use Rattle.rdf_graph.specs.declared.term.Term.{Term}
-use Rattle.rdf_graph.specs.declared.term.Term.TheVariants.{Iri, Blank}
+use Rattle.rdf_graph.specs.declared.term.Term.TheVariants.{Iri}
 use Rattle.rdf_graph.specs.declared.triple.Triple.{Triple}
-use Rattle.rdf_meaning.specs.declared.role.Role.TheVariants as role
 use Rattle.rdf_meaning.specs.Denotation.{simple}
 use Rattle.rdf_meaning.specs.Kinds.{has_kind, may_be_declared}
 use Rattle.rdf_meaning.specs.KindLaws.{has_kind_is}
-use Rattle.rdf_meaning.specs.Nodes.{role_of}
 use Rattle.rdf_terms.specs.Vocabulary.{is_reserved}
 use Rattle.rdf_sayable.specs.Parts.{leaves, leaves_of}
 use Rattle.rdf_sayable.specs.Reasons.{Objection, reserved}
@@ -36,7 +34,7 @@ use Rattle.rdf_sayable.specs.Sayable.{AreSayable, iri_objection, is_misused, obj
 use Rattle.rdf_normal.specs.NeedlessLaws.{any_if, both_true, from_filter, not_true, says_more_if}
 use Rattle.rdf_normal.specs.NormalForms.{is_annotated, is_needless, needed, needed_in, says_more, tidied, tidieds}
 use Rattle.rdf_normal.specs.OneTriple.{is_one_triple}
-use Rattle.rdf_normal.specs.TidiedLaws.{needed_twice, tidied_tidy, tidieds_map}
+use Rattle.rdf_normal.specs.TidiedLaws.{in_needed_in, needed_twice, tidied_tidy, tidieds_map}
 use Rattle.rdf_mapping.specs.Drawing.{atom_term}
 use Rattle.rdf_mapping.specs.Entries.{AreAllDeclarable}
 use Rattle.rdf_mapping.specs.Graphs.{all_labels_in, labels_in}
@@ -45,7 +43,7 @@ use Rattle.rdf_mapping.specs.NodeDrawingLaws.{same_tag}
 use Rattle.rdf_mapping.specs.Notes.{Notes, no_notes, note, notes_in}
 use Rattle.rdf_mapping.specs.NoteTrees.{AreReadable, no_annotation, an_annotation, AreSettled, EachSettled, IsAmong, here, later}
 use Rattle.rdf_mapping.specs.TreeDrawingLaws.{all_back, all_front}
-use Rattle.rdf_mapping.specs.Written.{AreIndividuals}
+use Rattle.rdf_mapping.specs.Written.{AreIndividuals, HaveIndividuals}
 use Rattle.rdf_states.specs.Annotations.{AreAnnotations, none, one, IsValue, annotation_of}
 
 -- Trees that are shaped as annotations are such.
@@ -208,14 +206,14 @@ module _ (g : List Triple) (k : List Entity) where
   typed_value : (value : Tag) (v : Atom) → IsValue value v → AreWellTyped k (entities (leaf value v)) → AreIndividuals g (leaf value v) → simple g k sort.AnnotationValue (atom_term v) ≡ Some (leaf value v)
   typed_value value v is t i = leaf_simple g k value sort.AnnotationValue v is.admitted is.taken is.is_atom t i
 
-  pub readable : (ks : Kids) → AreAnnotations ks → AreWellTyped k (entities_of ks) → ((label : List ℕ) → Contains (all_labels_in ks) label → role_of g (Blank label) ≡ role.Individual) → AreReadable g k ks
+  pub readable : (ks : Kids) → AreAnnotations ks → AreWellTyped k (entities_of ks) → HaveIndividuals g ks → AreReadable g k ks
   readable _ (none) t i = no_annotation
   readable _ (one p value v ns ks is inner more) t i =
       let tree = annotation_of p value v ns in
       let own = all_front (λ e. HasKind k e.kind e.iri) (entities tree) (entities_of ks) t in
       let behind = all_back (λ e. HasKind k e.kind e.iri) (entities_of ns) _ own in
       let property = entities (leaf tag.AnnotationProperty (atom.Iri p)) in
-      let mine : (label : List ℕ) → Contains (labels_in tree) label → role_of g (Blank label) ≡ role.Individual = λ label m. i label (Contains-append_left (labels_in tree) (all_labels_in ks) label m) in
+      let mine : AreIndividuals g tree = λ label m. i label (Contains-append_left (labels_in tree) (all_labels_in ks) label m) in
       an_annotation p v tag.AnnotationProperty value ns ks
       (typed_property p (all_front (λ e. HasKind k e.kind e.iri) property (entities (leaf value v) ++ []) behind))
       (typed_value value v is (all_front (λ e. HasKind k e.kind e.iri) (entities (leaf value v)) [] (all_back (λ e. HasKind k e.kind e.iri) property (entities (leaf value v) ++ []) behind))
@@ -250,15 +248,11 @@ pub notes_needed : (ns : Kids) → tidied (node tag.Notes ns) ≡ node tag.Notes
 notes_needed ns e = subst AreNeeded (sym (tidy_notes ns e)) (needed_needs (arranged (set_start (row_of tag.Notes)) (tidieds ns)))
 
 -- and its kids are tidy
-in_needed_in : (b : Bool) (ts : List Tree) (t : Tree) → Contains (cond b (needed ts) ts) t → Contains ts t
-in_needed_in true ts t m = (from_filter (λ u. not (is_needless ts u)) ts t m).0
-in_needed_in false ts t m = m
-
 pub tidy_kid : (u : Tag) (ks : Kids) (t : Tree) → tidied (node u ks) ≡ node u ks → Contains (list_of ks) t → tidied t ≡ t
 tidy_kid u ks t e m =
     let all = arranged (set_start (row_of u)) (tidieds ks) in
     let there = subst (λ (us : List Tree). Contains us t) (ap kids_in (sym e) ∙ list_of_kids_of (needed_in u all)) m in
-    let among = (arranged_holds (set_start (row_of u)) (tidieds ks) t).0 (in_needed_in (is_tag tag.Notes u) all t there) in
+    let among = (arranged_holds (set_start (row_of u)) (tidieds ks) t).0 (in_needed_in u all t there) in
     let v = from_map tidied (list_of ks) t (subst (λ (us : List Tree). Contains us t) (tidieds_map ks) among) in
     subst (λ (x : Tree). tidied x ≡ x) v.value (tidied_tidy v.element).tidied
 

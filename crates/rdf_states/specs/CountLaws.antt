@@ -19,7 +19,8 @@ use Rattle.owl_tree.specs.OrderLaws.{only_equal_trees_tie, trees_total}
 use Rattle.owl_tree.specs.Trees.{Tree, Kids, leaf, node, no_kids, kid, sum_weight, weight}
 use Rattle.rdf_mapping.specs.Drawing.{Statement, linked, linked_back, looped, standing, unsaid, statement_of}
 use Rattle.rdf_mapping.specs.Forms.{Arcs, arc_nodes, nodes}
-use Rattle.rdf_mapping.specs.GraphEntries.{group_nodes, made_nodes}
+use Rattle.rdf_mapping.specs.GraphEntries.{made_nodes}
+use Rattle.rdf_mapping.specs.GroupFrames.{group_nodes}
 use Rattle.rdf_mapping.specs.Graphs.{axiom_notes, bare, bare_axioms, group_of, groups_of, header_nodes, labels_in, all_labels_in, labels_of, notes_from, set_nodes, standing_nodes, statement_nodes}
 use Rattle.rdf_mapping.specs.Notes.{Notes, no_notes, note, annotation_in, note_nodes, notes_in, notes_of, reified_nodes}
 use Rattle.rdf_states.specs.StatedLaws.{bare_statement}

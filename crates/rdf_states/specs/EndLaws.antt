@@ -1,8 +1,8 @@
 -- What is drawn of an axiom makes its nodes what they are.
-use Rattle.std.proofs.Common.{◌≡◌, ◌-◌, ◌+◌, ℕ, suc, Bool, true, false, cond, List, [], ◌∷◌, ◌++◌, drop, take, length, inl, inr, subst}
+use Rattle.std.proofs.Common.{◌-◌, ◌+◌, ℕ, suc, Bool, true, false, cond, List, [], ◌∷◌, ◌++◌, drop, take, length, inl, inr, subst}
 use Rattle.std.specs.Prelude.{Contains, Option, None, Some}
 use Rattle.std.specs.List.{AllByRecursion}
-use Rattle.std.proofs.lemmas.List.Elements.{Contains-append_left, Contains-append_right}
+use Rattle.std.proofs.lemmas.List.Elements.{Contains-append_right}
 use Rattle.owl_doc.specs.Entities.{AreWellTyped, entities, entities_of}
 use Rattle.owl_kind.specs.Kinds.{Entity, HasKind}
 use Rattle.owl_list.specs.Ascending.{AreApart}
@@ -12,7 +12,6 @@ use Rattle.owl_tree.specs.Shape.{AreShaped, IsShaped}
 use Rattle.owl_tree.specs.Trees.{Tree, Kids, leaf, node, no_kids, kid}
 use Rattle.rdf_graph.specs.declared.term.Term.TheVariants.{Iri, Blank, Literal}
 use Rattle.rdf_graph.specs.declared.triple.Triple.{Triple}
-use Rattle.rdf_meaning.specs.declared.role.Role.TheVariants as role
 use Rattle.rdf_meaning.specs.declared.row.Part.{Part}
 use Rattle.rdf_meaning.specs.declared.row.Place.{Place}
 use Rattle.rdf_meaning.specs.declared.row.Place.TheVariants.{At, Subject, Predicate, Object}
@@ -21,7 +20,6 @@ use Rattle.rdf_meaning.specs.declared.row.Site.TheVariants.{Node, TypedBy, Other
 use Rattle.rdf_meaning.specs.declared.row.Want.{Want}
 use Rattle.rdf_meaning.specs.declared.row.Want.TheVariants.{One, Many, Whole, Keys, Declared, Mark, True}
 use Rattle.rdf_meaning.specs.Denotation.{true_literal}
-use Rattle.rdf_meaning.specs.Nodes.{role_of}
 use Rattle.rdf_meaning.specs.Rows.{Row, axiom_rows}
 use Rattle.rdf_meaning.specs.Words.{word_iri}
 use Rattle.rdf_mapping.specs.Drawing.{Kid, Placed, Statement, linked, linked_back, looped, standing, unsaid, arcs_of, between, by_kids, by_predicate, forms_of, is_pair, kid_of, kids_seen, loop_at, loop_by, placed, placed_by, row_for, singles, stated, stated_by, statement_of, tags_of}
@@ -33,9 +31,9 @@ use Rattle.rdf_mapping.specs.Graphs.{all_labels_in, labels_in}
 use Rattle.rdf_mapping.specs.Notes.{Notes, note_nodes}
 use Rattle.rdf_mapping.specs.RowDrawingLaws.{all_drop, all_take}
 use Rattle.rdf_mapping.specs.RowSortLaws.{form_sorts, listed_sort}
-use Rattle.rdf_mapping.specs.TreeDrawingLaws.{all_back, all_front}
+use Rattle.rdf_mapping.specs.TreeDrawingLaws.{all_back, first_and_others}
 use Rattle.rdf_mapping.specs.TreeSortLaws.{kids_sort, tree_sort}
-use Rattle.rdf_mapping.specs.Written.{AreIndividuals, HasFacetNames, HaveFacetNames}
+use Rattle.rdf_mapping.specs.Written.{AreIndividuals, HasFacetNames, HaveFacetNames, HaveIndividuals}
 use Rattle.rdf_states.specs.Places.{AllEnds, End, Stand, end_at, ends_of, stands_from, stands_of}
 
 pub all_both : {X : Type 0} (P : X → Type 0) (xs ys : List X) → AllByRecursion P xs → AllByRecursion P ys → AllByRecursion P (xs ++ ys)
@@ -160,14 +158,9 @@ module _ (name : ℕ → List ℕ) (most : ℕ) (differ : AreNamedApart name mos
       form_sorts name most differ g (kids_seen ks) (kids_sort name most differ g k apart ks shaped.1 typed names single),
     )
 
-    all_sorts : (ks : Kids) → AreShaped ks → AreWellTyped k (entities_of ks) → HaveFacetNames ks → ((label : List ℕ) → Contains (all_labels_in ks) label → role_of g (Blank label) ≡ role.Individual) → AllByRecursion KidSorts (kids_seen ks)
+    all_sorts : (ks : Kids) → AreShaped ks → AreWellTyped k (entities_of ks) → HaveFacetNames ks → HaveIndividuals g ks → AllByRecursion KidSorts (kids_seen ks)
     all_sorts no_kids shaped typed names single = tt
-    all_sorts (kid t ks) shaped typed names single = (
-      kid_sorts t shaped.0 (all_front (λ e. HasKind k e.kind e.iri) (entities t) (entities_of ks) typed) names.0
-          (λ label m. single label (Contains-append_left (labels_in t) (all_labels_in ks) label m)),
-      all_sorts ks shaped.1 (all_back (λ e. HasKind k e.kind e.iri) (entities t) (entities_of ks) typed) names.1
-          (λ label m. single label (Contains-append_right (labels_in t) (all_labels_in ks) label m)),
-    )
+    all_sorts (kid t ks) shaped typed names single = first_and_others g k t ks (kid_sorts t) (all_sorts ks) shaped typed names single
 
     -- the forms that an axiom is drawn of make their nodes what they are
     pub ends_sort : (a : Tree) → IsShaped a → AreWellTyped k (entities a) → HasFacetNames a → AreIndividuals g a → AllEnds P (statement_of a)

@@ -1,25 +1,24 @@
 -- The graph of an ontology says it, where its axioms have places of their own and are read back.
-use Rattle.std.proofs.Common.{◌≡◌, ◌+◌, ℕ, List, [], ◌∷◌, refl, sym, ap, ◌∙◌, subst, arith}
+use Rattle.std.proofs.Common.{ℕ, List, sym, ap, ◌∙◌, subst, arith}
 use Rattle.std.specs.Prelude.{Contains}
 use Rattle.owl_kind.specs.Kinds.{Entity}
-use Rattle.owl_list.specs.AscendingLaws.{all_from, in_head, in_tail}
+use Rattle.owl_list.specs.AscendingLaws.{all_from}
 use Rattle.owl_tree.specs.Ontologies.{Ontology}
 use Rattle.rdf_meaning.specs.Statements.{Says}
-use Rattle.rdf_mapping.specs.Asides.{HasForeignSubject, HaveForeignSubjects}
 use Rattle.rdf_mapping.specs.Drawing.{Statement}
 use Rattle.rdf_mapping.specs.Entries.{AreAllBeside, AreEntries}
 use Rattle.rdf_mapping.specs.FreshLabels.{fresh_name}
 use Rattle.rdf_mapping.specs.FreshLabelLaws.{fresh_new}
-use Rattle.rdf_mapping.specs.GraphEntries.{group_nodes, made_entries, made_nodes}
+use Rattle.rdf_mapping.specs.GraphEntries.{made_entries, made_nodes}
+use Rattle.rdf_mapping.specs.GroupFrames.{AreStatedApart, StatesApart}
 use Rattle.rdf_mapping.specs.GraphLaws.{graph_apart, graph_holds}
-use Rattle.rdf_mapping.specs.Graphs.{Group, bare, graph_of, groups_of, labels_of, statement_nodes}
-use Rattle.rdf_mapping.specs.GroupFrames.{StatesApart, group_nodes as nodes_of_groups}
+use Rattle.rdf_mapping.specs.Graphs.{Group, bare, graph_of, groups_of, labels_of}
 use Rattle.rdf_mapping.specs.GroupLaws.{group_of_axiom}
 use Rattle.rdf_mapping.specs.Notes.{Notes}
 use Rattle.rdf_mapping.specs.WholeLaws.{graph_entries}
 use Rattle.rdf_mapping.specs.WholeFrameLaws.{fresh_named_apart, graph_keeps}
+use Rattle.rdf_mapping.specs.FormLaws.{same_label}
 use Rattle.rdf_axioms.specs.AxiomReading.{IsWellDrawn}
-use Rattle.rdf_states.specs.OnePlaceLaws.{blank_label}
 use Rattle.rdf_states.specs.GraphOf.{AreReadBack, AreWellDrawn, IsGraphOf, LabelsAreSingle}
 use Rattle.rdf_states.specs.RoleLaws.{no_note_marks}
 use Rattle.rdf_states.specs.SideLaws.{header_beside, labels_single, set_beside}
@@ -27,23 +26,18 @@ use Rattle.rdf_states.specs.Stated.{CanBeStated}
 use Rattle.rdf_states.specs.StatedLaws.{bare_statement}
 use Rattle.rdf_states.specs.WholeStateLaws.{says}
 
-same_nodes : (gs : List Group) → nodes_of_groups gs ≡ group_nodes gs
-same_nodes [] = refl
-same_nodes (q ∷ gs) = ap (λ (n : ℕ). statement_nodes q.statement q.sets + n) (same_nodes gs)
-
 -- each statement is drawn apart from all else
 group_drawn : (name : ℕ → List ℕ) (o : Ontology) → AreWellDrawn name o → (q : Group) → Contains (groups_of o.axioms) q → IsWellDrawn name (made_nodes o) q.statement
 group_drawn name o drawn q m =
     let a = group_of_axiom o.axioms q m in
     subst (λ (s : Statement). IsWellDrawn name (made_nodes o) s) (sym (bare_statement a.0) ∙ ap (λ (r : Group). r.statement) a.2) (drawn a.0 a.1)
 
-all_foreign : (name : ℕ → List ℕ) (most : ℕ) (gs : List Group) → ((q : Group) → Contains gs q → HasForeignSubject name most q.statement) → HaveForeignSubjects name most gs
-all_foreign name most [] h = tt
-all_foreign name most (q ∷ gs) h = (h q (in_head q gs), all_foreign name most gs (λ r m. h r (in_tail q gs r m)))
-
 module _ (k : List Entity) (o : Ontology) (c : CanBeStated k o) (drawn : AreWellDrawn (fresh_name (labels_of o)) o) where
   abbrev name : ℕ → List ℕ
   name = fresh_name (labels_of o)
+
+  stated_apart : AreStatedApart name (made_nodes o) (groups_of o.axioms)
+  stated_apart = all_from (λ q. StatesApart name (made_nodes o) q.statement) (groups_of o.axioms) (λ q m. (group_drawn name o drawn q m).apart)
 
   pub graph_is : IsGraphOf name (graph_of o) o
   graph_is = record {
@@ -52,18 +46,12 @@ module _ (k : List Entity) (o : Ontology) (c : CanBeStated k o) (drawn : AreWell
     holds = graph_holds o;
     fresh = λ label m n l e.
         let few = c.few in
-        fresh_new (labels_of o) n (omega (arith, few, l)) (subst (λ (x : List ℕ). Contains (labels_of o) x) (blank_label label (name n) e) m);
-    kept =
-        let same = same_nodes (groups_of o.axioms) in
-        graph_keeps o (made_nodes o) c.few (omega (arith, same))
-        (all_from (λ q. StatesApart name (made_nodes o) q.statement) (groups_of o.axioms) (λ q m. (group_drawn name o drawn q m).apart));
+        fresh_new (labels_of o) n (omega (arith, few, l)) (subst (λ (x : List ℕ). Contains (labels_of o) x) (same_label label (name n) e) m);
+    kept = graph_keeps o (made_nodes o) c.few (omega arith) stated_apart;
   }
 
   pub single : LabelsAreSingle (graph_of o) o
   single = labels_single name (graph_of o) o graph_is drawn
-
-  foreign : HaveForeignSubjects name (made_nodes o) (groups_of o.axioms)
-  foreign = all_foreign name (made_nodes o) (groups_of o.axioms) (λ q m. (group_drawn name o drawn q m).foreign)
 
   beside : (q : Group) (ns : Notes) → Contains (groups_of o.axioms) q → Contains q.sets ns → AreAllBeside ns
   beside q ns m i =
@@ -72,7 +60,7 @@ module _ (k : List Entity) (o : Ontology) (c : CanBeStated k o) (drawn : AreWell
 
   module _ (read : AreReadBack name (graph_of o) k o) where
     pub entries : AreEntries name (graph_of o) (made_entries name o)
-    entries = graph_entries o c.few foreign (header_beside k o c) beside (no_note_marks k o c name (graph_of o) graph_is drawn single read)
+    entries = graph_entries o c.few stated_apart (header_beside k o c) beside (no_note_marks k o c name (graph_of o) graph_is drawn single read)
 
     pub graph_says : Says (graph_of o) k o
     graph_says = says k o c name (graph_of o) graph_is drawn single read entries

@@ -205,9 +205,6 @@ module _ (k : List Entity) (o : Ontology) (c : CanBeStated k o) (name : ℕ → 
       by (annotates j) = absurd (free_carries t.predicate (header_property k o c header t j).free t refl w h)
       by (says b l p j) = absurd (says_no_word t w (place_says name o drawn b l p t j) i h)
 
-  in_graph : (t : Triple) → Contains (head_triples header o.head) t → Contains g t
-  in_graph t m = in_head_triples k o c name g d drawn single read are t m
-
   versions_same : HoldSame (filter (carries word.VersionIri) (of_subject g header)) (version_triples header (version_of o.head.name))
   versions_same t = (
     λ m.
@@ -217,7 +214,7 @@ module _ (k : List Entity) (o : Ontology) (c : CanBeStated k o) (name : ℕ → 
     λ m.
         let v = version_is header (version_of o.head.name) t m in
         let there = in_versions header o.head t m in
-        in_filter (carries word.VersionIri) (of_subject g header) t (in_subject g header t (in_graph t there) (head_subject header o.head t there))
+        in_filter (carries word.VersionIri) (of_subject g header) t (in_subject g header t (in_head_triples k o c name g d drawn single read are t there) (head_subject header o.head t there))
         (ap (carries word.VersionIri) (sym v.1) ∙ version_carries header (Iri v.0)),
   )
 
@@ -239,7 +236,7 @@ module _ (k : List Entity) (o : Ontology) (c : CanBeStated k o) (name : ℕ → 
   import_chosen i m =
       let t = import_link header (Iri i) in
       let there = in_imports header o.head t (in_map (λ j. import_link header (Iri j)) o.head.imports i m) in
-      in_chosen g header word.Imports t (in_graph t there) refl (import_carries header (Iri i))
+      in_chosen g header word.Imports t (in_head_triples k o c name g d drawn single read are t there) refl (import_carries header (Iri i))
 
   -- the imports, in the order of the graph
   abbrev pub imports_read : List (List ℕ)

@@ -13,7 +13,6 @@ use Rattle.owl_tree.specs.Order.{tree_cmp}
 use Rattle.owl_tree.specs.OrderLaws.{trees_total}
 use Rattle.owl_tree.specs.Tags.{is_axiom}
 use Rattle.owl_tree.specs.Trees.{Tree, Kids, leaf, node, no_kids, kid, kids_of, tag_of}
-use Rattle.rdf_graph.specs.declared.term.Term.TheVariants.{Blank}
 use Rattle.rdf_graph.specs.declared.triple.Triple.{Triple}
 use Rattle.rdf_meaning.specs.Denotation.{of_triple}
 use Rattle.rdf_meaning.specs.StatementLaws.{one_axiom}
@@ -24,6 +23,7 @@ use Rattle.owl_tree.specs.Rows.{is_tag}
 use Rattle.rdf_mapping.specs.Drawing.{statement_of}
 use Rattle.rdf_mapping.specs.GraphEntries.{made_nodes}
 use Rattle.rdf_mapping.specs.Graphs.{bare, bare_axioms, sets_of}
+use Rattle.rdf_mapping.specs.FormLaws.{same_label}
 use Rattle.rdf_axioms.specs.AxiomReading.{main_of, with_notes}
 use Rattle.rdf_states.specs.GraphOf.{AreReadBack, AreWellDrawn, IsGraphOf, IsReadAtPlace, LabelsAreSingle}
 use Rattle.rdf_states.specs.Places.{Stand, StandsAt, first_number, stand_node, stands_of}
@@ -52,9 +52,6 @@ bare_without : (a : Tree) → with_notes (node tag.Notes no_kids) a ≡ bare a
 bare_without (leaf t a) = refl
 bare_without (node t no_kids) = refl
 bare_without (node t (kid n ks)) = refl
-
-pub blank_label : (a b : List ℕ) → Blank a ≡ Blank b → a ≡ b
-blank_label a b e = cc
 
 module _ (k : List Entity) (o : Ontology) (c : CanBeStated k o) (name : ℕ → List ℕ) (g : List Triple) (d : IsGraphOf name g o) (drawn : AreWellDrawn name o) (single : LabelsAreSingle g o) (read : AreReadBack name g k o) where
   -- what is read without annotations is the axiom without them
@@ -106,7 +103,7 @@ module _ (name : ℕ → List ℕ) (g : List Triple) (o : Ontology) (d : IsGraph
   one_stand_place b e m l p q f h i j same =
       let left = stand_few b m p f i in
       let right = stand_few e l q h j in
-      let number : f.number ≡ h.number = d.differ f.number h.number left.1.1 right.1.1 (blank_label (name f.number) (name h.number) same) in
+      let number : f.number ≡ h.number = d.differ f.number h.number left.1.1 right.1.1 (same_label (name f.number) (name h.number) same) in
       by (places_apart o.axioms b e m l (bare_axioms o.axioms) (first_number o) p q) number
     where
       by : AreApartPlaces o.axioms b e m l → f.number ≡ h.number → IsSameStand o b e m l f h
@@ -114,15 +111,5 @@ module _ (name : ℕ → List ℕ) (g : List Triple) (o : Ontology) (d : IsGraph
           let moved : Contains (stands_of (statement_of e) (sets_of e o.axioms) l) f =
           subst (λ (u : ℕ). Contains (stands_of (statement_of e) (sets_of e o.axioms) u) f) y (subst (λ (u : Tree). Contains (stands_of (statement_of u) (sets_of u o.axioms) m) f) x i) in
           record { axiom_is = x; number = y; stand = one_stand (statement_of e) (sets_of e o.axioms) l f h moved j n }
-      by (before u) n =
-          let left = stand_few b m p f i in
-          let right = stand_few e l q h j in
-          let a = left.1.0 in
-          let z = right.0 in
-          absurd (omega (arith, a, z, u, n))
-      by (behind u) n =
-          let left = stand_few b m p f i in
-          let right = stand_few e l q h j in
-          let a = right.1.0 in
-          let z = left.0 in
-          absurd (omega (arith, a, z, u, n))
+      by (before u) n = let a = (stand_few b m p f i).1.0 in let z = (stand_few e l q h j).0 in absurd (omega (arith, a, z, u, n))
+      by (behind u) n = let a = (stand_few e l q h j).1.0 in let z = (stand_few b m p f i).0 in absurd (omega (arith, a, z, u, n))

@@ -13,11 +13,11 @@ use Rattle.rdf_mapping.specs.GraphEntries.{made_nodes}
 use Rattle.rdf_mapping.specs.GraphLaws.{graph_apart}
 use Rattle.rdf_mapping.specs.Graphs.{graph_of, labels_of}
 use Rattle.rdf_mapping.specs.WholeFrameLaws.{fresh_named_apart}
+use Rattle.rdf_mapping.specs.FormLaws.{same_label}
 use Rattle.rdf_axioms.specs.AxiomReading.{AreForeignLabels, IsSayableAxiom}
 use Rattle.rdf_axioms.specs.NormalAxiomLaws.{axioms_sayable}
 use Rattle.rdf_axioms.specs.ReadBackLaws.{axiom_read_back}
 use Rattle.rdf_axioms.specs.WellDrawnLaws.{axiom_well_drawn}
-use Rattle.rdf_states.specs.OnePlaceLaws.{blank_label}
 use Rattle.rdf_states.specs.GraphOf.{AreReadBack, AreWellDrawn}
 use Rattle.rdf_states.specs.GraphStatesLaws.{graph_says, single}
 use Rattle.rdf_states.specs.ReadLaws.{axiom_single, labels_among}
@@ -33,7 +33,7 @@ module _ (k : List Entity) (o : Ontology) (c : CanBeStated k o) where
   foreign_labels : (a : Tree) → Contains o.axioms a → AreForeignLabels name (made_nodes o) a
   foreign_labels a m label i n l e =
       let few = c.few in
-      fresh_new (labels_of o) n (omega (arith, few, l)) (subst (λ (x : List ℕ). Contains (labels_of o) x) (blank_label label (name n) e) (labels_among (o.annotations ++ o.axioms) a label (Contains-append_right o.annotations o.axioms a m) i))
+      fresh_new (labels_of o) n (omega (arith, few, l)) (subst (λ (x : List ℕ). Contains (labels_of o) x) (same_label label (name n) e) (labels_among (o.annotations ++ o.axioms) a label (Contains-append_right o.annotations o.axioms a m) i))
 
   all_drawn : AreWellDrawn name o
   all_drawn a m = axiom_well_drawn name (made_nodes o) k a (said a m) (foreign_labels a m)

@@ -10,10 +10,11 @@ use Rattle.rdf_graph.specs.declared.term.Term.{Term}
 use Rattle.rdf_graph.specs.declared.term.Term.TheVariants.{Iri, Blank, Literal}
 use Rattle.rdf_graph.specs.declared.triple.Triple.{Triple}
 use Rattle.rdf_mapping.specs.Drawing.{Statement, linked, linked_back, looped, standing, unsaid, statement_of}
-use Rattle.rdf_mapping.specs.Entries.{Entry, IsAny, IsOfEntry, note_links, note_roots, set_roots}
+use Rattle.rdf_mapping.specs.Entries.{Entry, IsOfEntry, note_links, note_roots, set_roots}
 use Rattle.rdf_mapping.specs.Forms.{Form, made, Arcs, arc_nodes, blank, link, nodes, term_of, triples}
-use Rattle.rdf_mapping.specs.Frames.{Keeps}
-use Rattle.rdf_mapping.specs.GraphEntries.{group_nodes, group_others, group_roots, made_entries, made_nodes, made_others, made_roots, standing_others, standing_roots, statement_others, statement_roots}
+use Rattle.rdf_mapping.specs.Frames.{IsAny, Keeps}
+use Rattle.rdf_mapping.specs.GraphEntries.{IsAt, first as at_first, next as at_next, group_others, group_roots, made_entries, made_nodes, made_others, made_roots, standing_others, standing_roots, statement_others, statement_roots}
+use Rattle.rdf_mapping.specs.GroupFrames.{group_nodes}
 use Rattle.rdf_mapping.specs.GraphEntryLaws.{made_drawn}
 use Rattle.rdf_mapping.specs.Graphs.{bare_axioms, group_of, groups_of, head_triples, header_nodes, header_term, main_triple, made_triples, notes_from, set_nodes, sets_of, standing_nodes, statement_nodes, statement_triples}
 use Rattle.rdf_mapping.specs.GroupFrames.{EachGroupKept}
@@ -348,19 +349,9 @@ module _ (axioms : List Tree) where
         | inr j ↦ let r = root_at name bs (n + width b) f j in (r.0, r.1, next b bs n r.2, r.3)
       ]
 
-  pub roots_at : (name : ℕ → List ℕ) (b : Tree) (m : ℕ) (bs : List Tree) (n : ℕ) → IsPlaced axioms b m bs n → (f : Entry) → Contains (statement_roots name (statement_of b) (sets_of b axioms) m) f → Contains (group_roots name (map (group_of axioms) bs) n) f
-  roots_at name b m _ _ (first bs) f i =
-      Contains-append_left (statement_roots name (statement_of b) (sets_of b axioms) m) (group_roots name (map (group_of axioms) bs) (m + width b)) f i
-  roots_at name b m _ _ (next c bs n p) f i =
-      Contains-append_right (statement_roots name (statement_of c) (sets_of c axioms) n) (group_roots name (map (group_of axioms) bs) (n + width c)) f
-      (roots_at name b m bs (n + width c) p f i)
-
-  pub others_at : (name : ℕ → List ℕ) (b : Tree) (m : ℕ) (bs : List Tree) (n : ℕ) → IsPlaced axioms b m bs n → (t : Triple) → Contains (statement_others name (statement_of b) (sets_of b axioms) m) t → Contains (group_others name (map (group_of axioms) bs) n) t
-  others_at name b m _ _ (first bs) t i =
-      Contains-append_left (statement_others name (statement_of b) (sets_of b axioms) m) (group_others name (map (group_of axioms) bs) (m + width b)) t i
-  others_at name b m _ _ (next c bs n p) t i =
-      Contains-append_right (statement_others name (statement_of c) (sets_of c axioms) n) (group_others name (map (group_of axioms) bs) (n + width c)) t
-      (others_at name b m bs (n + width c) p t i)
+  pub group_at : (b : Tree) (m : ℕ) (bs : List Tree) (n : ℕ) → IsPlaced axioms b m bs n → IsAt (group_of axioms b) m (map (group_of axioms) bs) n
+  group_at b m _ _ (first bs) = at_first (map (group_of axioms) bs)
+  group_at b m _ _ (next c bs n p) = at_next (group_of axioms c) (map (group_of axioms) bs) n (group_at b m bs (n + width c) p)
 
 -- the numbers of an axiom's nodes lie behind those of the header and of its annotations
 pub stands_bounds : (o : Ontology) (b : Tree) (m : ℕ) → StandsAt o b m → (first_number o ≤ m) × (m + width o.axioms b ≤ made_nodes o)

@@ -32,13 +32,13 @@ use Rattle.rdf_mapping.specs.EntryLaws.{link_subjects}
 use Rattle.rdf_mapping.specs.Frames.{own_triples}
 use Rattle.rdf_mapping.specs.GraphEntries.{group_roots, made_entries, made_nodes, made_others, made_roots, statement_roots}
 use Rattle.rdf_mapping.specs.GraphEntryLaws.{made_drawn}
-use Rattle.rdf_mapping.specs.Graphs.{all_labels_in, axiom_notes, bare, bare_axioms, groups_of, header_nodes, header_term, labels_in, made_triples, notes_from, sets_of}
+use Rattle.rdf_mapping.specs.Graphs.{all_labels_in, axiom_notes, bare, bare_axioms, group_of, groups_of, header_nodes, header_term, labels_in, made_triples, notes_from, sets_of}
 use Rattle.rdf_mapping.specs.MainNoteLaws.{main_notes}
 use Rattle.rdf_mapping.specs.NoterLaws.{root_subjects}
 use Rattle.rdf_mapping.specs.Notes.{Notes, no_notes, notes_in}
 use Rattle.rdf_mapping.specs.NoteTrees.{AreAllNotes, no_sets, a_set, AreNotes, AreReadAs, AreSettled, AreVariants, EachSettled}
 use Rattle.rdf_mapping.specs.NoteTreeLaws.{notes_read, readable_notes}
-use Rattle.rdf_mapping.specs.PlaceLaws.{root_again}
+use Rattle.rdf_mapping.specs.PlaceLaws.{root_again, roots_at}
 use Rattle.rdf_mapping.specs.SetLaws.{all_beside, sets_read}
 use Rattle.rdf_axioms.specs.AxiomReading.{main_of}
 use Rattle.rdf_states.specs.AnnotationLaws.{each_settled, notes_needed, nothing_inside, readable, settled_notes, tidy_kid}
@@ -48,7 +48,7 @@ use Rattle.rdf_states.specs.MainNodeLaws.{entry_role, stand_apart}
 use Rattle.rdf_states.specs.OnePlaceLaws.{one_main_place, one_stand_place}
 use Rattle.rdf_states.specs.OneTripleLaws.{main_is_one}
 use Rattle.rdf_states.specs.Places.{of_main, of_stand, Stand, StandsAt, first_number, notes_at, sets_at, stand_node, stands_of}
-use Rattle.rdf_states.specs.PlaceLaws.{IsRootMade, of_header, of_place, made_root, main_roots, roots_at, stand_notes, stand_roots}
+use Rattle.rdf_states.specs.PlaceLaws.{IsRootMade, of_header, of_place, made_root, main_roots, group_at, stand_notes, stand_roots}
 use Rattle.rdf_states.specs.ReadLaws.{axiom_single, main_sound, read_at, stand_main, stand_own_words}
 use Rattle.rdf_states.specs.RoleLaws.{note_is_no_main, sound_no_main, sound_no_note}
 use Rattle.rdf_states.specs.SideLaws.{place_axiom, set_beside}
@@ -147,7 +147,7 @@ module _ (k : List Entity) (o : Ontology) (c : CanBeStated k o) (name : ℕ → 
   place_roots b m p f i =
       (made_drawn name o).root f
       (Contains-append_right (note_roots (header_term name o.head.name) (notes_from o.annotations) (header_nodes o.head.name)) (group_roots name (groups_of o.axioms) (first_number o)) f
-      (roots_at o.axioms name b m (bare_axioms o.axioms) (first_number o) p f i))
+      (roots_at name (group_of o.axioms b) m (groups_of o.axioms) (first_number o) (group_at o.axioms b m (bare_axioms o.axioms) (first_number o) p) f i))
 
   -- The triple of an axiom has the sets of annotations of the axioms that are this one without them.
 

@@ -1,6 +1,6 @@
 -- The triples of a graph of the ontology are sorted, and its header is read back.
 use lib.Utf8.{encode}
-use Rattle.std.proofs.Common.{◌≡◌, ◌≤◌, ◌+◌, ◌⊎◌, ℕ, true, false, List, [], ◌∷◌, ◌++◌, inl, inr, refl, ap, ◌∙◌, subst, arith}
+use Rattle.std.proofs.Common.{◌≡◌, ◌+◌, ◌⊎◌, ℕ, true, false, List, [], ◌∷◌, ◌++◌, inl, inr, refl, ap, ◌∙◌, subst, arith}
 use Rattle.std.specs.Prelude.{Contains, Option, None, Some}
 use Rattle.std.specs.List.{list_any}
 use Rattle.std.proofs.lemmas.Bool.{both_ways}
@@ -27,13 +27,13 @@ use Rattle.rdf_meaning.specs.Nodes.{carries, is_iri, is_structural, is_word, rol
 use Rattle.rdf_meaning.specs.Statements.{headers, main_triples}
 use Rattle.rdf_meaning.specs.Words.{is_type, word_iri, word_number}
 use Rattle.rdf_normal.specs.NormalForms.{is_about}
-use Rattle.rdf_mapping.specs.Asides.{HasForeignSubject, IsForeignForm}
 use Rattle.rdf_mapping.specs.Drawing.{Statement, linked, linked_back, looped, standing, unsaid, statement_of}
 use Rattle.rdf_mapping.specs.Entries.{AreAllDeclarable, AreEntries, Entry, IsOfEntry, entry_node, entry_triples, note_links}
 use Rattle.rdf_mapping.specs.EntryLaws.{entry_subjects, link_subjects}
-use Rattle.rdf_mapping.specs.Forms.{Form, plain, made, twice, blank, link, nodes, term_of}
-use Rattle.rdf_mapping.specs.FormLaws.{lie}
+use Rattle.rdf_mapping.specs.Forms.{link, nodes, term_of}
 use Rattle.rdf_mapping.specs.Frames.{IsForeign, Lies, by_word, is_node_word}
+use Rattle.rdf_mapping.specs.GroupFrameLaws.{starts}
+use Rattle.rdf_mapping.specs.GroupFrames.{StatesApart}
 use Rattle.rdf_mapping.specs.FreeLaws.{property_free}
 use Rattle.rdf_mapping.specs.GraphEntries.{made_entries, made_nodes}
 use Rattle.rdf_mapping.specs.Graphs.{head_triples, header_term, notes_from, sets_of, statement_nodes}
@@ -102,24 +102,19 @@ header_property k o c x t m =
 
 -- The triple of an axiom that begins at the header begins at an IRI.
 
-start_place : (name : ℕ → List ℕ) (most : ℕ) (f : Form) (n low high : ℕ) → IsForeignForm name most f → low ≤ n → n + nodes f ≤ high → IsForeign name most (term_of name f n) ⊎ Lies name low high (term_of name f n)
-start_place name most (plain x) n low high h l u = inl h
-start_place name most (made arcs) n low high h l u = inr (lie name n low high (blank name n) l (omega (arith, u)) refl)
-start_place name most (twice f) n low high h l u = inr (lie name n low high (blank name n) l (omega (arith, u)) refl)
-
 at_only : (P : Term → Type 0) (s t : Triple) → P s.subject → Contains (s ∷ []) t → P t.subject
 at_only P s t h m = elim (in_cases s [] t m) [ inl e ↦ subst (λ (u : Triple). P u.subject) e h | inr z ↦ absurd (in_none t z) ]
 
-main_place : (name : ℕ → List ℕ) (most : ℕ) (s : Statement) (sets : List Notes) (n : ℕ) (t : Triple) → HasForeignSubject name most s → Contains (main_of name s n) t → IsForeign name most t.subject ⊎ Lies name n (n + statement_nodes s sets) t.subject
+main_place : (name : ℕ → List ℕ) (most : ℕ) (s : Statement) (sets : List Notes) (n : ℕ) (t : Triple) → StatesApart name most s → Contains (main_of name s n) t → Lies name n (n + statement_nodes s sets) t.subject ⊎ IsForeign name most t.subject
 main_place name most (linked f p q) sets n t h m =
     let high = n + statement_nodes (linked f p q) sets in
-    at_only (λ x. IsForeign name most x ⊎ Lies name n high x) (link (term_of name f n) p (term_of name q (n + nodes f))) t (start_place name most f n n high h (omega arith) (omega arith)) m
+    at_only (λ x. Lies name n high x ⊎ IsForeign name most x) (link (term_of name f n) p (term_of name q (n + nodes f))) t (starts name most f n n high h (omega arith) (omega arith)) m
 main_place name most (linked_back f p q) sets n t h m =
     let high = n + statement_nodes (linked_back f p q) sets in
-    at_only (λ x. IsForeign name most x ⊎ Lies name n high x) (link (term_of name q (n + nodes f)) p (term_of name f n)) t (start_place name most q (n + nodes f) n high h (omega arith) (omega arith)) m
+    at_only (λ x. Lies name n high x ⊎ IsForeign name most x) (link (term_of name q (n + nodes f)) p (term_of name f n)) t (starts name most q (n + nodes f) n high h (omega arith) (omega arith)) m
 main_place name most (looped p f) sets n t h m =
     let high = n + statement_nodes (looped p f) sets in
-    at_only (λ x. IsForeign name most x ⊎ Lies name n high x) (link (term_of name f n) p (term_of name f n)) t (start_place name most f n n high h (omega arith) (omega arith)) m
+    at_only (λ x. Lies name n high x ⊎ IsForeign name most x) (link (term_of name f n) p (term_of name f n)) t (starts name most f n n high h (omega arith) (omega arith)) m
 main_place name most (standing arcs) sets n t h m = absurd (in_none t m)
 main_place name most unsaid sets n t h m = absurd (in_none t m)
 
@@ -152,9 +147,9 @@ module _ (k : List Entity) (o : Ontology) (c : CanBeStated k o) (name : ℕ → 
       let bounds = stands_bounds o b m p in
       elim (header_place name o.head.name) [
         | inr l ↦
-            elim (main_place name (made_nodes o) (statement_of b) (sets_of b o.axioms) m t w.foreign i) [
-              | inl f ↦ f l.number (let h = l.below in omega (arith, h)) (at ∙ l.is)
-              | inr r ↦ header_apart name g o d t.subject m (m + statement_nodes (statement_of b) (sets_of b o.axioms)) (let h = bounds.0 in omega (arith, h)) bounds.1 r at
+            elim (main_place name (made_nodes o) (statement_of b) (sets_of b o.axioms) m t w.apart i) [
+              | inl r ↦ header_apart name g o d t.subject m (m + statement_nodes (statement_of b) (sets_of b o.axioms)) (let h = bounds.0 in omega (arith, h)) bounds.1 r at
+              | inr f ↦ f l.number (let h = l.below in omega (arith, h)) (at ∙ l.is)
             ]
         | inl h ↦
             let iri = header_iri name o.head.name h in

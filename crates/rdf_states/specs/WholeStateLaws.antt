@@ -34,8 +34,8 @@ use Rattle.rdf_mapping.specs.NoAxiomLaws.{header_note}
 use Rattle.rdf_mapping.specs.NoteLaws.{notes_entry, one_type_chosen, property_is, reifies_entry, source_is, target_is}
 use Rattle.rdf_mapping.specs.SortLaws.{structural_has_role, structural_of_node}
 use Rattle.rdf_mapping.specs.WholeFrameLaws.{head_subject}
+use Rattle.rdf_mapping.specs.FormLaws.{same_label}
 use Rattle.rdf_axioms.specs.AxiomReading.{main_of}
-use Rattle.rdf_states.specs.OnePlaceLaws.{blank_label}
 use Rattle.rdf_states.specs.GraphOf.{AreReadBack, AreWellDrawn, IsGraphOf, LabelsAreSingle}
 use Rattle.rdf_states.specs.HeadLaws.{notes_there as header_links, root_links}
 use Rattle.rdf_states.specs.MainNodeLaws.{IsStandNode, entry_role, main_is_stand}
@@ -183,7 +183,7 @@ module _ (k : List Entity) (o : Ontology) (c : CanBeStated k o) (name : ℕ → 
       record { upper = e; lower = f; among = a.among; under = b.among; is_upper = a.is; is_lower = b.is; less = root_behind e f (are.below f e b.among a.among at) }
 
   same_numbers : (e f : Entry) → Contains es e → Contains es f → entry_node name e ≡ entry_node name f → e.number ≡ f.number
-  same_numbers e f m n h = d.differ e.number f.number ((made_drawn name o).below e m) ((made_drawn name o).below f n) (blank_label (name e.number) (name f.number) h)
+  same_numbers e f m n h = d.differ e.number f.number ((made_drawn name o).below e m) ((made_drawn name o).below f n) (same_label (name e.number) (name f.number) h)
 
   steps_behind : (y x : Term) → InSteps (IsDirectlyNotedUnder g) y x → IsBehind y x
   steps_behind _ _ (one_step y x s) = noted_behind y x s

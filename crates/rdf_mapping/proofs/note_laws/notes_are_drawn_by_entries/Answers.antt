@@ -1,4 +1,4 @@
-use Rattle.rdf_mapping.specs.Entries.{IsAny}
+use Rattle.rdf_mapping.specs.Frames.{IsAny}
 use Rattle.rdf_mapping.specs.EntryLaws.{entries_own, notes_drawn, sets_drawn}
 use Rattle.rdf_mapping.proofs.note_laws.notes_are_drawn_by_entries.Goals as goal
 
