@@ -1,0 +1,4 @@
+pub mod CycleLaws
+pub mod Cycles
+pub mod Ranks
+pub mod Searches

@@ -1,0 +1,15 @@
+//! Finite directed graphs, whose nodes are the numbers from 0 on: an order of
+//! the nodes in which each one stands behind those to which its edges lead, or
+//! the least node on a cycle.
+#![tactic(auto)]
+
+mod components;
+mod cycles;
+mod edges;
+mod found;
+mod laws;
+mod order;
+mod ranks;
+
+pub use laws::ordered_nodes_are_on_no_cycle;
+pub use order::{Order, order_nodes};
