@@ -177,7 +177,7 @@ apart g k s x t row e m f =
     both_ways (has_row (role_of g x)) (simple_has_none g k s x t e) (subst (λ (site : Site). has_row_at site ≡ true) f.0 (at_expression row m))
 
 -- a cell is no IRI
-no_nil : (g : List Triple) (x : Term) → x ≡ Iri nil_iri → role_of g x ≡ role.List → ⊥
+pub no_nil : (g : List Triple) (x : Term) → x ≡ Iri nil_iri → role_of g x ≡ role.List → ⊥
 no_nil g x e l = both_ways (is_role role.List (role_of g x)) (ap (λ (y : Term). is_role role.List (role_of g y)) e) (ap (is_role role.List) l)
 
 module _ (g : List Triple) (k : List Entity) (none : HaveNoClash k) where

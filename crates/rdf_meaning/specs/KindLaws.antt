@@ -15,7 +15,7 @@ use Rattle.owl_kind.specs.declared.kind.Kind.TheVariants.{Class, Datatype, Objec
 use Rattle.owl_kind.specs.Kinds.{Entity, HasKind, IsDeclared, SharesKinds, annotation_properties, is_built_in}
 use Rattle.rdf_meaning.specs.Kinds.{HaveNoClash, has_kind, is_kind}
 
-same_kind : (a b : Kind) → is_kind a b ≡ true → a ≡ b
+pub same_kind : (a b : Kind) → is_kind a b ≡ true → a ≡ b
 same_kind Class Class h = refl
 same_kind Datatype Datatype h = refl
 same_kind ObjectProperty ObjectProperty h = refl

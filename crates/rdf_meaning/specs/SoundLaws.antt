@@ -26,14 +26,14 @@ use Rattle.rdf_meaning.specs.declared.row.Site.{Site}
 use Rattle.rdf_meaning.specs.declared.row.Site.TheVariants.{Node, TypedBy, OtherType, LinkedBy, OtherLink}
 use Rattle.rdf_meaning.specs.declared.row.Want.{Want}
 use Rattle.rdf_meaning.specs.declared.row.Want.TheVariants.{One}
-use Rattle.rdf_meaning.specs.Words.{is_type, word_iri, word_number}
+use Rattle.rdf_meaning.specs.Words.{is_type, word_iri}
 use Rattle.rdf_meaning.specs.WordLaws.{same_word}
 use Rattle.rdf_meaning.specs.Nodes.{carries, chosen, is_facet, is_own, is_role, is_same, is_structural, nil_iri, of_subject, role_of, says_type, type_iri, words_of}
 use Rattle.rdf_meaning.specs.NodeLaws.{in_chosen, in_subject, same_term, typed_object}
 use Rattle.rdf_meaning.specs.Rows.{Row, axiom_rows, node_rows}
 use Rattle.rdf_meaning.specs.RowTests.{has_row, has_row_at, is_apart_from_facets, is_at_type, is_mark, is_marked_well, is_place}
 use Rattle.rdf_meaning.specs.RowLaws.{at_expression, axiom_marked_well, expression_marked_well, same_place, same_role}
-use Rattle.rdf_meaning.specs.Denotation.{AreKeys, no_key, object_key, data_key, Bearer, of_node, of_triple, Denotes, by_itself, by_row, by_list, by_whole, by_keys, by_declaration, mark, is_true, Fits, Holds, no_parts, part, Lists, no_cell, cell, axiom_predicates, axiom_types, declared_entity, facet_pair, facets_of, first_of, literal_leaf, select, simple, site_of, stands_at, times}
+use Rattle.rdf_meaning.specs.Denotation.{AreKeys, no_key, object_key, data_key, Bearer, of_node, of_triple, Denotes, by_itself, by_row, by_list, by_whole, by_keys, by_declaration, mark, is_true, Fits, Holds, no_parts, part, Lists, no_cell, cell, axiom_types, declared_entity, facet_pair, facets_of, first_of, literal_leaf, select, simple, site_of, stands_at, times}
 use Rattle.rdf_meaning.specs.DenotationLaws.{list_is, key_is, so, so_else, so_option}
 use Rattle.rdf_meaning.specs.ShapeLaws.{so_some}
 use Rattle.rdf_meaning.specs.Statements.{HasRow, IsAxiomWith, IsPartOfAxiom, IsSoundAs}
@@ -79,9 +79,11 @@ no_words : (w : Word) → Contains (words_of role.Individual) w → ⊥
 unfolding words_of
 no_words w m = in_none w m
 
+pub nothing_below : (g : List Triple) (x : Term) → role_of g x ≡ role.Individual → (t : Triple) → Contains g t → t.subject ≡ x → is_structural g t ≡ true → ⊥
+nothing_below g x e t m s h = let by = by_word g t x role.Individual m s h e refl in no_words by.w by.among
+
 individual_sound : (g : List Triple) (x : Term) → role_of g x ≡ role.Individual → IsSoundBelow g x
-individual_sound g x e =
-    sound_below x (inl e) (λ t m s h. let by = by_word g t x role.Individual m s h e refl in absurd (no_words by.w by.among))
+individual_sound g x e = sound_below x (inl e) (λ t m s h. absurd (nothing_below g x e t m s h))
 
 -- what a node is by its role
 
@@ -117,35 +119,46 @@ pair_of_literal g (v ∷ []) u e = record {
 }
 pair_of_literal g (v ∷ w ∷ more) u e = absurd (none-some u e)
 
+-- the triples of a facet are those with a predicate of facets
+pub in_facets : (g : List Triple) (x : Term) → role_of g x ≡ role.Facet → (t : Triple) → Contains g t → t.subject ≡ x → is_structural g t ≡ true → Contains (facets_of g x) t
+in_facets g x e t m s h =
+    in_filter (λ v. is_facet v.predicate) (of_subject g x) t (in_subject g x t m s) (structural_own g t x role.Facet s e h)
+
 facet_sound : (g : List Triple) (x : Term) (u : Tree) → role_of g x ≡ role.Facet → facet_pair (facets_of g x) ≡ Some u → IsSoundBelow g x
 facet_sound g x u e f =
     let pair = pair_of_literal g (facets_of g x) u f in
-    sound_below x (inr (as_part g x role.Facet e tt pair.one)) (λ t m s h.
-    let inside = in_filter (λ v. is_facet v.predicate) (of_subject g x) t (in_subject g x t m s) (structural_own g t x role.Facet s e h) in
-    individual_sound g t.object (pair.literal t inside))
+    sound_below x (inr (as_part g x role.Facet e tt pair.one))
+    (λ t m s h. individual_sound g t.object (pair.literal t (in_facets g x e t m s h)))
 
 individual_role : (r : Role) → is_role role.Individual r ≡ true → r ≡ role.Individual
 individual_role r h = sym (same_role role.Individual r h)
 
-blank_sound : (g : List Triple) (k : List Entity) (s : Sort) (label : List ℕ) (t : Tree) → simple g k s (Blank label) ≡ Some t → IsSoundBelow g (Blank label)
+-- what stands for itself is no node but for an individual, or a facet with its value
+abbrev pub IsPlain : List Triple → Term → Tree → Type 0
+IsPlain g x t = (role_of g x ≡ role.Individual) ⊎ ((role_of g x ≡ role.Facet) × (facet_pair (facets_of g x) ≡ Some t))
+
+plain_blank : (g : List Triple) (k : List Entity) (s : Sort) (label : List ℕ) (t : Tree) → simple g k s (Blank label) ≡ Some t → IsPlain g (Blank label) t
 unfolding simple
-blank_sound g k sort.Individual label t e = individual_sound g (Blank label) (individual_role _ (so _ _ t e))
-blank_sound g k sort.AnnotationSubject label t e = individual_sound g (Blank label) (individual_role _ (so _ _ t e))
-blank_sound g k sort.AnnotationValue label t e = individual_sound g (Blank label) (individual_role _ (so_else _ _ t e))
-blank_sound g k sort.FacetPair label t e =
-    facet_sound g (Blank label) t (sym (same_role role.Facet _ (so_option _ _ t e))) (so_some (is_role role.Facet (role_of g (Blank label))) _ t e)
-blank_sound g k _ label t e = absurd (none-some t e)
+plain_blank g k sort.Individual label t e = inl (individual_role _ (so _ _ t e))
+plain_blank g k sort.AnnotationSubject label t e = inl (individual_role _ (so _ _ t e))
+plain_blank g k sort.AnnotationValue label t e = inl (individual_role _ (so_else _ _ t e))
+plain_blank g k sort.FacetPair label t e =
+    inr (sym (same_role role.Facet _ (so_option _ _ t e)), so_some (is_role role.Facet (role_of g (Blank label))) _ t e)
+plain_blank g k _ label t e = absurd (none-some t e)
+
+pub plain_itself : (g : List Triple) (k : List Entity) (s : Sort) (x : Term) (t : Tree) → simple g k s x ≡ Some t → IsPlain g x t
+plain_itself g k s (Iri iri) t e = inl refl
+plain_itself g k s (Blank label) t e = plain_blank g k s label t e
+plain_itself g k s (Literal literal) t e = inl refl
 
 simple_sound : (g : List Triple) (k : List Entity) (s : Sort) (x : Term) (t : Tree) → simple g k s x ≡ Some t → IsSoundBelow g x
-simple_sound g k s (Iri iri) t e = individual_sound g (Iri iri) refl
-simple_sound g k s (Blank label) t e = blank_sound g k s label t e
-simple_sound g k s (Literal literal) t e = individual_sound g (Literal literal) refl
+simple_sound g k s x t e = elim (plain_itself g k s x t e) [ inl i ↦ individual_sound g x i | inr f ↦ facet_sound g x t f.0 f.1 ]
 
-declared_sound : (g : List Triple) (k : List Entity) (t : Tag) (x : Term) (u : Tree) → declared_entity k t x ≡ Some u → IsSoundBelow g x
+pub declared_role : (g : List Triple) (k : List Entity) (t : Tag) (x : Term) (u : Tree) → declared_entity k t x ≡ Some u → role_of g x ≡ role.Individual
 unfolding declared_entity
-declared_sound g k t (Iri iri) u e = individual_sound g (Iri iri) refl
-declared_sound g k t (Blank label) u e = absurd (none-some u e)
-declared_sound g k t (Literal literal) u e = absurd (none-some u e)
+declared_role g k t (Iri iri) u e = refl
+declared_role g k t (Blank label) u e = absurd (none-some u e)
+declared_role g k t (Literal literal) u e = absurd (none-some u e)
 
 -- a node of a row
 
@@ -173,24 +186,40 @@ part_at w ps n =
     let kept = from_filter (stands_at w) ps some.0 some.1 in
     record { p = some.0; inside = kept.inside; place = at_word w some.0.place some.0.want kept.passes }
 
-part_sound : (g : List Triple) (t : Triple) (x : Term) (r : Role) (by : IsByWord g t x r) (p : Part) → (not (is_mark p.want) || is_at_type p.place) ≡ true → p.place ≡ At by.w → IsStanding g (of_node x) p → IsSoundBelow g t.object
-part_sound g t x r by p well place s =
-    let same : s.z ≡ t.object = only_one (chosen g x by.w) s.z t.object (sym (ap (select g (of_node x)) place) ∙ s.one) by.chosen_there in
-    elim (or_cases (not (is_mark p.want)) (is_at_type p.place) well) [
-      | inl plain ↦ subst (IsSoundBelow g) same (s.below (not-true _ plain))
-      | inr type ↦ individual_sound g t.object (by.iri (subst (λ q. is_at_type q ≡ true) place type))
-    ]
+-- the part of a row at which the object of a structural triple of the node stands
+pub record IsLedBy (g : List Triple) (x : Term) (row : Row) (t : Triple) : Type 0 where
+  pub p : Part
+  pub inside : Contains row.parts p
+  pub chosen_there : Contains (select g (of_node x) p.place) t.object
+  pub plain : (is_mark p.want ≡ false) ⊎ (role_of g t.object ≡ role.Individual)
 
-row_leads : (g : List Triple) (x : Term) (row : Row) → is_marked_well row ≡ true → Fits g (of_node x) row → AllByRecursion (IsStanding g (of_node x)) row.parts → LeadsToSound g x
-row_leads g x row well f standing t m s h =
+pub led_by : (g : List Triple) (x : Term) (row : Row) → is_marked_well row ≡ true → Fits g (of_node x) row → (t : Triple) → Contains g t → t.subject ≡ x → is_structural g t ≡ true → IsLedBy g x row t
+led_by g x row well f t m s h =
     let tests = and_parts (is_apart_from_facets row.site) (list_all (λ p. not (is_mark p.want) || is_at_type p.place) row.parts) well in
     let plain = not-true _ (subst (λ site. is_apart_from_facets site ≡ true) f.0 tests.0) in
     let by = by_word g t x (role_of g x) m s h refl plain in
     let count = same_at (λ w. length (chosen g x w)) (λ w. times w row.parts) (words_of (role_of g x)) by.w f.1 by.among in
     let at = part_at by.w row.parts (subst (λ n. 1 ≤ n) count (one_at_least (chosen g x by.w) t.object by.chosen_there)) in
-    part_sound g t x (role_of g x) by at.p
-    (passes (λ p. not (is_mark p.want) || is_at_type p.place) row.parts at.p tests.1 at.inside) at.place
-    (all_in (IsStanding g (of_node x)) row.parts at.p standing at.inside)
+    let marked = passes (λ p. not (is_mark p.want) || is_at_type p.place) row.parts at.p tests.1 at.inside in
+    record {
+      p = at.p;
+      inside = at.inside;
+      chosen_there = subst (λ place. Contains (select g (of_node x) place) t.object) (sym at.place) by.chosen_there;
+      plain =
+          elim (or_cases (not (is_mark at.p.want)) (is_at_type at.p.place) marked) [
+            | inl n ↦ inl (not-true _ n)
+            | inr type ↦ inr (by.iri (subst (λ q. is_at_type q ≡ true) at.place type))
+          ];
+    }
+
+row_leads : (g : List Triple) (x : Term) (row : Row) → is_marked_well row ≡ true → Fits g (of_node x) row → AllByRecursion (IsStanding g (of_node x)) row.parts → LeadsToSound g x
+row_leads g x row well f standing t m s h =
+    let led = led_by g x row well f t m s h in
+    let stands = all_in (IsStanding g (of_node x)) row.parts led.p standing led.inside in
+    elim led.plain [
+      | inl n ↦ subst (IsSoundBelow g) (only_one (select g (of_node x) led.p.place) stands.z t.object stands.one led.chosen_there) (stands.below n)
+      | inr e ↦ individual_sound g t.object e
+    ]
 
 row_sound : (g : List Triple) (x : Term) (row : Row) → Contains node_rows row → Fits g (of_node x) row → AllByRecursion (IsStanding g (of_node x)) row.parts → IsSoundBelow g x
 row_sound g x row m f standing =
@@ -208,17 +237,21 @@ list_words w m =
       | inr n ↦ elim (in_cases word.Rest [] w n) [ inl e ↦ inr (sym e) | inr l ↦ absurd (in_none w l) ]
     ]
 
+-- the structural triples of a cell lead to its first and its rest
+pub cell_leads : (g : List Triple) (x first rest : Term) → role_of g x ≡ role.List → chosen g x word.First ≡ first ∷ [] → chosen g x word.Rest ≡ rest ∷ [] → (t : Triple) → Contains g t → t.subject ≡ x → is_structural g t ≡ true → (first ≡ t.object) ⊎ (rest ≡ t.object)
+cell_leads g x first rest l f r t m s h =
+    let by = by_word g t x role.List m s h l refl in
+    elim (list_words by.w by.among) [
+      | inl e ↦ inl (only_one (chosen g x word.First) first t.object f (subst (λ w. Contains (chosen g x w) t.object) e by.chosen_there))
+      | inr e ↦ inr (only_one (chosen g x word.Rest) rest t.object r (subst (λ w. Contains (chosen g x w) t.object) e by.chosen_there))
+    ]
+
 cell_sound : (g : List Triple) (x first rest : Term) → role_of g x ≡ role.List → chosen g x word.First ≡ first ∷ [] → chosen g x word.Rest ≡ rest ∷ [] → (rest ≡ Iri nil_iri) ⊎ (role_of g rest ≡ role.List) → IsSoundBelow g first → IsSoundBelow g rest → IsSoundBelow g x
 cell_sound g x first rest l f r on first_is rest_is =
     sound_below x (inr (as_part g x role.List l tt (record { first = first; rest = rest; one_first = f; one_rest = r; goes_on = on }))) (λ t m s h.
-    let by = by_word g t x role.List m s h l refl in
-    elim (list_words by.w by.among) [
-      | inl e ↦
-          subst (IsSoundBelow g)
-          (only_one (chosen g x word.First) first t.object f (subst (λ w. Contains (chosen g x w) t.object) e by.chosen_there)) first_is
-      | inr e ↦
-          subst (IsSoundBelow g)
-          (only_one (chosen g x word.Rest) rest t.object r (subst (λ w. Contains (chosen g x w) t.object) e by.chosen_there)) rest_is
+    elim (cell_leads g x first rest l f r t m s h) [
+      | inl e ↦ subst (IsSoundBelow g) e first_is
+      | inr e ↦ subst (IsSoundBelow g) e rest_is
     ])
 
 list_goes_on : (g : List Triple) (k : List Entity) (x : Term) (s : Sort) (ts : List Tree) → Lists g k x s ts → (x ≡ Iri nil_iri) ⊎ (role_of g x ≡ role.List)
@@ -234,7 +267,7 @@ mutual
   denoted_sound g k _ _ _ (by_list s x least ts _ l) n = list_sound g k x s ts l
   denoted_sound g k _ _ _ (by_whole t s x least ts _ l) n = list_sound g k x s ts l
   denoted_sound g k _ _ _ (by_keys x os ds _ h) n = keys_sound g k x os ds h
-  denoted_sound g k _ _ _ (by_declaration t x u e) n = declared_sound g k t x u e
+  denoted_sound g k _ _ _ (by_declaration t x u e) n = individual_sound g x (declared_role g k t x u e)
   denoted_sound g k _ _ _ (mark x) n = cc
   denoted_sound g k _ _ _ (is_true x e) n = individual_sound g x (ap (role_of g) e)
 
@@ -265,7 +298,7 @@ main_leads g k x t ts is =
 
 -- a triple that is an axiom
 
-abbrev wants_tree : Place → Part → Bool
+abbrev pub wants_tree : Place → Part → Bool
 wants_tree place p = is_place p.place place && not (is_mark p.want)
 
 abbrev is_of_node : Site → Bool
@@ -309,9 +342,30 @@ typed_site g t e =
     typed_by g t (bytes_eq t.predicate type_iri) (filter (λ w. says_type (word_iri w) t) axiom_types) _
     (λ w m. class_object g t w (from_filter (λ v. says_type (word_iri v) t) axiom_types w m).passes) e
 
-end_sound : (g : List Triple) (t : Triple) (place : Place) (x : Term) (ps : List Part) → select g (of_triple t) place ≡ x ∷ [] → AllByRecursion (IsStanding g (of_triple t)) ps → list_any (wants_tree place) ps ≡ true → IsSoundBelow g x
-end_sound g t place x ps one standing h =
-    let p = some_passes (wants_tree place) ps h in
+-- the parts of a row at which the ends of a triple stand; the object may be a class that says which axiom it is
+pub record HasEnds (g : List Triple) (t : Triple) (row : Row) : Type 0 where
+  pub subject : Passing (wants_tree Subject) row.parts
+  pub object : (role_of g t.object ≡ role.Individual) ⊎ Passing (wants_tree Object) row.parts
+
+pub ends_of : (g : List Triple) (t : Triple) (row : Row) → Contains axiom_rows row → Fits g (of_triple t) row → HasEnds g t row
+ends_of g t row m f =
+    let other : is_of_node row.site ≡ false = ap is_of_node f ∙ no_node t in
+    elim (or_cases (is_of_node row.site) _ (passes has_ends axiom_rows row rows_have_ends m)) [
+      | inl n ↦ absurd (both_ways _ other n)
+      | inr e ↦
+          let both = and_parts (list_any (wants_tree Subject) row.parts) (is_typed row.site || list_any (wants_tree Object) row.parts) e in
+          record {
+            subject = some_passes (wants_tree Subject) row.parts both.0;
+            object =
+                elim (or_cases (is_typed row.site) (list_any (wants_tree Object) row.parts) both.1) [
+                  | inl c ↦ inl (typed_site g t (sym (ap is_typed f) ∙ c))
+                  | inr o ↦ inr (some_passes (wants_tree Object) row.parts o)
+                ];
+          }
+    ]
+
+end_sound : (g : List Triple) (t : Triple) (place : Place) (x : Term) (ps : List Part) → select g (of_triple t) place ≡ x ∷ [] → AllByRecursion (IsStanding g (of_triple t)) ps → Passing (wants_tree place) ps → IsSoundBelow g x
+end_sound g t place x ps one standing p =
     let tests = and_parts (is_place p.element.place place) (not (is_mark p.element.want)) p.passes in
     let s = all_in (IsStanding g (of_triple t)) ps p.element standing p.inside in
     let same = same_only s.z x (sym s.one ∙ ap (select g (of_triple t)) (same_place p.element.place place tests.0) ∙ one) in
@@ -323,19 +377,13 @@ pub record HasSoundEnds (g : List Triple) (t : Triple) : Type 0 where
 
 pub ends_sound : (g : List Triple) (k : List Entity) (t : Triple) (a : Tag) (ts : List Tree) → IsAxiomWith g k (of_triple t) a ts → HasSoundEnds g t
 ends_sound g k t a ts is =
-    let row = is.row in
-    let standing = parts_sound g k (of_triple t) row.parts ts is.parts in
-    let other : is_of_node row.site ≡ false = ap is_of_node is.fits ∙ no_node t in
-    elim (or_cases (is_of_node row.site) _ (passes has_ends axiom_rows row rows_have_ends is.among)) [
-      | inl n ↦ absurd (both_ways _ other n)
-      | inr e ↦
-          let both = and_parts (list_any (wants_tree Subject) row.parts) (is_typed row.site || list_any (wants_tree Object) row.parts) e in
-          record {
-            subject = end_sound g t Subject t.subject row.parts refl standing both.0;
-            object =
-                elim (or_cases (is_typed row.site) (list_any (wants_tree Object) row.parts) both.1) [
-                  | inl c ↦ individual_sound g t.object (typed_site g t (sym (ap is_typed is.fits) ∙ c))
-                  | inr o ↦ end_sound g t Object t.object row.parts refl standing o
-                ];
-          }
-    ]
+    let standing = parts_sound g k (of_triple t) is.row.parts ts is.parts in
+    let ends = ends_of g t is.row is.among is.fits in
+    record {
+      subject = end_sound g t Subject t.subject is.row.parts refl standing ends.subject;
+      object =
+          elim ends.object [
+            | inl e ↦ individual_sound g t.object e
+            | inr o ↦ end_sound g t Object t.object is.row.parts refl standing o
+          ];
+    }
