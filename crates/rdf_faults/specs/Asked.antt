@@ -1,13 +1,13 @@
 -- What the triples of a node, and those that are axioms or annotations, ask of the terms that they name: told by the kinds of IRIs and the roles
 -- of nodes, and by nothing below these (Mapping to RDF Graphs, section 3.2).
-use Rattle.std.specs.Prelude.{◌≡◌, ◌≤◌, ◌⊎◌, ℕ, Bool, true, false, ◌||◌, IsTrue, List, [], ◌∷◌, ◌++◌, Contains, IsSome, Option, length}
+use Rattle.std.specs.Prelude.{◌≡◌, ◌≤◌, ℕ, Bool, true, false, ◌||◌, IsTrue, List, [], ◌∷◌, ◌++◌, Contains, IsSome, length}
 use Rattle.std.specs.List.{AllByRecursion}
 use Rattle.std.specs.Option.{is_some}
 use Rattle.owl_kind.specs.Kinds.{Entity}
 use Rattle.owl_tree.specs.declared.row.Sort.{Sort}
 use Rattle.owl_tree.specs.declared.row.Sort.TheVariants as sort
 use Rattle.rdf_graph.specs.declared.term.Term.{Term}
-use Rattle.rdf_graph.specs.declared.term.Term.TheVariants.{Iri, Blank, Literal}
+use Rattle.rdf_graph.specs.declared.term.Term.TheVariants.{Iri, Literal}
 use Rattle.rdf_graph.specs.declared.triple.Triple.{Triple}
 use Rattle.rdf_meaning.specs.declared.word.Word.{Word}
 use Rattle.rdf_meaning.specs.declared.word.Word.TheVariants as word

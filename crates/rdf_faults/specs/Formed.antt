@@ -1,9 +1,9 @@
 -- Nodes whose own triples have the form that their role asks for (Mapping to RDF Graphs, section 3).
-use Rattle.std.specs.Prelude.{◌≡◌, ◌<◌, ℕ, zero, suc, List, [], ◌∷◌, Contains, IsSome, length}
+use Rattle.std.specs.Prelude.{◌≡◌, ◌<◌, ℕ, suc, List, [], ◌∷◌, Contains, IsSome, length}
 use Rattle.std.specs.List.{AllByRecursion}
 use Rattle.owl_tree.specs.declared.row.Sort.TheVariants as sort
 use Rattle.rdf_graph.specs.declared.term.Term.{Term}
-use Rattle.rdf_graph.specs.declared.term.Term.TheVariants.{Iri, Blank, Literal}
+use Rattle.rdf_graph.specs.declared.term.Term.TheVariants.{Iri, Literal}
 use Rattle.rdf_graph.specs.declared.triple.Triple.{Triple}
 use Rattle.rdf_meaning.specs.declared.word.Word.TheVariants as word
 use Rattle.rdf_meaning.specs.declared.role.Role.{Role}

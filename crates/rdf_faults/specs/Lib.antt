@@ -3,3 +3,12 @@ pub mod Formed
 pub mod Asked
 pub mod Faults
 pub mod FormLaws
+pub mod FirstLaws
+pub mod Meant
+pub mod MeantLaws
+pub mod WantLaws
+pub mod TypedLaws
+pub mod ReservedLaws
+pub mod NoteLaws
+pub mod FaultLaws
+pub mod WorkedCases

@@ -4,4 +4,7 @@
 
 mod laws;
 
-pub use laws::nodes_are_formed;
+pub use laws::{
+    faults_are_worked_out, firsts_are_one, headers_have_no_fault, nodes_are_formed,
+    nodes_are_meant, nodes_belong, nodes_have_their_form, triples_have_no_fault,
+};
