@@ -1,0 +1,9 @@
+pub mod Tables
+pub mod Links
+pub mod Marks
+pub mod Marking
+pub mod Taken
+pub mod Only
+pub mod Counting
+pub mod Siting
+pub mod Digits

@@ -1,0 +1,56 @@
+//! Tests of IRIs.
+
+ghost use Rattle.std.specs.Prelude.{◌≡◌, [], codes, nat_eq, true};
+ghost use Rattle.std.specs.List.{list_all, starts_with};
+ghost use Rattle.std.specs.Str.{bytes_eq};
+ghost use Rattle.owl_characters.specs.Iri.{is_ascii};
+ghost use Rattle.rdf_terms.specs.Vocabulary.{rdf, xsd};
+ghost use Rattle.rdf_meaning.specs.Nodes.{is_facet, type_iri};
+ghost use Rattle.rdf_meaning.specs.Words.{word_iri};
+
+use rdf_meaning::Word;
+use rdf_terms::Iri;
+
+/// Whether the IRI is rdf:type.
+pub fn is_type_iri(iri: &Iri) -> bool
+    ensures { result ≡ bytes_eq iri.now type_iri }
+{
+    is_spelled(iri, "http://www.w3.org/1999/02/22-rdf-syntax-ns#type")
+}
+
+/// Whether the IRI is the word's.
+pub fn has_iri(iri: &Iri, word: Word) -> bool
+    ensures { result ≡ bytes_eq iri.now (word_iri word) }
+{
+    is_spelled(iri, word.iri())
+}
+
+/// Whether the IRI is that of a facet: one of XML Schema, or rdf:langRange
+/// (Mapping to RDF Graphs, table 14). Takes no memory.
+#[tactic(auto, unfolding(rdf_meaning::specs::Nodes::is_facet))]
+pub fn is_facet(iri: &Iri) -> bool
+    ensures { result ≡ is_facet iri.now }
+{
+    is_of_xml_schema(iri) || is_lang_range(iri)
+}
+
+/// Whether the IRI is one of XML Schema.
+fn is_of_xml_schema(iri: &Iri) -> bool
+    ensures { result ≡ starts_with nat_eq iri.now (xsd []) }
+{
+    iri.text().starts_with("http://www.w3.org/2001/XMLSchema#")
+}
+
+fn is_lang_range(iri: &Iri) -> bool
+    ensures { result ≡ bytes_eq iri.now (rdf (codes "langRange")) }
+{
+    is_spelled(iri, "http://www.w3.org/1999/02/22-rdf-syntax-ns#langRange")
+}
+
+/// Whether the IRI has the characters of a text in ASCII.
+pub fn is_spelled(iri: &Iri, text: &str) -> bool
+    requires { list_all is_ascii text.now ≡ true }
+    ensures { result ≡ bytes_eq iri.now text.now }
+{
+    iri.is(text)
+}
