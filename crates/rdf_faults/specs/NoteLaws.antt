@@ -87,12 +87,12 @@ module _ (g : List Triple) (k : List Entity) where
       (triples_have_notes g k (notes_of g s)).0 (set_of t sets h s (in_noters g s t u e r m)) u m
 
 -- a list without one of its elements
-record IsWithout {A : Type 0} (xs : List A) (x : A) : Type 0 where
+pub record IsWithout {A : Type 0} (xs : List A) (x : A) : Type 0 where
   pub rest : List A
   pub longer : length xs ≡ suc (length rest)
   pub others : (y : A) → Contains xs y → (x ≡ y) ⊎ Contains rest y
 
-without : {A : Type 0} (xs : List A) (x : A) → Contains xs x → IsWithout xs x
+pub without : {A : Type 0} (xs : List A) (x : A) → Contains xs x → IsWithout xs x
 without [] x m = absurd (in_none x m)
 without (y ∷ xs) x m =
     elim (in_cases y xs x m) [
@@ -111,7 +111,7 @@ without (y ∷ xs) x m =
           }
     ]
 
-one_further : (step : Term → Term → Type 0) (y x z : Term) → InSteps step y x → step x z → InSteps step y z
+pub one_further : (step : Term → Term → Type 0) (y x z : Term) → InSteps step y x → step x z → InSteps step y z
 one_further step _ _ z (one_step y x s) last = one_more y x z s (one_step x z last)
 one_further step _ _ z (one_more y w x s h) last = one_more y w z s (one_further step w x z h last)
 

@@ -28,7 +28,7 @@ use Rattle.rdf_faults.specs.Meant.{HasPart, IsMeant, an_individual, a_tree, a_li
 use Rattle.rdf_faults.specs.MeantLaws.{each_part, node_axiom, node_meant, pair_literal, triple_axiom}
 use Rattle.rdf_faults.specs.WantLaws.{axiom_known, expression_known, parts_formed, parts_met, suits, wants_known}
 
-no_expression : list_all (λ row. not (has_row_at row.site)) axiom_rows ≡ true
+pub no_expression : list_all (λ row. not (has_row_at row.site)) axiom_rows ≡ true
 unfolding axiom_rows
 no_expression = refl
 

@@ -68,7 +68,7 @@ axiom_known row = passes wants_known axiom_rows row axioms_known
 
 -- a row that gives a tree of the sort is of a node whose role does
 
-abbrev site_gives : Site → Sort → Bool
+abbrev pub site_gives : Site → Sort → Bool
 site_gives (Node r) s = role_gives r s
 site_gives (TypedBy w) s = false
 site_gives OtherType s = false
@@ -89,7 +89,7 @@ no_number _ = refl
 
 -- inversion of the length of a list
 
-record IsLonger (g : List Triple) (x : Term) (n : ℕ) : Type 0 where
+pub record IsLonger (g : List Triple) (x : Term) (n : ℕ) : Type 0 where
   pub rest : Term
   pub m : ℕ
   pub list : role_of g x ≡ role.List
@@ -97,7 +97,7 @@ record IsLonger (g : List Triple) (x : Term) (n : ℕ) : Type 0 where
   pub has_length : HasLength g rest m
   pub count : n ≡ suc m
 
-length_is : (g : List Triple) (x : Term) (n : ℕ) → HasLength g x n → ((x ≡ Iri nil_iri) × (n ≡ 0)) ⊎ IsLonger g x n
+pub length_is : (g : List Triple) (x : Term) (n : ℕ) → HasLength g x n → ((x ≡ Iri nil_iri) × (n ≡ 0)) ⊎ IsLonger g x n
 length_is g _ _ (no_length x e) = inl (e, refl)
 length_is g _ _ (one_more x rest m l r h) =
     inr (record { rest = rest; m = m; list = l; one_rest = r; has_length = h; count = refl })
@@ -133,7 +133,7 @@ module _ (g : List Triple) (k : List Entity) where
             ])
       ]
 
-  one_long : (s : Sort) (x : Term) (ts : List Tree) → Denotes g k x (One s) ts → length ts ≡ 1
+  pub one_long : (s : Sort) (x : Term) (ts : List Tree) → Denotes g k x (One s) ts → length ts ≡ 1
   one_long s x ts d =
       elim (one_is g k s x ts d) [
         | itself u e same ↦ ap length same
@@ -162,14 +162,14 @@ module _ (g : List Triple) (k : List Entity) where
   one_longer : (ts us : List Tree) → length ts ≡ 1 → suc (length us) ≡ length (ts ++ us)
   one_longer ts us e = let both = length-append ts us in omega (arith, both, e)
 
-  key_longer : (os ts ds : List Tree) → length ts ≡ 1 → suc (length (os ++ ds)) ≡ length (os ++ (ts ++ ds))
+  pub key_longer : (os ts ds : List Tree) → length ts ≡ 1 → suc (length (os ++ ds)) ≡ length (os ++ (ts ++ ds))
   key_longer os ts ds e =
       let outer = length-append os (ts ++ ds) in
       let inner = length-append ts ds in
       let before = length-append os ds in
       omega (arith, outer, inner, before, e)
 
-  object_longer : (ts os ds : List Tree) → length ts ≡ 1 → suc (length (os ++ ds)) ≡ length ((ts ++ os) ++ ds)
+  pub object_longer : (ts os ds : List Tree) → length ts ≡ 1 → suc (length (os ++ ds)) ≡ length ((ts ++ os) ++ ds)
   object_longer ts os ds e =
       let outer = length-append (ts ++ os) ds in
       let inner = length-append ts os in

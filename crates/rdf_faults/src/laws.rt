@@ -1,17 +1,18 @@
 //! Laws of what is wrong with a graph, as functions that do nothing.
 
-ghost use Rattle.std.specs.Prelude.{◌≡◌, ◌≤◌, ℕ, List, [], codes, length};
+ghost use Rattle.std.specs.Prelude.{◌≡◌, ◌≤◌, ℕ, List, [], ◌∷◌, codes, length};
 ghost use Rattle.owl_kind.specs.Kinds.{Entity};
-ghost use Rattle.owl_tree.specs.Ontologies.{Ontology};
+ghost use Rattle.owl_tree.specs.Ontologies.{Head, Ontology};
 ghost use Rattle.rdf_graph.specs.declared.term.Term.{Term};
 ghost use Rattle.rdf_graph.specs.declared.triple.Triple.{Triple};
 ghost use Rattle.rdf_meaning.specs.declared.role.Role.{Role};
 ghost use Rattle.rdf_meaning.specs.Nodes.{role_of};
-ghost use Rattle.rdf_meaning.specs.Statements.{IsPartOfAxiom, IsSoundAs, Says, headers};
+ghost use Rattle.rdf_meaning.specs.Statements.{IsGrounded, IsHeadOf, IsPartOfAxiom, IsSoundAs, Says, headers};
 ghost use Rattle.rdf_meaning.specs.WorkedCases.{restriction};
 ghost use Rattle.rdf_faults.specs.Asked.{IsAskedFor};
 ghost use Rattle.rdf_faults.specs.WorkedCases.{empty_union, half_cell, of_literal, of_object, other_link, some_values_from, v, with_literal};
 ghost use Rattle.rdf_faults.specs.Faults.{IsBadCell, IsBadHeader, IsBadNode, IsCyclic, IsMixed, IsOfNothing, IsOrphan, IsReservedTriple, IsUntypedPart, IsUntypedStatement, TakesReserved};
+ghost use Rattle.rdf_faults.specs.Faultless.{IsFaultless};
 ghost use Rattle.rdf_faults.specs.Firsts.{HoldsForNone, IsFirst};
 ghost use Rattle.rdf_faults.specs.Formed.{IsFormedAs};
 ghost use Rattle.rdf_faults.specs.Meant.{IsMeant};
@@ -71,6 +72,24 @@ pub fn triples_have_no_fault()
         → IsUntypedPart g k t → ⊥ }
     ensures statement { (g : List Triple) (k : List Entity) (o : Ontology) (h : Says g k o)
         (t : Triple) → IsUntypedStatement g k h.states.header t → ⊥ }
+{}
+
+/// Laws: in a graph where no node is below itself no way down from a node goes on
+/// without end.
+pub fn nodes_without_a_cycle_are_grounded()
+    ensures grounded { (g : List Triple) → ((label : List ℕ) → IsCyclic g label → ⊥) → (x : Term)
+        → IsGrounded g x }
+{}
+
+/// Laws: a graph says an ontology exactly where it has none of the faults. The one
+/// header gives a head, unless it is a bad one.
+pub fn graphs_without_faults_say_an_ontology()
+    ensures says { (g : List Triple) (k : List Entity) → IsFaultless g k
+        → (o : Ontology) × Says g k o }
+    ensures no_fault { (g : List Triple) (k : List Entity) (o : Ontology) → Says g k o
+        → IsFaultless g k }
+    ensures head { (g : List Triple) (x : Term) → headers g ≡ x ∷ [] → (IsBadHeader g x → ⊥)
+        → (head : Head) × IsHeadOf g x head }
 {}
 
 /// Laws: of some nodes at most one is the first with a fault, so of some triples,
