@@ -1,0 +1,10 @@
+pub mod Walk
+pub mod Down
+pub mod NodeNumbers
+pub mod CellTriples
+pub mod NotedUnder
+pub mod Passed
+pub mod CycleStops
+pub mod NodeForms
+pub mod ListLengths
+pub mod CellLengths

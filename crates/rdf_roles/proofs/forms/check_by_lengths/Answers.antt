@@ -1,0 +1,20 @@
+use Rattle.std.proofs.Common.{arith}
+use Rattle.rdf_faults.specs.Faults.{IsBadNode}
+use Rattle.rdf_roles.specs.FirstLaws.{holds_for_none}
+use Rattle.rdf_roles.specs.NodeLaws.{table_length}
+use Rattle.rdf_roles.specs.Tables.{blank_nodes}
+use Rattle.rdf_roles.proofs.NodeForms.{bad_node_stops}
+use Rattle.rdf_roles.proofs.Passed.{passed}
+use Rattle.rdf_roles.proofs.forms.check_by_lengths.Goals as goal
+
+pub returns-in_err-check_form-clause-fault : goal.returns-in_err-check_form-clause-fault
+returns-in_err-check_form-clause-fault c =
+    passed c.from_residual.result c.in_err-check_form.field-0.0 _ c.from_residual.ensures.1
+    (bad_node_stops c.args.graph.now c.loop-number.number c.requires.one_role c.requires.cells c.requires.no_cycle c.loop-number.invariant
+    c.in_err-check_form.field-0.0 c.in_err-check_form.ensures.fault)
+
+pub returns-clause-ok : goal.returns-clause-ok
+returns-clause-ok c =
+    holds_for_none (IsBadNode c.args.graph.now) (blank_nodes c.args.graph.now) c.loop-number.number
+    (omega (arith, table_length c.args.graph.now c.args.table.now.entries c.requires.table, c.len-number-end.ensures.len, c.loop-number.auto.number-end, c.loop-number-test.false))
+    c.loop-number.invariant

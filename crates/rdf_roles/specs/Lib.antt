@@ -1,0 +1,7 @@
+pub mod Tables
+pub mod Refusals
+pub mod NodeLaws
+pub mod FirstLaws
+pub mod WayLaws
+pub mod Ways
+pub mod Lengths
