@@ -1,0 +1,4 @@
+pub mod OfSort
+pub mod Listed
+pub mod Suited
+pub mod FirstUntyped

@@ -1,0 +1,6 @@
+use Rattle.rdf_asked.specs.Elements.{is_element}
+use Rattle.rdf_asked.proofs.Listed.{IsWalked}
+use Rattle.rdf_asked.proofs.lists.is_list_of.Given as goal
+
+abbrev pub invariant-loop-count : goal.invariant-loop-count
+invariant-loop-count l = IsWalked l.graph (is_element l.graph l.kinds l.element) l.fn.term l.count l.rest

@@ -1,0 +1,8 @@
+use Rattle.rdf_meaning.specs.Nodes.{role_of}
+use Rattle.rdf_asked.proofs.Suited.{asked_by_role}
+use Rattle.rdf_asked.proofs.typed.is_typed_by.Goals as goal
+
+pub returns-in-Property : goal.returns-in-Property
+returns-in-Property c =
+    asked_by_role c.args.graph.now c.args.kinds.now c.args.triple.now (role_of c.args.graph.now c.args.triple.now.subject) c.role_of_term.result c.is_asked_for.result
+    (c.role_of_term.ensures c.args.graph.now c.requires.table) c.in-Property.is c.is_asked_for.ensures

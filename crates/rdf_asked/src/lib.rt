@@ -1,0 +1,12 @@
+//! What the triples of a graph ask of the terms that they name (Mapping to RDF
+//! Graphs, section 3.2).
+#![tactic(auto)]
+
+mod asked;
+mod lists;
+mod sorts;
+mod typed;
+
+pub use lists::is_met;
+pub use sorts::{is_declared, is_of_sort};
+pub use typed::{is_structural, untyped};

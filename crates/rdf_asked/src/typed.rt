@@ -1,0 +1,99 @@
+//! Whether the triples of nodes name what they may.
+
+ghost use Rattle.std.specs.Prelude.{◌≡◌, ◌↔◌, IfSome, IsNone, IsTrue, List};
+ghost use Rattle.std.specs.Option.{is_some};
+ghost use Rattle.rdf_meaning.specs.Denotation.{literal_leaf};
+ghost use Rattle.rdf_graph.specs.declared.triple.Triple.{Triple};
+ghost use Rattle.rdf_meaning.specs.Nodes.{is_structural, of_subject};
+ghost use Rattle.rdf_faults.specs.Asked.{IsTyped};
+ghost use Rattle.rdf_faults.specs.Faults.{IsUntypedPart};
+ghost use Rattle.rdf_rows.specs.Fits.{CountsWords};
+ghost use Rattle.rdf_roles.specs.Refusals.{AreNodesFormed, IsFirstUntyped};
+ghost use Rattle.rdf_roles.specs.Tables.{IsTableOf};
+
+use crate::asked::is_asked_for;
+use crate::sorts::role_of_term;
+use owl_kind::Kinds;
+use rdf_graph::{Graph, Term, Triple};
+use rdf_meaning::Role;
+use rdf_roles::Roles;
+use rdf_rows::{NodeWords, is_own};
+
+/// The place of the first triple of a node that names what it may not: an object
+/// that is not what the node's row asks for there, by the kinds of IRIs and the
+/// roles of nodes (Mapping to RDF Graphs, section 3.2). Takes no memory.
+pub fn untyped(graph: &Graph, roles: &Roles, kinds: &Kinds) -> Option<usize>
+    requires table { IsTableOf graph.now roles.now }
+    requires formed { AreNodesFormed graph.now }
+    ensures some { IfSome result (IsFirstUntyped graph.now kinds.now) }
+    ensures none { IsNone result → (t : Triple) → IsUntypedPart graph.now kinds.now t → ⊥ }
+{
+    for (place, triple) in graph.triples().iter().enumerate() {
+        if is_untyped(graph, roles, kinds, triple) {
+            return Some(place);
+        }
+    }
+    None
+}
+
+/// Whether the triple makes its subject what it is, and names what it may not.
+fn is_untyped(graph: &Graph, roles: &Roles, kinds: &Kinds, triple: &Triple) -> bool
+    requires table { IsTableOf graph.now roles.now }
+    requires formed { AreNodesFormed graph.now }
+    ensures { IsTrue result ↔ (IsTrue (is_structural graph.now triple.now)
+        × (IsTyped graph.now kinds.now triple.now → ⊥)) }
+{
+    is_structural(roles, triple) && !is_typed(graph, roles, kinds, triple)
+}
+
+/// Whether the triple, which makes its subject what it is, names what it has to.
+fn is_typed(graph: &Graph, roles: &Roles, kinds: &Kinds, triple: &Triple) -> bool
+    requires table { IsTableOf graph.now roles.now }
+    requires formed { AreNodesFormed graph.now }
+    ensures { IsTrue result ↔ IsTyped graph.now kinds.now triple.now }
+{
+    let words = NodeWords::of(graph.about(&triple.subject));
+    is_typed_by(graph, roles, kinds, &words, triple)
+}
+
+/// Whether the triple makes its subject, a node of the graph whose roles these
+/// are, what it is.
+#[tactic(auto, unfolding(rdf_meaning::specs::Nodes::is_structural))]
+pub fn is_structural(roles: &Roles, triple: &Triple) -> bool
+    ensures { (g : List Triple) → IsTableOf g roles.now → result ≡ is_structural g triple.now }
+{
+    is_own(role_of_term(roles, &triple.subject), triple)
+}
+
+/// Whether the triple, which makes its subject what it is, names what it has to;
+/// the words of its subject are given.
+fn is_typed_by(
+    graph: &Graph,
+    roles: &Roles,
+    kinds: &Kinds,
+    words: &NodeWords,
+    triple: &Triple,
+) -> bool
+    requires table { IsTableOf graph.now roles.now }
+    requires formed { AreNodesFormed graph.now }
+    requires words { CountsWords words.now (of_subject graph.now triple.now.subject) }
+    ensures { IsTrue result ↔ IsTyped graph.now kinds.now triple.now }
+{
+    match role_of_term(roles, &triple.subject) {
+        Role::Property | Role::Class | Role::Range | Role::Main => {
+            is_asked_for(graph, roles, kinds, words, triple)
+        }
+        Role::Facet => is_literal(&triple.object),
+        Role::List | Role::Note | Role::Header | Role::Individual => true,
+    }
+}
+
+/// Whether the term is a literal.
+fn is_literal(term: &Term) -> bool
+    ensures { result ≡ is_some (literal_leaf term.now) }
+{
+    match term {
+        Term::Literal(_) => true,
+        Term::Iri(_) | Term::Blank(_) => false,
+    }
+}
