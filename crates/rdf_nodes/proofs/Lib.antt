@@ -1,0 +1,7 @@
+pub mod Steps
+pub mod Holding
+pub mod Passing
+pub mod Scanning
+pub mod Labelling
+pub mod Deepening
+pub mod Knowing

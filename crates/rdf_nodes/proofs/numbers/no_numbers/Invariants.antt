@@ -1,0 +1,5 @@
+use Rattle.rdf_nodes.specs.Numbers.{HaveNone}
+use Rattle.rdf_nodes.proofs.numbers.no_numbers.Given as goal
+
+abbrev pub invariant-loop-node : goal.invariant-loop-node
+invariant-loop-node l = HaveNone l.ids.items

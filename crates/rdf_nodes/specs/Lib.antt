@@ -1,0 +1,6 @@
+pub mod Operands
+pub mod OperandLaws
+pub mod Numbers
+pub mod Large
+pub mod Nodes
+pub mod Depths

@@ -1,0 +1,62 @@
+//! The numbers of what nodes stand for, by their labels.
+
+ghost use Rattle.std.specs.Prelude.{◌+◌, List, IfOk, OnOk};
+ghost use Rattle.owl_tree.specs.Trees.{Tree};
+ghost use Rattle.rdf_roles.specs.Tables.{IsTableOf};
+ghost use Rattle.rdf_nodes.specs.Nodes.{HoldNumbers, HoldNumbersUpTo};
+ghost use Rattle.rdf_nodes.specs.Numbers.{AreNumbered};
+
+use crate::build::is_expression;
+use crate::source::Source;
+use indexmap::IndexMap;
+use owl_arena::ExprId;
+use owl_characters::NoMemory;
+use rdf_terms::Label;
+
+impl<'a> Source<'a> {
+    /// The numbers of what the nodes stand for, by their labels.
+    pub fn by_label(&self, ids: &[Option<ExprId>]) -> Result<IndexMap<Label, ExprId>, NoMemory>
+        requires { IsTableOf self.now.graph.now self.now.roles.now }
+        ensures { (trees : List Tree)
+            → AreNumbered self.now.graph.now self.now.kinds.now self.now.roles.now trees ids.now →
+            IfOk result (λ table.
+            HoldNumbers self.now.graph.now self.now.kinds.now trees table.entries) }
+    {
+        let mut table = IndexMap::new(self.alloc);
+        for number in 0..self.roles.len() {
+            self.add_label(ids, &mut table, number)?;
+        }
+        Ok(table)
+    }
+
+    /// Adds the node with this number, where it is an expression. An expression
+    /// without a number does not occur.
+    fn add_label(
+        &self,
+        ids: &[Option<ExprId>],
+        table: &mut IndexMap<Label, ExprId>,
+        number: usize,
+    ) -> Result<(), NoMemory>
+        requires { IsTableOf self.now.graph.now self.now.roles.now }
+        ensures { (trees : List Tree)
+            → AreNumbered self.now.graph.now self.now.kinds.now self.now.roles.now trees ids.now
+            → HoldNumbersUpTo self.now.graph.now self.now.kinds.now self.now.roles.now trees number
+            table.old.entries →
+            OnOk result (HoldNumbersUpTo self.now.graph.now self.now.kinds.now self.now.roles.now
+            trees (number + 1) table.new.entries) }
+    {
+        let Some(label) = self.roles.node(number) else {
+            return Err(NoMemory);
+        };
+        if !is_expression(self.roles.role(label)) {
+            return Ok(());
+        }
+        let Some(Some(id)) = ids.get(number) else {
+            return Err(NoMemory);
+        };
+        match table.insert(label.copy(self.alloc)?, *id) {
+            Ok(_) => Ok(()),
+            Err(_) => Err(NoMemory),
+        }
+    }
+}
