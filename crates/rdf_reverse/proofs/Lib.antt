@@ -6,3 +6,12 @@ pub mod OneHeader
 pub mod Imports
 pub mod Giving
 pub mod Declaring
+pub mod Scans
+pub mod Reserving
+pub mod Sorting
+pub mod FirstNodes
+pub mod Noting
+pub mod NothingFound
+pub mod Typing
+pub mod Meeting
+pub mod Mistyped

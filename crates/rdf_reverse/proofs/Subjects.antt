@@ -24,7 +24,7 @@ use Rattle.rdf_rows.specs.Chosen.{carriers}
 use Rattle.rdf_rows.specs.CarryingLaws.{by_class}
 use Rattle.rdf_reverse.proofs.Ascents.{less_subject, map_ascends}
 
-any_from : {X : Type 0} (test : X → Bool) (xs : List X) (x : X) → Contains xs x → test x ≡ true → list_any test xs ≡ true
+pub any_from : {X : Type 0} (test : X → Bool) (xs : List X) (x : X) → Contains xs x → test x ≡ true → list_any test xs ≡ true
 any_from test [] x m h = absurd (in_none x m)
 any_from test (y ∷ xs) x m h =
     elim (in_cases y xs x m) [

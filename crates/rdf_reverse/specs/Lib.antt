@@ -1,2 +1,8 @@
 pub mod Outlines
 pub mod Headers
+pub mod Sorts
+pub mod SortLaws
+pub mod Reserved
+pub mod Notes
+pub mod Typed
+pub mod Statements

@@ -59,7 +59,7 @@ fn kind_at(site: Site) -> Option<Kind>
 }
 
 /// As what a triple of rdf:type with this class declares its subject.
-fn kind_declared(word: Word) -> Option<Kind>
+pub(crate) fn kind_declared(word: Word) -> Option<Kind>
     ensures { result ≡ kind_declared word }
 {
     match word {

@@ -4,7 +4,20 @@
 mod declarations;
 mod fault;
 mod header;
+mod notes;
 mod outlines;
+mod reading;
+mod reserved;
+mod sorts;
+mod statements;
+mod typed;
+mod untyped;
 
 pub use fault::OutlineFault;
+pub use notes::first_of_nothing;
 pub use outlines::outline;
+pub use reading::Reading;
+pub use reserved::first_reserved;
+pub use sorts::{TripleSort, sort_of};
+pub use statements::is_typed_axiom;
+pub use untyped::first_untyped_statement;
