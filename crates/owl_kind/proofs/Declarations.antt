@@ -34,7 +34,7 @@ one_of_all AnnotationProperty = (4, omega arith, refl)
 one_of_all Individual = (5, omega arith, refl)
 
 -- one kind of an entry
-declared_is : (e : Entry) (k kind : Kind) (iri : List ℕ) → Contains (declared_as e k) (record { kind = kind; iri = iri }) → (is_marked e.1 k ≡ true) × (k ≡ kind) × (e.0 ≡ iri)
+pub declared_is : (e : Entry) (k kind : Kind) (iri : List ℕ) → Contains (declared_as e k) (record { kind = kind; iri = iri }) → (is_marked e.1 k ≡ true) × (k ≡ kind) × (e.0 ≡ iri)
 declared_is e k kind iri h =
     let d : Entity = record { kind = kind; iri = iri } in
     elim (cases_Bool (is_marked e.1 k)) [

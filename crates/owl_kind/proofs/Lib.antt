@@ -1,3 +1,4 @@
 pub mod Found
 pub mod Declarations
 pub mod Clashes
+mod Ordered

@@ -1,2 +1,4 @@
 pub mod Kinds
 pub mod Marks
+pub mod Order
+pub mod OrderLaws

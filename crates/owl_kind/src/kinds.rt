@@ -1,12 +1,13 @@
 //! What IRIs are declared as.
 
-ghost use Rattle.std.specs.Prelude.{◌≡◌, ◌↔◌, ◌⊎◌, ℕ, List, IsTrue, IfSome, IsNone, OnOk, OnErr, unwrap_or, option_map};
+ghost use Rattle.std.specs.Prelude.{◌≡◌, ◌↔◌, ◌⊎◌, ℕ, List, [], IsTrue, IfSome, IsNone, OnOk, OnErr, unwrap_or, option_map};
 ghost use Rattle.std.specs.BTreeMap.{get};
 ghost use Rattle.std.specs.List.{find};
 ghost use Rattle.std.specs.Map.Iter.{deref, deref_pair};
 ghost use Rattle.owl_characters.specs.Order.{text_cmp};
 ghost use Rattle.owl_kind.specs.declared.kind.Kind.{Kind};
 ghost use Rattle.owl_kind.specs.Kinds.{IsDeclared, HasKind, HasClash, IsFirstClash};
+ghost use Rattle.owl_kind.specs.Order.{AreOrdered};
 ghost use Rattle.owl_kind.specs.Marks.{IsTable, clashes, declared_by, first_that_clashes, no_marks};
 
 use crate::kind::Kind;
@@ -28,6 +29,7 @@ pub struct Kinds {
 impl Model for Kinds {
     ghost use Rattle.std.specs.Prelude.{List};
     ghost use Rattle.owl_kind.specs.Kinds.{Entity};
+    ghost use Rattle.owl_kind.specs.Order.{AreOrdered};
     ghost use Rattle.owl_kind.specs.Marks.{IsTable, declared_by};
 
     ghost Value = { List Entity };
@@ -51,6 +53,14 @@ impl Kinds {
     /// The allocator that it was made with.
     pub fn allocator(&self) -> Global {
         self.alloc
+    }
+
+    /// Whether no IRI is declared. Takes no memory.
+    pub fn is_empty(&self) -> bool
+        ensures empty { IsTrue result ↔ (self.now ≡ []) }
+        ensures ordered { AreOrdered self.now }
+    {
+        self.table.is_empty()
     }
 
     /// Declares the IRI as this kind, besides what it is declared as. At want
