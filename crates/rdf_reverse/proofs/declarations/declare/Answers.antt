@@ -1,6 +1,0 @@
-use Rattle.rdf_reverse.proofs.Declaring.{adds_one}
-use Rattle.rdf_reverse.proofs.declarations.declare.Goals as goal
-
-pub returns-in_ok-declare-clause-ok : goal.returns-in_ok-declare-clause-ok
-returns-in_ok-declare-clause-ok c =
-    adds_one c.args.kinds.now c.declare.new.self _ c.in-Some.kind c.in-Some.iri.now c.in_ok-copy.copy c.in-Some.ensures c.in_ok-copy.ensures c.in_ok-declare.ensures.ok

@@ -1,5 +1,0 @@
-use Rattle.rdf_reverse.proofs.Declaring.{HasDeclared}
-use Rattle.rdf_reverse.proofs.declarations.declare_all.Given as goal
-
-abbrev pub invariant-triples : goal.invariant-triples
-invariant-triples l = HasDeclared l.triple-items l.triple-index l.fn.kinds l.kinds

@@ -1,0 +1,142 @@
+//! Statements that are not the axioms or annotations that they would be.
+
+ghost use Rattle.std.specs.Prelude.{◌≡◌, ◌↔◌, IsTrue, List};
+ghost use Rattle.rdf_faults.specs.Asked.{IsMet, IsTypedAxiom};
+ghost use Rattle.rdf_graph.specs.declared.term.Term.TheVariants as held;
+ghost use Rattle.rdf_graph.specs.declared.triple.Triple.{Triple};
+ghost use Rattle.rdf_meaning.specs.Denotation.{kind_of_entity};
+ghost use Rattle.rdf_meaning.specs.Nodes.{nil_iri};
+ghost use Rattle.rdf_meaning.specs.Rows.{row_seen};
+ghost use Rattle.rdf_scans.specs.Sorts.{IsReading};
+ghost use Rattle.rdf_scans.specs.Statements.{IsAxiomBy, IsMetBy, IsMetIn, declared_as};
+
+use crate::reading::Reading;
+use crate::reserved::may_be_declared;
+use crate::sorts::has_kind;
+use crate::typed::iri_is_of;
+use owl_kind::{Kind, Kinds};
+use owl_tree::Tag;
+use rdf_graph::{Term, Triple};
+use rdf_meaning::{Part, Place, Row, Site, Want, axiom_rows};
+use rdf_rows::site_of;
+use rdf_terms::Iri;
+
+/// Whether the triple is an axiom by its terms: what a row for it wants is what
+/// these stand for (Mapping to RDF Graphs, tables 16 and 17). Takes no memory.
+pub fn is_typed_axiom(reading: &Reading, triple: &Triple) -> bool
+    requires { IsReading reading.now }
+    ensures { IsTrue result
+        ↔ IsTypedAxiom reading.now.graph.now reading.now.kinds.now triple.now }
+{
+    'rows: for row in axiom_rows() {
+        if is_axiom_by(reading, row, triple) {
+            return true;
+        }
+    }
+    false
+}
+
+/// Whether the triple is an axiom by this row.
+fn is_axiom_by(reading: &Reading, row: &Row, triple: &Triple) -> bool
+    requires { IsReading reading.now }
+    ensures { IsTrue result ↔ IsAxiomBy reading.now triple.now (row_seen row.now) }
+{
+    is_same_site(row.site, site_of(triple)) && are_met(reading, row.parts, triple)
+}
+
+/// Whether the sites are the same.
+fn is_same_site(site: Site, other: Site) -> bool
+    ensures { IsTrue result ↔ (site ≡ other) }
+{
+    match (site, other) {
+        (Site::Node(role), Site::Node(same)) => role == same,
+        (Site::TypedBy(word), Site::TypedBy(same)) => word == same,
+        (Site::OtherType, Site::OtherType) => true,
+        (Site::LinkedBy(word), Site::LinkedBy(same)) => word == same,
+        (Site::OtherLink, Site::OtherLink) => true,
+        _ => false,
+    }
+}
+
+/// Whether the terms of the triple are what all of the parts want.
+fn are_met(reading: &Reading, parts: &[Part], triple: &Triple) -> bool
+    requires { IsReading reading.now }
+    ensures { IsTrue result ↔ IsMetBy reading.now triple.now parts.now }
+{
+    'parts: for part in parts {
+        if !is_met_at(reading, *part, triple) {
+            return false;
+        }
+    }
+    true
+}
+
+/// Whether the term of the triple at the part's place is what the part wants.
+fn is_met_at(reading: &Reading, part: Part, triple: &Triple) -> bool
+    requires { IsReading reading.now }
+    ensures { IsTrue result ↔ IsMetIn reading.now triple.now part }
+{
+    match part.place {
+        Place::At(_) => true,
+        Place::Subject => is_met(reading, part.want, &triple.subject),
+        Place::Predicate => is_met_by_iri(reading.kinds, part.want, &triple.predicate),
+        Place::Object => is_met(reading, part.want, &triple.object),
+    }
+}
+
+/// Whether the term is what is wanted.
+fn is_met(reading: &Reading, want: Want, term: &Term) -> bool
+    requires { IsReading reading.now }
+    ensures { IsTrue result ↔ IsMet reading.now.graph.now reading.now.kinds.now want term.now }
+{
+    rdf_asked::is_met(reading.graph, reading.roles, reading.kinds, want, term)
+}
+
+/// Whether the IRI is what is wanted.
+fn is_met_by_iri(kinds: &Kinds, want: Want, iri: &Iri) -> bool
+    ensures { (g : List Triple) → IsTrue result ↔ IsMet g kinds.now want (held.Iri iri.now) }
+{
+    match want {
+        Want::One(sort) => iri_is_of(kinds, sort, iri),
+        Want::Many(_, least) => is_nil_iri(iri) && least == 0,
+        Want::Whole(_, _, least) => is_nil_iri(iri) && least == 0,
+        Want::Keys => false,
+        Want::Declared(tag) => declared_as(kinds, kind_of_entity(tag), iri),
+        Want::Mark => true,
+        Want::True => false,
+    }
+}
+
+/// Whether the IRI is rdf:nil.
+fn is_nil_iri(iri: &Iri) -> bool
+    ensures { IsTrue result ↔ (iri.now ≡ nil_iri) }
+{
+    iri.is("http://www.w3.org/1999/02/22-rdf-syntax-ns#nil")
+}
+
+/// The kind of the entities with the tag.
+fn kind_of_entity(tag: Tag) -> Option<Kind>
+    ensures { result ≡ kind_of_entity tag }
+{
+    match tag {
+        Tag::Class => Some(Kind::Class),
+        Tag::Datatype => Some(Kind::Datatype),
+        Tag::ObjectProperty => Some(Kind::ObjectProperty),
+        Tag::DataProperty => Some(Kind::DataProperty),
+        Tag::AnnotationProperty => Some(Kind::AnnotationProperty),
+        Tag::NamedIndividual => Some(Kind::Individual),
+        _ => None,
+    }
+}
+
+/// Whether the IRI is declared as this kind, and may be. Every IRI may stand for an
+/// individual.
+fn declared_as(kinds: &Kinds, kind: Option<Kind>, iri: &Iri) -> bool
+    ensures { result ≡ declared_as kinds.now kind iri.now }
+{
+    match kind {
+        Some(Kind::Individual) => may_be_declared(Kind::Individual, iri),
+        Some(kind) => has_kind(kinds, kind, iri) && may_be_declared(kind, iri),
+        None => false,
+    }
+}
