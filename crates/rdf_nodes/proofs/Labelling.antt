@@ -16,6 +16,7 @@ use Rattle.rdf_meaning.specs.declared.role.Role.{Role}
 use Rattle.rdf_meaning.specs.Nodes.{role_of}
 use Rattle.rdf_roles.specs.NodeLaws.{no_role_of_others}
 use Rattle.rdf_roles.specs.Tables.{IsTableOf, RoleTable, blank_nodes, with_role}
+use Rattle.tree_stores.specs.Stores.{HasNumber}
 use Rattle.rdf_nodes.specs.Nodes.{HoldNumbers, HoldNumbersUpTo, NumberTable, entry_of}
 use Rattle.rdf_nodes.specs.Numbers.{AreNumbered, IsDenotedAs, IsNumbered}
 use Rattle.rdf_nodes.specs.Operands.{labels, sort_of}
@@ -82,15 +83,15 @@ module _ (g : List Triple) (k : List Entity) (roles : RoleTable) (trees : List T
   record IsPut (old new : NumberTable) (label : List ℕ) (id : ℕ) : Type 0 where
     put : (other : List ℕ) → entry_of new other ≡ cond (text_eq label other) (Some id) (entry_of old other)
 
-  held_put : (old new : NumberTable) (label : List ℕ) (id : ℕ) → IsPut old new label id → IsDenotedAs g k trees (Blank label) id →
-      ((other : List ℕ) → IfSome (entry_of old other) (IsDenotedAs g k trees (Blank other))) → (other : List ℕ) → IfSome (entry_of new other) (IsDenotedAs g k trees (Blank other))
+  held_put : (old new : NumberTable) (label : List ℕ) (id : ℕ) → IsPut old new label id → IsDenotedAs g k (HasNumber trees) (Blank label) id →
+      ((other : List ℕ) → IfSome (entry_of old other) (IsDenotedAs g k (HasNumber trees) (Blank other))) → (other : List ℕ) → IfSome (entry_of new other) (IsDenotedAs g k (HasNumber trees) (Blank other))
   held_put old new label id p d h other =
       elim (cases_Bool (text_eq label other)) [
         | inl e ↦
             let same = (bytes_eq-Decides label other).0 e in
-            subst (λ l. IfSome (entry_of new other) (IsDenotedAs g k trees (Blank l))) same
-            (subst (λ o. IfSome o (IsDenotedAs g k trees (Blank label))) (sym (p.put other ∙ cond-true (text_eq label other) (Some id) (entry_of old other) e)) d)
-        | inr e ↦ subst (λ o. IfSome o (IsDenotedAs g k trees (Blank other))) (sym (p.put other ∙ cond-false (text_eq label other) (Some id) (entry_of old other) e)) (h other)
+            subst (λ l. IfSome (entry_of new other) (IsDenotedAs g k (HasNumber trees) (Blank l))) same
+            (subst (λ o. IfSome o (IsDenotedAs g k (HasNumber trees) (Blank label))) (sym (p.put other ∙ cond-true (text_eq label other) (Some id) (entry_of old other) e)) d)
+        | inr e ↦ subst (λ o. IfSome o (IsDenotedAs g k (HasNumber trees) (Blank other))) (sym (p.put other ∙ cond-false (text_eq label other) (Some id) (entry_of old other) e)) (h other)
       ]
 
   absent_before : (old new : NumberTable) (label : List ℕ) (id : ℕ) → IsPut old new label id → (other : List ℕ) → IsNone (entry_of new other) → IsNone (entry_of old other)
@@ -104,14 +105,14 @@ module _ (g : List Triple) (k : List Entity) (roles : RoleTable) (trees : List T
   put_there old new label id p none =
       some_is (entry_of new label) id (p.put label ∙ cond-true (text_eq label label) (Some id) (entry_of old label) ((bytes_eq-Decides label label).1 refl)) none
 
-  numbered_denoted : (node : ℕ) (label : List ℕ) (id : ℕ) → slice_get (labels roles) node ≡ Some label → IsNumbered g k roles trees node id → IsDenotedAs g k trees (Blank label) id
+  numbered_denoted : (node : ℕ) (label : List ℕ) (id : ℕ) → slice_get (labels roles) node ≡ Some label → IsNumbered g k roles (HasNumber trees) node id → IsDenotedAs g k (HasNumber trees) (Blank label) id
   numbered_denoted node label id at n =
       let same = same_Some n.denoted.label label (sym n.denoted.at ∙ at) in
-      subst (λ l. IsDenotedAs g k trees (Blank l) id) same
+      subst (λ l. IsDenotedAs g k (HasNumber trees) (Blank l) id) same
       (record { tree = n.tree; own = record { sort = n.denoted.sort; gives = n.denoted.gives; denotes = n.denoted.denotes }; held = n.held })
 
   -- an expression gets its number
-  pub one_more_held : (ids : List (Option ℕ)) (number : ℕ) (old new : NumberTable) (label copied : List ℕ) (id : ℕ) → AreNumbered g k roles trees ids → slice_get (labels roles) number ≡ Some label →
+  pub one_more_held : (ids : List (Option ℕ)) (number : ℕ) (old new : NumberTable) (label copied : List ℕ) (id : ℕ) → AreNumbered g k roles (HasNumber trees) ids → slice_get (labels roles) number ≡ Some label →
       slice_get ids number ≡ Some (Some id) → copied ≡ label → ((other : List ℕ) → entry_of new other ≡ cond (text_eq copied other) (Some id) (entry_of old other)) →
       HoldNumbersUpTo g k roles trees number old → HoldNumbersUpTo g k roles trees (number + 1) new
   one_more_held ids number old new label copied id are at found same put h =
@@ -140,7 +141,7 @@ module _ (g : List Triple) (k : List Entity) (roles : RoleTable) (trees : List T
         | inr other ↦ role_given label _ (no_role_of_others g label (λ m. other (subst (λ ls. Contains ls label) (sym all) m))) refl
       ]
 
-  no_entry : (label : List ℕ) (found : Option ℕ) → IfSome found (IsDenotedAs g k trees (Blank label)) → sort_of (role_of g (Blank label)) ≡ None → IsNone found
+  no_entry : (label : List ℕ) (found : Option ℕ) → IfSome found (IsDenotedAs g k (HasNumber trees) (Blank label)) → sort_of (role_of g (Blank label)) ≡ None → IsNone found
   no_entry label None d none = refl
   no_entry label (Some id) d none = absurd (none-some d.own.sort (sym none ∙ d.own.gives))
 

@@ -3,5 +3,4 @@ pub mod Holding
 pub mod Passing
 pub mod Scanning
 pub mod Labelling
-pub mod Deepening
 pub mod Knowing

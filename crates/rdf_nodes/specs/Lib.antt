@@ -3,4 +3,3 @@ pub mod OperandLaws
 pub mod Numbers
 pub mod Large
 pub mod Nodes
-pub mod Depths

@@ -8,13 +8,13 @@ use Rattle.rdf_graph.specs.declared.term.Term.TheVariants.{Blank}
 use Rattle.rdf_graph.specs.declared.triple.Triple.{Triple}
 use Rattle.rdf_meaning.specs.Nodes.{role_of}
 use Rattle.rdf_roles.specs.Tables.{RoleTable}
-use Rattle.rdf_nodes.specs.declared.build.TreeFault.{TreeFault}
-use Rattle.rdf_nodes.specs.declared.build.TreeFault.TheVariants as tree_fault
+use Rattle.tree_stores.specs.declared.fault.TreeFault.{TreeFault}
+use Rattle.tree_stores.specs.declared.fault.TreeFault.TheVariants as tree_fault
+use Rattle.tree_stores.specs.Stores.{HasNumber}
 use Rattle.rdf_nodes.specs.declared.fault.DenoteFault.{DenoteFault}
 use Rattle.rdf_nodes.specs.declared.fault.DenoteFault.TheVariants.{NumberTooLarge, TooDeep, TooHeavy, Memory}
-use Rattle.rdf_nodes.specs.Depths.{AreShallow}
 use Rattle.rdf_nodes.specs.Large.{HasLargeNumber}
-use Rattle.rdf_nodes.specs.Numbers.{IsDenotedAs, IsSomeNodeFault}
+use Rattle.rdf_nodes.specs.Numbers.{AreShallow, IsDenotedAs, IsSomeNodeFault}
 use Rattle.rdf_nodes.specs.Operands.{labels, sort_of}
 
 -- labels with numbers
@@ -27,12 +27,12 @@ entry_of entries label = lookup (text_eq label) entries
 
 -- each label of an expression, and no other, has the number of what it denotes
 pub record HoldNumbers (g : List Triple) (k : List Entity) (trees : List Tree) (entries : NumberTable) : Type 0 where
-  pub each : (label : List ℕ) → IfSome (entry_of entries label) (IsDenotedAs g k trees (Blank label))
+  pub each : (label : List ℕ) → IfSome (entry_of entries label) (IsDenotedAs g k (HasNumber trees) (Blank label))
   pub none : (label : List ℕ) → IsNone (entry_of entries label) ↔ (sort_of (role_of g (Blank label)) ≡ None)
 
 -- so for the labels of the nodes below this number
 pub record HoldNumbersUpTo (g : List Triple) (k : List Entity) (roles : RoleTable) (trees : List Tree) (number : ℕ) (entries : NumberTable) : Type 0 where
-  pub each : (label : List ℕ) → IfSome (entry_of entries label) (IsDenotedAs g k trees (Blank label))
+  pub each : (label : List ℕ) → IfSome (entry_of entries label) (IsDenotedAs g k (HasNumber trees) (Blank label))
   pub none : (node : ℕ) (label : List ℕ) → node < number → slice_get (labels roles) node ≡ Some label → IsNone (entry_of entries label) →
       sort_of (role_of g (Blank label)) ≡ None
 

@@ -1,117 +1,69 @@
-//! The trees of forms in an arena.
+//! The numbers of forms in a store of trees.
 
-ghost use Rattle.std.specs.Prelude.{◌≡◌, ◌↔◌, IfErr, IfOk, IfSome, IsNone, List, None, Some, is_some};
-ghost use Rattle.owl_tree.specs.Trees.{Tree, kids_of, leaf, node};
+ghost use Rattle.std.specs.Prelude.{◌≡◌, IfErr, IfOk, IfSome, Some, is_some};
+ghost use Rattle.owl_tree.specs.Trees.{Tree};
 ghost use Rattle.rdf_graph.specs.declared.term.Term.{Term};
 ghost use Rattle.rdf_graph.specs.declared.term.Term.TheVariants as held;
 ghost use Rattle.rdf_meaning.specs.Nodes.{role_of};
 ghost use Rattle.rdf_roles.specs.Tables.{IsTableOf};
-ghost use Rattle.owl_arena.specs.Held.{AreHeld};
-ghost use Rattle.rdf_nodes.specs.Numbers.{AllStand, AreNumbered, HasNumber, HaveNumbers, IsDenotedAs, IsExpression, IsNodeFault, IsTreeFault, Keeps, StandsFor};
+ghost use Rattle.rdf_nodes.specs.Numbers.{AllStand, AreNumbered, IsDenotedAs, IsExpression, IsNodeFault, StandsFor};
 ghost use Rattle.rdf_nodes.specs.Operands.{own_tree, sort_of};
-ghost use Rattle.rdf_nodes.specs.declared.build.TreeFault.{TreeFault};
 ghost use Rattle.rdf_nodes.specs.declared.form.Operand.TheVariants as operand;
+ghost use Rattle.tree_stores.specs.Stores.{Keeps};
 
 use crate::form::{Form, Operand};
 use crate::source::Source;
-use owl_arena::{Arena, ExprId, Grow};
 use owl_characters::NoMemory;
 use owl_tree::{Atom, Tag};
 use rdf_meaning::Role;
 use rdf_terms::{Iri, Label, Literal};
 use std::alloc::{AllocError, Global};
-use thiserror::Error;
-
-/// Why a form has no tree in an arena.
-#[derive(Clone, Copy, Debug, PartialEq, Eq, Error)]
-pub enum TreeFault {
-    /// The tree is more than 128 levels deep.
-    #[error("the expression is too deep")]
-    TooDeep,
-    /// The tree has more than 2^24 nodes and leaves.
-    #[error("the expression is too heavy")]
-    TooHeavy,
-    /// Memory ran out.
-    #[error("out of memory")]
-    Memory,
-}
-
-impl From<NoMemory> for TreeFault {
-    ghost from_gives = { λ _ e. e ≡ TreeFault.Memory };
-
-    fn from(_e: NoMemory) -> TreeFault {
-        TreeFault::Memory
-    }
-}
-
-/// The number of the leaf.
-fn hold_leaf(arena: &mut Arena, tag: Tag, atom: Atom) -> Result<ExprId, NoMemory>
-    ensures held { IfOk result (HasNumber arena.new.trees (leaf tag atom)) }
-    ensures kept { Keeps arena.old.trees arena.new.trees }
-{
-    arena.leaf(tag, atom).map_err(|_| NoMemory)
-}
-
-/// The number of the node with the tag over the trees that have these numbers.
-fn hold_node(arena: &mut Arena, tag: Tag, kids: Vec<ExprId>) -> Result<ExprId, TreeFault>
-    requires { AreHeld arena.old.trees kids.items }
-    ensures held { (ts : List Tree) → HaveNumbers arena.old.trees ts kids.items →
-        IfOk result (HasNumber arena.new.trees (node tag (kids_of ts))) }
-    ensures fault { (ts : List Tree) → HaveNumbers arena.old.trees ts kids.items →
-        IfErr result (IsTreeFault (node tag (kids_of ts))) }
-    ensures kept { Keeps arena.old.trees arena.new.trees }
-{
-    match arena.node(tag, kids) {
-        Ok(id) => Ok(id),
-        Err(Grow::TooDeep) => Err(TreeFault::TooDeep),
-        Err(Grow::TooHeavy) => Err(TreeFault::TooHeavy),
-        Err(Grow::BadShape | Grow::TooMany | Grow::Memory) => Err(TreeFault::Memory),
-    }
-}
+use tree_stores::{TreeFault, TreeStore};
 
 /// The number of the facet and its value.
-fn hold_facet(
+fn hold_facet<S: TreeStore>(
     alloc: Global,
-    arena: &mut Arena,
+    store: &mut S,
     facet: Iri,
     value: Literal,
-) -> Result<ExprId, NoMemory>
-    ensures held { IfOk result (λ id. (t : Tree) → own_tree (operand.Facet facet value) ≡ Some t →
-        HasNumber arena.new.trees t id) }
-    ensures kept { Keeps arena.old.trees arena.new.trees }
+) -> Result<S::Number, NoMemory>
+    ensures held { IfOk result (λ n. (t : Tree) → own_tree (operand.Facet facet value) ≡ Some t →
+        S.stands store.new t n) }
+    ensures kept { Keeps (S.stands store.old) (S.stands store.new) }
 {
-    let facet = hold_leaf(arena, Tag::Facet, Atom::Iri(facet))?;
-    let value = hold_leaf(arena, Tag::Literal, Atom::Literal(value))?;
+    let facet = store.hold_leaf(Tag::Facet, Atom::Iri(facet))?;
+    let value = store.hold_leaf(Tag::Literal, Atom::Literal(value))?;
     let mut kids = Vec::new(alloc);
     kids.push(facet).map_err(AllocError::from)?;
     kids.push(value).map_err(AllocError::from)?;
-    match hold_node(arena, Tag::FacetPair, kids) {
-        Ok(id) => Ok(id),
+    match store.hold_node(Tag::FacetPair, kids) {
+        Ok(number) => Ok(number),
         Err(_) => Err(NoMemory),
     }
 }
 
 impl<'a> Source<'a> {
-    /// The number of the tree that the operand stands for.
-    fn hold(
+    /// The number of the tree that the operand stands for, where the numbers of the
+    /// nodes below it are known.
+    pub fn hold_operand<S: TreeStore>(
         &self,
-        arena: &mut Arena,
-        ids: &[Option<ExprId>],
+        store: &mut S,
+        ids: &[Option<S::Number>],
         operand: &Operand,
-    ) -> Result<ExprId, NoMemory>
+    ) -> Result<S::Number, NoMemory>
         requires { AreNumbered self.now.graph.now self.now.kinds.now self.now.roles.now
-            arena.old.trees ids.now }
+            (S.stands store.old) ids.now }
         ensures held { IfOk result (
-            StandsFor self.now.graph.now self.now.kinds.now self.now.roles.now arena.new.trees
-            operand.now) }
-        ensures kept { Keeps arena.old.trees arena.new.trees }
+            StandsFor self.now.graph.now self.now.kinds.now self.now.roles.now
+            (S.stands store.new) operand.now) }
+        ensures kept { Keeps (S.stands store.old) (S.stands store.new) }
     {
         let _graph = self.graph;
         match operand {
-            Operand::Leaf(tag, atom) => hold_leaf(arena, *tag, atom.copy(self.alloc)?),
+            Operand::Leaf(tag, atom) => store.hold_leaf(*tag, atom.copy(self.alloc)?),
             Operand::Facet(facet, value) => {
                 let facet = facet.copy(self.alloc)?;
-                hold_facet(self.alloc, arena, facet, value.copy(self.alloc)?)
+                hold_facet(self.alloc, store, facet, value.copy(self.alloc)?)
             }
             Operand::Node(number) => match ids.get(*number) {
                 Some(Some(id)) => Ok(*id),
@@ -120,23 +72,24 @@ impl<'a> Source<'a> {
         }
     }
 
-    /// The numbers of the trees that the operands stand for.
-    fn hold_all(
+    /// The numbers of the trees that the operands stand for, where those of the
+    /// nodes below them are known.
+    pub fn hold_operands<S: TreeStore>(
         &self,
-        arena: &mut Arena,
-        ids: &[Option<ExprId>],
+        store: &mut S,
+        ids: &[Option<S::Number>],
         operands: &[Operand],
-    ) -> Result<Vec<ExprId>, NoMemory>
+    ) -> Result<Vec<S::Number>, NoMemory>
         requires { AreNumbered self.now.graph.now self.now.kinds.now self.now.roles.now
-            arena.old.trees ids.now }
+            (S.stands store.old) ids.now }
         ensures held { IfOk result (λ kids. AllStand self.now.graph.now self.now.kinds.now
-            self.now.roles.now arena.new.trees operands.now kids.items) }
-        ensures kept { Keeps arena.old.trees arena.new.trees }
+            self.now.roles.now (S.stands store.new) operands.now kids.items) }
+        ensures kept { Keeps (S.stands store.old) (S.stands store.new) }
     {
         let mut kids = Vec::new(self.alloc);
         let mut rest = operands;
         while let Some((operand, behind)) = rest.split_first() {
-            let kid = self.hold(arena, ids, operand)?;
+            let kid = self.hold_operand(store, ids, operand)?;
             kids.push(kid).map_err(AllocError::from)?;
             rest = behind;
         }
@@ -145,45 +98,44 @@ impl<'a> Source<'a> {
 
     /// The number of the tree that a node with this form denotes, where the
     /// numbers of the nodes below it are known.
-    pub fn tree(
+    fn tree<S: TreeStore>(
         &self,
-        arena: &mut Arena,
-        ids: &[Option<ExprId>],
+        store: &mut S,
+        ids: &[Option<S::Number>],
         form: &Form,
-    ) -> Result<ExprId, TreeFault>
+    ) -> Result<S::Number, TreeFault>
         requires { AreNumbered self.now.graph.now self.now.kinds.now self.now.roles.now
-            arena.old.trees ids.now }
+            (S.stands store.old) ids.now }
         ensures held { (x : Term)
             → IsExpression self.now.graph.now self.now.kinds.now self.now.roles.now x form.now →
-            IfOk result (IsDenotedAs self.now.graph.now self.now.kinds.now arena.new.trees x) }
+            IfOk result (IsDenotedAs self.now.graph.now self.now.kinds.now (S.stands store.new)
+            x) }
         ensures fault { (x : Term)
             → IsExpression self.now.graph.now self.now.kinds.now self.now.roles.now x form.now →
             IfErr result (IsNodeFault self.now.graph.now self.now.kinds.now x) }
-        ensures kept { Keeps arena.old.trees arena.new.trees }
+        ensures kept { Keeps (S.stands store.old) (S.stands store.new) }
     {
-        let kids = self.hold_all(arena, ids, &form.operands)?;
-        hold_node(arena, form.tag, kids)
+        let kids = self.hold_operands(store, ids, &form.operands)?;
+        store.hold_node(form.tag, kids)
     }
 
     /// The number of the tree that the node denotes, where those of the nodes
     /// below it are known; none where the node is no expression.
-    pub fn denoted(
+    pub(crate) fn denoted<S: TreeStore>(
         &self,
-        arena: &mut Arena,
-        ids: &[Option<ExprId>],
+        store: &mut S,
+        ids: &[Option<S::Number>],
         label: &Label,
-    ) -> Result<Option<ExprId>, TreeFault>
+    ) -> Result<Option<S::Number>, TreeFault>
         requires table { IsTableOf self.now.graph.now self.now.roles.now }
         requires numbered { AreNumbered self.now.graph.now self.now.kinds.now self.now.roles.now
-            arena.old.trees ids.now }
+            (S.stands store.old) ids.now }
         ensures held { IfOk result (λ found. IfSome found (
-            IsDenotedAs self.now.graph.now self.now.kinds.now arena.new.trees
+            IsDenotedAs self.now.graph.now self.now.kinds.now (S.stands store.new)
             (held.Blank label.now))) }
-        ensures none { IfOk result (λ found. IsNone found
-            ↔ (sort_of (role_of self.now.graph.now (held.Blank label.now)) ≡ None)) }
         ensures fault { IfErr result (
             IsNodeFault self.now.graph.now self.now.kinds.now (held.Blank label.now)) }
-        ensures kept { Keeps arena.old.trees arena.new.trees }
+        ensures kept { Keeps (S.stands store.old) (S.stands store.new) }
     {
         if !is_expression(self.roles.role(label)) {
             return Ok(None);
@@ -191,7 +143,7 @@ impl<'a> Source<'a> {
         let Some(form) = self.form(label)? else {
             return Err(TreeFault::Memory);
         };
-        match self.tree(arena, ids, &form) {
+        match self.tree(store, ids, &form) {
             Ok(id) => Ok(Some(id)),
             Err(fault) => Err(fault),
         }

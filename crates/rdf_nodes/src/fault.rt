@@ -4,9 +4,9 @@ ghost use Rattle.std.specs.Prelude.{◌≡◌};
 ghost use Rattle.rdf_nodes.specs.declared.fault.DenoteFault.TheVariants.{Memory};
 ghost use Rattle.rdf_nodes.specs.Nodes.{fault_of};
 
-use crate::build::TreeFault;
 use owl_characters::NoMemory;
 use thiserror::Error;
+use tree_stores::TreeFault;
 
 /// Why what the nodes of a graph stand for has no place in an arena.
 #[derive(Clone, Copy, Debug, PartialEq, Eq, Error)]

@@ -16,7 +16,6 @@ mod source;
 mod table;
 mod terms;
 
-pub use build::TreeFault;
 pub use fault::DenoteFault;
 pub use form::{Form, Operand};
 pub use laws::forms_denote;

@@ -9,8 +9,9 @@ ghost use Rattle.rdf_meaning.specs.Kinds.{HaveNoClash};
 ghost use Rattle.rdf_meaning.specs.Nodes.{role_of};
 ghost use Rattle.rdf_roles.specs.Tables.{IsTableOf};
 ghost use Rattle.rdf_nodes.specs.Nodes.{AreDenoted, IsDenoteFault};
-ghost use Rattle.rdf_nodes.specs.Numbers.{IsDenotedAs, Keeps};
+ghost use Rattle.rdf_nodes.specs.Numbers.{IsDenotedAs};
 ghost use Rattle.rdf_nodes.specs.Operands.{sort_of};
+ghost use Rattle.tree_stores.specs.Stores.{HasNumber, Keeps};
 
 use crate::fault::DenoteFault;
 use crate::source::Source;
@@ -44,7 +45,7 @@ impl Nodes {
     pub fn expression(&self, node: &Label) -> Option<ExprId>
         ensures number { (g : List Triple) (k : List Entity) (trees : List Tree)
             → AreDenoted g k trees self.now →
-            IfSome result (IsDenotedAs g k trees (Blank node.now)) }
+            IfSome result (IsDenotedAs g k (HasNumber trees) (Blank node.now)) }
         ensures none { (g : List Triple) (k : List Entity) (trees : List Tree)
             → AreDenoted g k trees self.now
             → IsNone result ↔ (sort_of (role_of g (Blank node.now)) ≡ None) }
@@ -71,7 +72,7 @@ pub fn denote(
     requires kinds { HaveNoClash kinds.now }
     ensures nodes { IfOk result (AreDenoted graph.now kinds.now arena.new.trees) }
     ensures fault { IfErr result (IsDenoteFault graph.now kinds.now) }
-    ensures kept { Keeps arena.old.trees arena.new.trees }
+    ensures kept { Keeps (HasNumber arena.old.trees) (HasNumber arena.new.trees) }
 {
     let source = Source {
         alloc,

@@ -1,33 +1,53 @@
 //! The numbers of what the nodes denote.
 
-ghost use Rattle.std.specs.Prelude.{IfErr, IfOk, OnOk};
+ghost use Rattle.std.specs.Prelude.{IfErr, IfOk, IsTrue, OnOk};
+ghost use Rattle.rdf_meaning.specs.Kinds.{HaveNoClash};
 ghost use Rattle.rdf_roles.specs.Tables.{IsTableOf};
-ghost use Rattle.rdf_nodes.specs.Numbers.{AreNumbered, HaveNone, IsSomeNodeFault, Keeps};
+ghost use Rattle.rdf_nodes.specs.Numbers.{AreAllHeld, AreKnown, AreNumbered, HaveNone, IsKnown, IsSomeNodeFault};
+ghost use Rattle.tree_stores.specs.Stores.{Keeps};
 
-use crate::build::TreeFault;
+use crate::build::is_expression;
 use crate::source::Source;
-use owl_arena::{Arena, ExprId};
 use owl_characters::NoMemory;
 use std::alloc::{AllocError, Global};
+use tree_stores::{TreeFault, TreeStore};
 
 impl<'a> Source<'a> {
-    /// The numbers of the trees that the nodes denote, by the numbers of the
-    /// nodes; those of the nodes below a node are found before its own.
+    /// The numbers that the store has for the trees that the nodes denote, by the
+    /// numbers of the nodes; none for a node that is no expression. The numbers of
+    /// the nodes below a node are found before its own.
     ///
-    /// `TooDeep` where some node denotes a tree of more than 128 levels;
-    /// `TooHeavy` where one denotes a tree with more than 2^24 nodes and leaves,
-    /// which is not too deep. The arena keeps the trees that it had.
-    pub fn numbers(&self, arena: &mut Arena) -> Result<Vec<Option<ExprId>>, TreeFault>
+    /// `TooDeep` where some node denotes a tree of more than 128 levels; `TooHeavy`
+    /// where one denotes a tree with more than 2^24 nodes and leaves. The store
+    /// keeps the trees that it had, at their numbers, also where this refuses.
+    pub fn numbers<S: TreeStore>(&self, store: &mut S) -> Result<Vec<Option<S::Number>>, TreeFault>
         requires { IsTableOf self.now.graph.now self.now.roles.now }
         ensures numbered { IfOk result (λ ids. AreNumbered self.now.graph.now self.now.kinds.now
-            self.now.roles.now arena.new.trees ids.items) }
+            self.now.roles.now (S.stands store.new) ids.items) }
+        ensures all { OnOk result (HaveNoClash self.now.kinds.now →
+            AreAllHeld self.now.graph.now self.now.kinds.now (S.stands store.new)) }
         ensures fault { IfErr result (IsSomeNodeFault self.now.graph.now self.now.kinds.now) }
-        ensures kept { Keeps arena.old.trees arena.new.trees }
+        ensures kept { Keeps (S.stands store.old) (S.stands store.new) }
+    {
+        match self.add_numbers(store) {
+            Ok(ids) if self.are_known(&ids) => Ok(ids),
+            Ok(_) => Err(TreeFault::Memory),
+            Err(fault) => Err(fault),
+        }
+    }
+
+    /// The numbers of the nodes, as they are found one by one.
+    fn add_numbers<S: TreeStore>(&self, store: &mut S) -> Result<Vec<Option<S::Number>>, TreeFault>
+        requires { IsTableOf self.now.graph.now self.now.roles.now }
+        ensures numbered { IfOk result (λ ids. AreNumbered self.now.graph.now self.now.kinds.now
+            self.now.roles.now (S.stands store.new) ids.items) }
+        ensures fault { IfErr result (IsSomeNodeFault self.now.graph.now self.now.kinds.now) }
+        ensures kept { Keeps (S.stands store.old) (S.stands store.new) }
     {
         let mut ids = no_numbers(self.alloc, self.roles.len())?;
         let mut rest = self.roles.order();
         while let Some((number, behind)) = rest.split_first() {
-            match self.add_number(arena, &mut ids, *number) {
+            match self.add_number(store, &mut ids, *number) {
                 Ok(()) => rest = behind,
                 Err(fault) => return Err(fault),
             }
@@ -37,24 +57,24 @@ impl<'a> Source<'a> {
 
     /// Adds the number of the tree that the node with this number denotes, where
     /// those of the nodes below it are known.
-    fn add_number(
+    fn add_number<S: TreeStore>(
         &self,
-        arena: &mut Arena,
-        ids: &mut Vec<Option<ExprId>>,
+        store: &mut S,
+        ids: &mut Vec<Option<S::Number>>,
         number: usize,
     ) -> Result<(), TreeFault>
         requires table { IsTableOf self.now.graph.now self.now.roles.now }
         requires numbered { AreNumbered self.now.graph.now self.now.kinds.now self.now.roles.now
-            arena.old.trees ids.old.items }
+            (S.stands store.old) ids.old.items }
         ensures numbered { OnOk result (AreNumbered self.now.graph.now self.now.kinds.now
-            self.now.roles.now arena.new.trees ids.new.items) }
+            self.now.roles.now (S.stands store.new) ids.new.items) }
         ensures fault { IfErr result (IsSomeNodeFault self.now.graph.now self.now.kinds.now) }
-        ensures kept { Keeps arena.old.trees arena.new.trees }
+        ensures kept { Keeps (S.stands store.old) (S.stands store.new) }
     {
         let Some(label) = self.roles.node(number) else {
             return Err(TreeFault::Memory);
         };
-        match self.denoted(arena, ids, label) {
+        match self.denoted(store, ids, label) {
             Ok(found) if number < ids.len() => {
                 ids[number] = found;
                 Ok(())
@@ -63,10 +83,41 @@ impl<'a> Source<'a> {
             Err(fault) => Err(fault),
         }
     }
+
+    /// Whether each node that is an expression has a number, which is always so.
+    fn are_known<N: Copy>(&self, ids: &[Option<N>]) -> bool
+        requires { IsTableOf self.now.graph.now self.now.roles.now }
+        ensures { IsTrue result → AreKnown self.now.graph.now self.now.roles.now ids.now }
+    {
+        for number in 0..self.roles.len() {
+            if !self.is_known(ids, number) {
+                return false;
+            }
+        }
+        true
+    }
+
+    /// Whether the node with this number, where it is an expression, has a number
+    /// of a tree.
+    fn is_known<N: Copy>(&self, ids: &[Option<N>], number: usize) -> bool
+        requires { IsTableOf self.now.graph.now self.now.roles.now }
+        ensures { IsTrue result → IsKnown self.now.graph.now self.now.roles.now ids.now number }
+    {
+        let Some(label) = self.roles.node(number) else {
+            return false;
+        };
+        if !is_expression(self.roles.role(label)) {
+            return true;
+        }
+        match ids.get(number) {
+            Some(Some(_id)) => true,
+            Some(None) | None => false,
+        }
+    }
 }
 
 /// So many nodes without a number.
-fn no_numbers(alloc: Global, nodes: usize) -> Result<Vec<Option<ExprId>>, NoMemory>
+fn no_numbers<N: Copy>(alloc: Global, nodes: usize) -> Result<Vec<Option<N>>, NoMemory>
     ensures { IfOk result (λ ids. HaveNone ids.items) }
 {
     let mut ids = Vec::new(alloc);

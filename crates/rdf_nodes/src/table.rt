@@ -5,6 +5,7 @@ ghost use Rattle.owl_tree.specs.Trees.{Tree};
 ghost use Rattle.rdf_roles.specs.Tables.{IsTableOf};
 ghost use Rattle.rdf_nodes.specs.Nodes.{HoldNumbers, HoldNumbersUpTo};
 ghost use Rattle.rdf_nodes.specs.Numbers.{AreNumbered};
+ghost use Rattle.tree_stores.specs.Stores.{HasNumber};
 
 use crate::build::is_expression;
 use crate::source::Source;
@@ -18,7 +19,8 @@ impl<'a> Source<'a> {
     pub fn by_label(&self, ids: &[Option<ExprId>]) -> Result<IndexMap<Label, ExprId>, NoMemory>
         requires { IsTableOf self.now.graph.now self.now.roles.now }
         ensures { (trees : List Tree)
-            → AreNumbered self.now.graph.now self.now.kinds.now self.now.roles.now trees ids.now →
+            → AreNumbered self.now.graph.now self.now.kinds.now self.now.roles.now
+            (HasNumber trees) ids.now →
             IfOk result (λ table.
             HoldNumbers self.now.graph.now self.now.kinds.now trees table.entries) }
     {
@@ -39,7 +41,8 @@ impl<'a> Source<'a> {
     ) -> Result<(), NoMemory>
         requires { IsTableOf self.now.graph.now self.now.roles.now }
         ensures { (trees : List Tree)
-            → AreNumbered self.now.graph.now self.now.kinds.now self.now.roles.now trees ids.now
+            → AreNumbered self.now.graph.now self.now.kinds.now self.now.roles.now
+            (HasNumber trees) ids.now
             → HoldNumbersUpTo self.now.graph.now self.now.kinds.now self.now.roles.now trees number
             table.old.entries →
             OnOk result (HoldNumbersUpTo self.now.graph.now self.now.kinds.now self.now.roles.now

@@ -2,7 +2,7 @@
 
 ghost use Rattle.std.specs.Prelude.{◌≡◌, ◌↔◌, ◌∷◌, [], IfOk, IfSome, IsTrue, None, Some, cond};
 ghost use Rattle.rdf_meaning.specs.declared.role.Role.TheVariants as role;
-ghost use Rattle.rdf_meaning.specs.Denotation.{anonymous, facet_pair, facets_of, literal_leaf, named, named_individual, number_leaf, or_else};
+ghost use Rattle.rdf_meaning.specs.Denotation.{anonymous, facet_pair, facets_of, literal_leaf, named, named_individual, number_leaf, or_else, plain_iri};
 ghost use Rattle.rdf_meaning.specs.Nodes.{is_role, role_of};
 ghost use Rattle.rdf_roles.specs.Tables.{IsTableOf};
 ghost use Rattle.rdf_nodes.specs.Operands.{IsNodeOf, IsOperand, IsOwn, IsTree, sort_of};
@@ -61,7 +61,13 @@ impl<'a> Source<'a> {
             Sort::DataPropertyExpression => {
                 self.named(Kind::DataProperty, Tag::DataProperty, term)
             }
+            Sort::AnnotationProperty => {
+                self.named(Kind::AnnotationProperty, Tag::AnnotationProperty, term)
+            }
             Sort::Individual => self.individual(term),
+            Sort::Iri => self.plain_iri(term),
+            Sort::AnnotationSubject => self.subject(term),
+            Sort::AnnotationValue => self.value(term),
             Sort::Literal => self.literal(term),
             Sort::Number => Ok(number(term)),
             Sort::FacetPair => self.facet(term),
@@ -94,11 +100,61 @@ impl<'a> Source<'a> {
                 let atom = Atom::Iri(iri.copy(self.alloc)?);
                 Ok(Some(Operand::Leaf(Tag::NamedIndividual, atom)))
             }
+            Term::Blank(_) | Term::Literal(_) => self.anonymous(term),
+        }
+    }
+
+    /// The anonymous individual that the term is.
+    fn anonymous(&self, term: &Term) -> Result<Option<Operand>, NoMemory>
+        requires { IsTableOf self.now.graph.now self.now.roles.now }
+        ensures { IfOk result (λ found. IfSome found (
+            IsTree (anonymous self.now.graph.now term.now))) }
+    {
+        match term {
             Term::Blank(label) if self.roles.role(label) == Role::Individual => {
                 let atom = Atom::Label(label.copy(self.alloc)?);
                 Ok(Some(Operand::Leaf(Tag::Anonymous, atom)))
             }
+            Term::Iri(_) | Term::Blank(_) | Term::Literal(_) => Ok(None),
+        }
+    }
+
+    /// The IRI that the term is.
+    fn plain_iri(&self, term: &Term) -> Result<Option<Operand>, NoMemory>
+        ensures { IfOk result (λ found. IfSome found (IsTree (plain_iri term.now))) }
+    {
+        match term {
+            Term::Iri(iri) => {
+                let atom = Atom::Iri(iri.copy(self.alloc)?);
+                Ok(Some(Operand::Leaf(Tag::PlainIri, atom)))
+            }
             Term::Blank(_) | Term::Literal(_) => Ok(None),
+        }
+    }
+
+    /// The subject of annotations that the term is.
+    fn subject(&self, term: &Term) -> Result<Option<Operand>, NoMemory>
+        requires { IsTableOf self.now.graph.now self.now.roles.now }
+        ensures { IfOk result (λ found. IfSome found (
+            IsTree (or_else (plain_iri term.now) (anonymous self.now.graph.now term.now)))) }
+    {
+        match term {
+            Term::Iri(_) => self.plain_iri(term),
+            Term::Blank(_) | Term::Literal(_) => self.anonymous(term),
+        }
+    }
+
+    /// The value of an annotation that the term is.
+    fn value(&self, term: &Term) -> Result<Option<Operand>, NoMemory>
+        requires { IsTableOf self.now.graph.now self.now.roles.now }
+        ensures { IfOk result (λ found. IfSome found (
+            IsTree (or_else (plain_iri term.now)
+            (or_else (anonymous self.now.graph.now term.now) (literal_leaf term.now))))) }
+    {
+        match term {
+            Term::Iri(_) => self.plain_iri(term),
+            Term::Blank(_) => self.anonymous(term),
+            Term::Literal(_) => self.literal(term),
         }
     }
 

@@ -3,17 +3,25 @@ use Rattle.std.proofs.lemmas.Option.{same_Some}
 use Rattle.owl_tree.specs.declared.atom.Atom.TheVariants as atom
 use Rattle.owl_tree.specs.declared.tag.Tag.TheVariants as tag
 use Rattle.owl_tree.specs.Trees.{leaf}
-use Rattle.rdf_nodes.specs.Numbers.{HasNumber, HaveNumbers}
-use Rattle.rdf_nodes.proofs.Holding.{number_kept}
+use Rattle.tree_stores.specs.StoreLaws.{are_standing}
+use Rattle.tree_stores.specs.Stores.{StandFor}
 use Rattle.rdf_nodes.proofs.build.hold_facet.Goals as goal
 
-pub returns-in-Ok-clause-held : goal.returns-in-Ok-clause-held
-returns-in-Ok-clause-held c =
-    let first = c.hold_leaf.new.arena.trees in
-    let second = c.hold_leaf-2.new.arena.trees in
+pub hold_node-requires : goal.hold_node-requires
+hold_node-requires g c =
+    let Stands = g.S.TreeStore.stands c.hold_leaf-2.new.self in
     let facet = leaf tag.Facet (atom.Iri c.args.facet) in
     let value = leaf tag.Literal (atom.Literal c.args.value) in
     let items : c.push-2.new.self.items ≡ c.in_ok-facet.facet ∷ c.in_ok-value.value ∷ [] = search rules in
-    let kept = number_kept first second facet c.in_ok-facet.facet c.hold_leaf-2.ensures.kept c.in_ok-facet.ensures.held in
-    let numbers = subst (HaveNumbers second (facet ∷ value ∷ [])) (sym items) (kept, (c.in_ok-value.ensures.held, tt)) in
-    λ t e. subst (λ u. HasNumber c.hold_node.new.arena.trees u c.in-Ok.id) (same_Some _ t e) (c.in-Ok.ensures.held (facet ∷ value ∷ []) numbers)
+    let kept = c.hold_leaf-2.ensures.kept facet c.in_ok-facet.facet c.in_ok-facet.ensures.held in
+    are_standing Stands (facet ∷ value ∷ []) c.push-2.new.self.items (subst (StandFor Stands (facet ∷ value ∷ [])) (sym items) (kept, (c.in_ok-value.ensures.held, tt)))
+
+pub returns-in-Ok-clause-held : goal.returns-in-Ok-clause-held
+returns-in-Ok-clause-held g c =
+    let Stands = g.S.TreeStore.stands c.hold_leaf-2.new.self in
+    let facet = leaf tag.Facet (atom.Iri c.args.facet) in
+    let value = leaf tag.Literal (atom.Literal c.args.value) in
+    let items : c.push-2.new.self.items ≡ c.in_ok-facet.facet ∷ c.in_ok-value.value ∷ [] = search rules in
+    let kept = c.hold_leaf-2.ensures.kept facet c.in_ok-facet.facet c.in_ok-facet.ensures.held in
+    let numbers = subst (StandFor Stands (facet ∷ value ∷ [])) (sym items) (kept, (c.in_ok-value.ensures.held, tt)) in
+    λ t e. subst (λ u. g.S.TreeStore.stands c.hold_node.new.self u c.in-Ok.number) (same_Some _ t e) (c.in-Ok.ensures.held (facet ∷ value ∷ []) numbers)

@@ -6,17 +6,17 @@ use Rattle.rdf_nodes.proofs.Holding.{expression_is}
 use Rattle.rdf_nodes.proofs.source.Source.denoted.Goals as goal
 
 pub returns-in-Ok-clause-held : goal.returns-in-Ok-clause-held
-returns-in-Ok-clause-held c =
-    let g = c.args.self.now.graph.now in
+returns-in-Ok-clause-held g c =
+    let graph = c.args.self.now.graph.now in
     let some : is_some (sort_of c.role.result) ≡ true = search rules in
     c.in-Ok.ensures.held (held.Blank c.args.label.now)
-    (expression_is g c.args.self.now.kinds.now c.args.self.now.roles.now (held.Blank c.args.label.now) c.in-Some.form c.role.result (c.role.ensures g c.requires.table) some
+    (expression_is graph c.args.self.now.kinds.now c.args.self.now.roles.now (held.Blank c.args.label.now) c.in-Some.form c.role.result (c.role.ensures graph c.requires.table) some
     c.in_ok-form.field-0 c.in-Some.is c.in_ok-form.ensures)
 
 pub returns-clause-fault : goal.returns-clause-fault
-returns-clause-fault c =
-    let g = c.args.self.now.graph.now in
+returns-clause-fault g c =
+    let graph = c.args.self.now.graph.now in
     let some : is_some (sort_of c.role.result) ≡ true = search rules in
     c.in-Err.ensures.fault (held.Blank c.args.label.now)
-    (expression_is g c.args.self.now.kinds.now c.args.self.now.roles.now (held.Blank c.args.label.now) c.in-Some.form c.role.result (c.role.ensures g c.requires.table) some
+    (expression_is graph c.args.self.now.kinds.now c.args.self.now.roles.now (held.Blank c.args.label.now) c.in-Some.form c.role.result (c.role.ensures graph c.requires.table) some
     c.in_ok-form.field-0 c.in-Some.is c.in_ok-form.ensures)

@@ -1,5 +1,0 @@
-use Rattle.rdf_nodes.specs.Numbers.{HaveNone}
-use Rattle.rdf_nodes.proofs.depths.no_depths.Given as goal
-
-abbrev pub invariant-loop-node : goal.invariant-loop-node
-invariant-loop-node l = HaveNone l.depths.items

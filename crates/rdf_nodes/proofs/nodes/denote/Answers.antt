@@ -1,0 +1,14 @@
+use Rattle.std.proofs.Common.{subst, sym}
+use Rattle.std.proofs.lemmas.Bool.{both_ways}
+use Rattle.tree_stores.specs.Stores.{HasNumber}
+use Rattle.rdf_nodes.specs.Numbers.{AreNumbered}
+use Rattle.rdf_nodes.proofs.nodes.denote.Goals as goal
+
+pub returns-clause-nodes : goal.returns-clause-nodes
+returns-clause-nodes c =
+    let trees = c.numbers.new.store.trees in
+    let numbered = subst (AreNumbered c.args.graph.now c.args.kinds.now c.args.roles.now (HasNumber trees)) (sym c.deref.ensures.value) c.in_ok-ids.ensures.numbered in
+    record {
+      small = λ h. both_ways c.has_large_number.result c.if-has_large_number.false (c.has_large_number.ensures.1 h);
+      numbers = c.in_ok-table.ensures trees numbered;
+    }
