@@ -15,3 +15,6 @@ pub mod NothingFound
 pub mod Typing
 pub mod Meeting
 pub mod Mistyped
+pub mod Marking
+pub mod Reaching
+pub mod Orphaning

@@ -4,5 +4,6 @@ pub mod Sorts
 pub mod SortLaws
 pub mod Reserved
 pub mod Notes
+pub mod Reach
 pub mod Typed
 pub mod Statements

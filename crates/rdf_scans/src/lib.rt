@@ -5,7 +5,9 @@ mod declarations;
 mod fault;
 mod header;
 mod notes;
+mod orphans;
 mod outlines;
+mod reach;
 mod reading;
 mod reserved;
 mod sorts;
@@ -15,6 +17,7 @@ mod untyped;
 
 pub use fault::OutlineFault;
 pub use notes::first_of_nothing;
+pub use orphans::first_orphan;
 pub use outlines::outline;
 pub use reading::Reading;
 pub use reserved::first_reserved;

@@ -1,0 +1,18 @@
+use Rattle.std.proofs.Common.{sym, subst}
+use Rattle.rdf_scans.proofs.Reaching.{AreReachedSoFar, all_passed, none_passed, one_passed}
+use Rattle.rdf_scans.proofs.reach.mark_below.Goals as goal
+
+pub loop-number-init : goal.loop-number-init
+loop-number-init c =
+    let reading = c.args.reading.now in
+    let marks = c.args.marks.now.items in
+    subst (AreReachedSoFar reading marks) (sym c.order-rest.ensures)
+    (none_passed reading marks reading.roles.now.order c.requires.roots c.requires.reading.table.order)
+
+pub loop-number-preserved : goal.loop-number-preserved
+loop-number-preserved c =
+    one_passed c.args.reading.now c.loop-number.marks.items c.mark_next.new.marks.items c.loop-number.rest.now c.in-Some.before.now c.in-Some.number.now
+    c.loop-number.invariant c.in-Some.ensures.cases.0 c.in_ok-mark_next.ensures
+
+pub returns : goal.returns
+returns c = all_passed c.args.reading.now c.loop-number.marks.items c.loop-number.rest.now c.in_default.ensures.cases c.loop-number.invariant
