@@ -70,21 +70,21 @@ module _ (g : List Triple) (k : List Entity) (roles : RoleTable) where
   own_denotes s x (operand.Facet iri literal) t own m = denotes_itself s x t (own.is ∙ sym own.own ∙ m)
   own_denotes s x (operand.Node number) t own m = absurd (none-some own.tree own.own)
 
-  operand_denotes : (s : Sort) (x : Term) (o : Operand) (t : Tree) → IsOperand g k roles s x o → Means g k roles o t → Denotes g k x (One s) (t ∷ [])
+  pub operand_denotes : (s : Sort) (x : Term) (o : Operand) (t : Tree) → IsOperand g k roles s x o → Means g k roles o t → Denotes g k x (One s) (t ∷ [])
   operand_denotes s x _ t (by_itself o own) m = own_denotes s x o t own m
   operand_denotes s x _ t (by_node number is) m =
       let same = is.blank ∙ ap Blank (same_Some is.label m.label (sym is.at ∙ m.at)) in
       let sorts = same_Some s m.sort (sym is.gives ∙ ap (λ y. sort_of (role_of g y)) same ∙ m.gives) in
       subst (λ y. Denotes g k y (One s) (t ∷ [])) (sym same) (subst (λ u. Denotes g k (Blank m.label) (One u) (t ∷ [])) (sym sorts) m.denotes)
 
-  elements_are : (s : Sort) (x : Term) (os : List Operand) (ts : List Tree) → AreElements g k roles s x os → AllMean g k roles os ts → Lists g k x s ts
+  pub elements_are : (s : Sort) (x : Term) (os : List Operand) (ts : List Tree) → AreElements g k roles s x os → AllMean g k roles os ts → Lists g k x s ts
   elements_are s x _ [] (no_cell y e) m = lists_none s x e
   elements_are s x _ (t ∷ ts) (no_cell y e) m = absurd m
   elements_are s x _ [] (cell y first rest o os is d more) m = absurd m
   elements_are s x _ (t ∷ ts) (cell y first rest o os is d more) m =
       lists_cell s x first rest (t ∷ []) ts is.list is.one_first is.one_rest (operand_denotes s first o t d m.0) (elements_are s rest os ts more m.1)
 
-  as_many : (os : List Operand) (ts : List Tree) → AllMean g k roles os ts → length os ≡ length ts
+  pub as_many : (os : List Operand) (ts : List Tree) → AllMean g k roles os ts → length os ≡ length ts
   as_many [] [] m = refl
   as_many [] (t ∷ ts) m = absurd m
   as_many (o ∷ os) [] m = absurd m

@@ -44,7 +44,7 @@ impl<'a> Source<'a> {
     }
 
     /// The first element and the rest of the cell that the term is.
-    fn cell(&self, term: &Term) -> Option<(&'a Term, &'a Term)>
+    pub fn cell(&self, term: &Term) -> Option<(&'a Term, &'a Term)>
         requires { IsTableOf self.now.graph.now self.now.roles.now }
         ensures { IfSome result (λ cell.
             IsCellWith self.now.graph.now term.now cell.0.now cell.1.now) }
@@ -61,7 +61,7 @@ impl<'a> Source<'a> {
 }
 
 /// Whether the term is rdf:nil.
-fn is_nil(term: &Term) -> bool
+pub fn is_nil(term: &Term) -> bool
     ensures { IsTrue result → term.now ≡ held.Iri nil_iri }
 {
     match term {

@@ -16,11 +16,12 @@ mod typed;
 mod untyped;
 
 pub use fault::OutlineFault;
+pub use header::{head_of, only_header};
 pub use notes::first_of_nothing;
 pub use orphans::first_orphan;
 pub use outlines::outline;
 pub use reading::Reading;
 pub use reserved::first_reserved;
-pub use sorts::{TripleSort, sort_of};
+pub use sorts::{TripleSort, is_annotation, is_main, sort_of};
 pub use statements::is_typed_axiom;
 pub use untyped::first_untyped_statement;

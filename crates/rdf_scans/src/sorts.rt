@@ -50,7 +50,7 @@ pub fn sort_of(reading: &Reading, triple: &Triple) -> TripleSort
 }
 
 /// Whether a triple of the sort is an axiom.
-pub(crate) fn is_main(sort: TripleSort) -> bool
+pub fn is_main(sort: TripleSort) -> bool
     ensures { result ≡ is_main sort }
 {
     match sort {
@@ -101,7 +101,7 @@ fn has_header_word(triple: &Triple) -> bool
 
 /// Whether the triple is an annotation of the ontology, of a reification, or of a
 /// node that stands for an axiom.
-pub(crate) fn is_annotation(reading: &Reading, triple: &Triple) -> bool
+pub fn is_annotation(reading: &Reading, triple: &Triple) -> bool
     requires { IsReading reading.now }
     ensures { result ≡ annotates reading.now triple.now }
 {
