@@ -1,13 +1,15 @@
 //! Tests of IRIs.
 
-ghost use Rattle.std.specs.Prelude.{◌≡◌, [], codes, nat_eq, true};
+ghost use Rattle.std.specs.Prelude.{◌≡◌, ◌↔◌, [], IsTrue, codes, nat_eq, true};
 ghost use Rattle.std.specs.List.{list_all, starts_with};
 ghost use Rattle.std.specs.Str.{bytes_eq};
 ghost use Rattle.owl_characters.specs.Iri.{is_ascii};
 ghost use Rattle.rdf_terms.specs.Vocabulary.{rdf, xsd};
-ghost use Rattle.rdf_meaning.specs.Nodes.{is_facet, type_iri};
+ghost use Rattle.rdf_graph.specs.declared.term.Term.TheVariants as held;
+ghost use Rattle.rdf_meaning.specs.Nodes.{is_facet, nil_iri, type_iri};
 ghost use Rattle.rdf_meaning.specs.Words.{word_iri};
 
+use rdf_graph::Term;
 use rdf_meaning::Word;
 use rdf_terms::Iri;
 
@@ -23,6 +25,23 @@ pub fn has_iri(iri: &Iri, word: Word) -> bool
     ensures { result ≡ bytes_eq iri.now (word_iri word) }
 {
     is_spelled(iri, word.iri())
+}
+
+/// Whether the term is rdf:nil, the list of no elements. Takes no memory.
+pub fn is_nil(term: &Term) -> bool
+    ensures { IsTrue result ↔ (term.now ≡ held.Iri nil_iri) }
+{
+    match term {
+        Term::Iri(iri) => is_nil_iri(iri),
+        Term::Blank(_) | Term::Literal(_) => false,
+    }
+}
+
+/// Whether the IRI is rdf:nil. Takes no memory.
+pub fn is_nil_iri(iri: &Iri) -> bool
+    ensures { IsTrue result ↔ (iri.now ≡ nil_iri) }
+{
+    iri.is("http://www.w3.org/1999/02/22-rdf-syntax-ns#nil")
 }
 
 /// Whether the IRI is that of a facet: one of XML Schema, or rdf:langRange
