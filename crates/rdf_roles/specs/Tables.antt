@@ -1,5 +1,6 @@
 -- The roles of the blank nodes of a graph, as a table, and an order in which each node stands behind those that it leads to.
 use Rattle.std.specs.Prelude.{◌≡◌, ◌↔◌, ◌⊎◌, ℕ, Bool, false, List, [], ◌∷◌, ◌++◌, Contains, Option, None, Some, length, map, slice_get}
+use Rattle.std.specs.Map.{keys_of}
 use Rattle.directed_graphs.specs.Cycles.{IsOrder, successors}
 use Rattle.rdf_graph.specs.declared.term.Term.{Term}
 use Rattle.rdf_graph.specs.declared.term.Term.TheVariants.{Iri, Blank, Literal}
@@ -52,6 +53,15 @@ IsNodeAt g number (Some node) = (slice_get (blank_nodes g) number ≡ Some node.
 abbrev pub IsNumber : List Triple → Term → Option ℕ → Type 0
 IsNumber g x None = (number : ℕ) → IsNode g x number → ⊥
 IsNumber g x (Some number) = IsNode g x number
+
+-- the place of the label in a table, none where it does not stand there
+abbrev pub HasNumber : List (List ℕ × Role) → List ℕ → Option ℕ → Type 0
+HasNumber nodes label None = Contains (keys_of nodes) label → ⊥
+HasNumber nodes label (Some number) = slice_get (keys_of nodes) number ≡ Some label
+
+-- the label that stands in a table at the number, none where the table is not so long
+abbrev pub StandsAt : List (List ℕ × Role) → ℕ → Option (List ℕ) → Type 0
+StandsAt nodes number found = slice_get (keys_of nodes) number ≡ found
 
 -- the first of the triples has this subject
 abbrev pub begins_with : List Triple → Term → Bool

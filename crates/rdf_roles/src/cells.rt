@@ -16,8 +16,8 @@ use indexmap::IndexMap;
 use owl_characters::NoMemory;
 use rdf_graph::{Graph, Term};
 use rdf_meaning::Role;
-use rdf_rows::cell;
-use rdf_terms::{Iri, Label};
+use rdf_rows::{cell, is_nil};
+use rdf_terms::Label;
 use std::alloc::Global;
 
 /// Refuses with `BadList` at the first cell that is none.
@@ -102,20 +102,4 @@ fn may_be_rest(table: &IndexMap<Label, Role>, term: &Term) -> bool
         (IsTrue result ↔ ((term.now ≡ held.Iri nil_iri) ⊎ (role_of g term.now ≡ role.List))) }
 {
     is_nil(term) || role_of(table, term) == Role::List
-}
-
-/// Whether the term is rdf:nil.
-pub fn is_nil(term: &Term) -> bool
-    ensures { IsTrue result ↔ (term.now ≡ held.Iri nil_iri) }
-{
-    match term {
-        Term::Iri(iri) => is_nil_iri(iri),
-        Term::Blank(_) | Term::Literal(_) => false,
-    }
-}
-
-fn is_nil_iri(iri: &Iri) -> bool
-    ensures { IsTrue result ↔ (iri.now ≡ nil_iri) }
-{
-    iri.is("http://www.w3.org/1999/02/22-rdf-syntax-ns#nil")
 }

@@ -1,23 +1,22 @@
 //! The numbers of the nodes of a graph.
 
-ghost use Rattle.std.specs.Prelude.{◌≡◌, ◌<◌, IfSome, Some, length, slice_get};
-ghost use Rattle.std.specs.Map.{keys_of};
+ghost use Rattle.std.specs.Prelude.{◌≡◌, option_map};
+ghost use Rattle.rdf_roles.specs.Tables.{HasNumber, StandsAt};
 
 use crate::roles::Roles;
 use rdf_terms::Label;
 
 impl Roles {
-    /// The number of the node, where it is one of these. Takes no memory.
+    /// The number of the node, none where it is none of these. Takes no memory.
     pub fn number(&self, node: &Label) -> Option<usize>
-        ensures { IfSome result (λ number. slice_get (keys_of self.now.nodes) number ≡ Some node.now) }
+        ensures { HasNumber self.now.nodes node.now result }
     {
-        let (number, _, _) = self.table.get_full(node)?;
-        Some(number)
+        self.table.get_index_of(node)
     }
 
-    /// The node with the number. Takes no memory.
+    /// The node with the number, none where there are not so many. Takes no memory.
     pub fn node(&self, number: usize) -> Option<&Label>
-        ensures { IfSome result (λ node. slice_get (keys_of self.now.nodes) number ≡ Some node.now) }
+        ensures { StandsAt self.now.nodes number (option_map (λ node. node.now) result) }
     {
         let (node, _) = self.table.get_index(number)?;
         Some(node)

@@ -8,14 +8,13 @@ ghost use Rattle.rdf_faults.specs.Formed.{HasForm, IsShort};
 ghost use Rattle.rdf_roles.specs.Lengths.{AreLengths, IsKnown, IsLength};
 ghost use Rattle.rdf_roles.specs.Tables.{table_of};
 
-use crate::cells::is_nil;
 use crate::forms::is_cell;
 use crate::nodes::{number_of, role_of};
 use indexmap::IndexMap;
 use owl_tree::Sort;
 use rdf_graph::Term;
 use rdf_meaning::{Role, Want};
-use rdf_rows::{cardinality_of, is_true};
+use rdf_rows::{cardinality_of, is_nil, is_true};
 use rdf_terms::Label;
 
 /// Whether the term has the form that is wanted.
