@@ -8,5 +8,7 @@ mod sorts;
 mod typed;
 
 pub use lists::is_met;
-pub use sorts::{is_declared, is_of_sort};
+pub use sorts::{
+    has_kind, is_declared, is_entity, is_of_sort, may_be_declared, names_tree, role_of_term,
+};
 pub use typed::{is_structural, untyped};

@@ -1,11 +1,10 @@
 //! Whether a term is what is wanted.
 
 ghost use Rattle.std.specs.Prelude.{◌≡◌, ◌∷◌, [], ◌↔◌, IfSome, IsNone, IsTrue, List};
-ghost use Rattle.rdf_graph.specs.declared.term.Term.TheVariants as held;
 ghost use Rattle.rdf_graph.specs.declared.triple.Triple.{Triple};
 ghost use Rattle.rdf_meaning.specs.declared.role.Role.TheVariants as role;
 ghost use Rattle.rdf_meaning.specs.declared.word.Word.TheVariants as word;
-ghost use Rattle.rdf_meaning.specs.Nodes.{chosen, nil_iri, role_of};
+ghost use Rattle.rdf_meaning.specs.Nodes.{chosen, role_of};
 ghost use Rattle.rdf_faults.specs.Asked.{IsListOf, IsMet};
 ghost use Rattle.rdf_asked.specs.Elements.{is_element};
 ghost use Rattle.rdf_roles.specs.Refusals.{AreNodesFormed};
@@ -17,8 +16,7 @@ use owl_tree::Sort;
 use rdf_graph::{Graph, Term};
 use rdf_meaning::{Role, Want};
 use rdf_roles::Roles;
-use rdf_rows::{cell, is_true};
-use rdf_terms::Iri;
+use rdf_rows::{cell, is_nil, is_true};
 
 /// What each element of a list has to be.
 #[derive(Clone, Copy, Debug)]
@@ -103,21 +101,4 @@ fn is_element(roles: &Roles, kinds: &Kinds, element: Element, term: &Term) -> bo
         Element::OfSort(sort) => is_of_sort(roles, kinds, sort, term),
         Element::Key => is_key(roles, kinds, term),
     }
-}
-
-/// Whether the term is rdf:nil.
-fn is_nil(term: &Term) -> bool
-    ensures { IsTrue result ↔ (term.now ≡ held.Iri nil_iri) }
-{
-    match term {
-        Term::Iri(iri) => is_nil_iri(iri),
-        Term::Blank(_) | Term::Literal(_) => false,
-    }
-}
-
-/// Whether the IRI is rdf:nil.
-fn is_nil_iri(iri: &Iri) -> bool
-    ensures { IsTrue result ↔ (iri.now ≡ nil_iri) }
-{
-    iri.is("http://www.w3.org/1999/02/22-rdf-syntax-ns#nil")
 }

@@ -52,7 +52,7 @@ pub fn is_key(roles: &Roles, kinds: &Kinds, term: &Term) -> bool
 }
 
 /// Whether the IRI stands for a tree of the sort.
-fn names_tree(kinds: &Kinds, sort: Sort, iri: &Iri) -> bool
+pub fn names_tree(kinds: &Kinds, sort: Sort, iri: &Iri) -> bool
     ensures { (g : List Triple) → result ≡ is_of_sort g kinds.now sort (held.Iri iri.now) }
 {
     match kind_for(sort) {
@@ -61,8 +61,8 @@ fn names_tree(kinds: &Kinds, sort: Sort, iri: &Iri) -> bool
     }
 }
 
-/// Whether the IRI has the kind.
-fn has_kind(kinds: &Kinds, kind: Kind, iri: &Iri) -> bool
+/// Whether the IRI is declared as this kind, or built in as it.
+pub fn has_kind(kinds: &Kinds, kind: Kind, iri: &Iri) -> bool
     ensures { result ≡ has_kind kinds.now kind iri.now }
 {
     kinds.has(kind, iri)
@@ -142,9 +142,16 @@ pub fn is_declared(kinds: &Kinds, tag: Tag, term: &Term) -> bool
     ensures { result ≡ is_some (declared_entity kinds.now tag term.now) }
 {
     match term {
-        Term::Iri(iri) => is_declared_as(kinds, kind_of_entity(tag), iri),
+        Term::Iri(iri) => is_entity(kinds, tag, iri),
         Term::Blank(_) | Term::Literal(_) => false,
     }
+}
+
+/// Whether the IRI is declared as the entity that has the tag.
+pub fn is_entity(kinds: &Kinds, tag: Tag, iri: &Iri) -> bool
+    ensures { result ≡ is_some (declared_entity kinds.now tag (held.Iri iri.now)) }
+{
+    is_declared_as(kinds, kind_of_entity(tag), iri)
 }
 
 /// Whether the IRI is declared as this kind: as an individual where it may be.
@@ -158,9 +165,10 @@ fn is_declared_as(kinds: &Kinds, kind: Option<Kind>, iri: &Iri) -> bool
     }
 }
 
-/// Whether the IRI may be declared as this kind.
+/// Whether the IRI may be declared as this kind: one that is reserved, as what it
+/// is built in as (Structural Specification, section 2.4).
 #[tactic(auto, unfolding(rdf_meaning::specs::Kinds::may_be_declared))]
-fn may_be_declared(kind: Kind, iri: &Iri) -> bool
+pub fn may_be_declared(kind: Kind, iri: &Iri) -> bool
     ensures { result ≡ may_be_declared kind iri.now }
 {
     !reserved(iri) || built_in(kind, iri)
