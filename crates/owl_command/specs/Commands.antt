@@ -7,11 +7,15 @@ use Rattle.owl_command.specs.declared.command.Target.TheVariants.{Fss, Ttl}
 use Rattle.owl_command.specs.declared.command.Command.{Command}
 use Rattle.owl_command.specs.declared.command.Command.TheVariants.{Translate, Show, Same}
 
--- A document's name: it doesn't begin with `-`, and ends in `.ofn` behind at least one character.
-pub record IsName (name : List ℕ) : Type 0 where
+-- the name ends in the suffix, behind at least one character
+pub record EndsIn (suffix name : List ℕ) : Type 0 where
   pub front : List ℕ
   pub some : 0 < length front
-  pub ends : name ≡ front ++ codes ".ofn"
+  pub ends : name ≡ front ++ suffix
+
+-- A document's name: it doesn't begin with `-`, and ends in `.ofn` (Functional-Style Syntax) or `.ttl` (Turtle).
+pub record IsName (name : List ℕ) : Type 0 where
+  pub suffix : EndsIn (codes ".ofn") name ⊎ EndsIn (codes ".ttl") name
   pub no_flag : (rest : List ℕ) → name ≢ codes "-" ++ rest
 
 -- the name is one of these

@@ -3,7 +3,7 @@
 ghost use Rattle.std.specs.Prelude.{◌≡◌, ◌↔◌, map, string_bytes, IsTrue, IfOk};
 ghost use Rattle.std.specs.List.{AllByRecursion};
 ghost use Rattle.std.specs.Str.{encode_utf8_all};
-ghost use Rattle.owl_command.specs.Commands.{AreDistinct, AreNames, IsAmong, IsName};
+ghost use Rattle.owl_command.specs.Commands.{AreDistinct, AreNames, EndsIn, IsAmong, IsName};
 
 use owl_characters::{NoMemory, Text};
 use std::alloc::{AllocError, Global};
@@ -11,11 +11,19 @@ use std::alloc::{AllocError, Global};
 /// The most documents that words name.
 const MOST_NAMES: usize = 64;
 
-/// Whether a word is a document's name.
+/// Whether a word is a document's name: it ends in `.ofn` or `.ttl`, behind at
+/// least one character, and doesn't begin with `-`.
 fn is_name(word: &str) -> bool
     ensures { IsTrue result ↔ IsName word.now }
 {
-    word.ends_with(".ofn") && 4 < word.len() && !word.starts_with('-')
+    (ends_in(word, ".ofn") || ends_in(word, ".ttl")) && !word.starts_with('-')
+}
+
+/// Whether a word ends in the suffix, behind at least one character.
+fn ends_in(word: &str, suffix: &str) -> bool
+    ensures { IsTrue result ↔ EndsIn suffix.now word.now }
+{
+    word.ends_with(suffix) && suffix.len() < word.len()
 }
 
 /// Whether the word is this one.
