@@ -10,6 +10,7 @@ use Rattle.ttl_tokens.specs.declared.token.Token.{Token}
 use Rattle.ttl_grammar.specs.Documents.{AreNamespaces, ReadsTurtle, SpellsTurtle, tokens_of}
 use Rattle.ttl_grammar.specs.Rules.{turtle_rules}
 use Rattle.ttl_grammar.specs.Table.{turtle}
+use Rattle.ttl_read.specs.NameTables.{ArePlain}
 use Rattle.ttl_read.specs.Showing.{Whole}
 use Rattle.ttl_read.specs.declared.assembler.Assembler.{Assembler}
 
@@ -35,3 +36,6 @@ reads bytes a r prefixes e =
       splits = r.splits;
       spells = subst (λ (l : List Token). SpellsTurtle prefixes a.graph l) (plain_tokens r.steps) spells;
     }
+
+pub plain_prefixes : (bytes : List ℕ) (a : Assembler) → IsRead tokens.Spells turtle turtle_rules Whole bytes a → (prefixes : List Prefix) → prefixes ≡ a.names.prefixes → ArePlain prefixes
+plain_prefixes bytes a r prefixes e = subst ArePlain (sym e) r.ends.made_by.holds.names.plain

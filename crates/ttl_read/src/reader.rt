@@ -3,6 +3,7 @@
 ghost use Rattle.std.specs.Prelude.{◌≡◌, ◌≢◌, ◌++◌, [], List, ℕ, None, Some, Err, IfErr, IfOk, IsOk, OnOk};
 ghost use Rattle.owl_reader.specs.declared.fault.ReadFault.{ReadFault};
 ghost use Rattle.ttl_grammar.specs.Documents.{IsFirstDefect, ReadsTurtle};
+ghost use Rattle.ttl_read.specs.NameTables.{ArePlain};
 ghost use Rattle.ttl_read.specs.Reading.{HasRead, Refuses};
 
 use crate::assembler::Assembler;
@@ -74,6 +75,8 @@ impl Reader {
     pub fn finish(self) -> Result<TtlDoc, ReadFault>
         ensures reads { IfOk result (λ doc. (bytes : List ℕ) → HasRead self bytes
             → ReadsTurtle bytes doc.prefixes doc.graph) }
+        ensures plain { IfOk result (λ doc. (bytes : List ℕ) → HasRead self bytes
+            → ArePlain doc.prefixes) }
         ensures refuses { IfErr result (λ fault. fault ≢ ReadFault.Memory → (bytes : List ℕ)
             → HasRead self bytes → IsFirstDefect bytes fault) }
         ensures same { (fault : ReadFault) → self.refused ≡ Some fault → result ≡ Err fault }

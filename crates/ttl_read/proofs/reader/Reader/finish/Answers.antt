@@ -2,7 +2,7 @@ use Rattle.std.proofs.Common.{subst, sym}
 use Rattle.owl_reader.specs.Readings.{Reading}
 use Rattle.owl_lexer.specs.ResultLaws.{passed}
 use Rattle.ttl_read.specs.Reading.{HasRead}
-use Rattle.ttl_read.proofs.Finished.{reads}
+use Rattle.ttl_read.proofs.Finished.{plain_prefixes, reads}
 use Rattle.ttl_read.proofs.reader.Reader.finish.Goals as goal
 
 pub returns-in_err-assembler-clause-refuses : goal.returns-in_err-assembler-clause-refuses
@@ -12,3 +12,7 @@ returns-in_err-assembler-clause-refuses c = passed c.from_residual.result c.in_e
 pub returns-clause-reads : goal.returns-clause-reads
 returns-clause-reads c = λ bytes h.
     reads bytes c.in_ok-assembler.assembler (c.in_ok-assembler.ensures.read bytes (subst (λ (r : Reading _). HasRead r bytes) (sym c.self.view_is) h)) c.into_prefixes.result c.into_prefixes.ensures
+
+pub returns-clause-plain : goal.returns-clause-plain
+returns-clause-plain c = λ bytes h.
+    plain_prefixes bytes c.in_ok-assembler.assembler (c.in_ok-assembler.ensures.read bytes (subst (λ (r : Reading _). HasRead r bytes) (sym c.self.view_is) h)) c.into_prefixes.result c.into_prefixes.ensures
