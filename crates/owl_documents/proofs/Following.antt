@@ -3,19 +3,19 @@ use Rattle.std.proofs.Common.{◌≡◌, ◌≢◌, ◌≤◌, ◌+◌, ◌⊎�
 use Rattle.std.specs.List.{AllByRecursion}
 use Rattle.owl_characters.specs.Limit.{most_bytes}
 use Rattle.owl_command.specs.Commands.{AreDistinct, IsAmong}
-use Rattle.owl_documents.specs.Documents.{AreReadFrom, Contents, FollowsRead, IsRead, Said}
+use Rattle.owl_documents.specs.Documents.{AreReadFrom, Contents, FollowsRead, IsRead, Parsed}
 
 module _ (contents : Contents) where
   -- one more is read
-  pub read_next : (before : ℕ) (front : List (List ℕ)) (documents : List Said) (after : ℕ) (name bytes : List ℕ) (said : Said) → AreReadFrom contents before front documents after → IsRead contents after name bytes said → AreReadFrom contents before (front ++ name ∷ []) (documents ++ said ∷ []) (after + length bytes)
-  read_next before [] [] after name bytes said e r =
-      (bytes, subst (λ (n : ℕ). IsRead contents n name bytes said) e r, ap (λ (n : ℕ). n + length bytes) e)
-  read_next before [] (d ∷ documents) after name bytes said e r = absurd e
-  read_next before (first ∷ front) [] after name bytes said e r = absurd e
-  read_next before (first ∷ front) (d ∷ documents) after name bytes said e r =
-      (e.0, e.1, read_next (before + length e.0) front documents after name bytes said e.2 r)
+  pub read_next : (before : ℕ) (front : List (List ℕ)) (documents : List Parsed) (after : ℕ) (name bytes : List ℕ) (parsed : Parsed) → AreReadFrom contents before front documents after → IsRead contents after name bytes parsed → AreReadFrom contents before (front ++ name ∷ []) (documents ++ parsed ∷ []) (after + length bytes)
+  read_next before [] [] after name bytes parsed e r =
+      (bytes, subst (λ (n : ℕ). IsRead contents n name bytes parsed) e r, ap (λ (n : ℕ). n + length bytes) e)
+  read_next before [] (d ∷ documents) after name bytes parsed e r = absurd e
+  read_next before (first ∷ front) [] after name bytes parsed e r = absurd e
+  read_next before (first ∷ front) (d ∷ documents) after name bytes parsed e r =
+      (e.0, e.1, read_next (before + length e.0) front documents after name bytes parsed e.2 r)
 
-  pub follows_read : (Holds : ℕ → Type 0) (before : ℕ) (front others : List (List ℕ)) (documents : List Said) (after : ℕ) (name : List ℕ) → AreReadFrom contents before front documents after → Holds after → FollowsRead contents Holds before (front ++ name ∷ others) name
+  pub follows_read : (Holds : ℕ → Type 0) (before : ℕ) (front others : List (List ℕ)) (documents : List Parsed) (after : ℕ) (name : List ℕ) → AreReadFrom contents before front documents after → Holds after → FollowsRead contents Holds before (front ++ name ∷ others) name
   follows_read Holds before [] others [] after name e h = inl (refl, subst Holds e h)
   follows_read Holds before [] others (d ∷ documents) after name e h = absurd e
   follows_read Holds before (first ∷ front) others [] after name e h = absurd e
@@ -23,7 +23,7 @@ module _ (contents : Contents) where
       inr (e.0, d, e.1, follows_read Holds (before + length e.0) front others documents after name e.2 h)
 
   -- what was read is not too long
-  pub read_bytes : (before : ℕ) (front : List (List ℕ)) (documents : List Said) (after : ℕ) (name : List ℕ) → AreReadFrom contents before front documents after → IsAmong front name → (bytes : List ℕ) × (contents name ≡ Some bytes) × (length bytes ≤ most_bytes)
+  pub read_bytes : (before : ℕ) (front : List (List ℕ)) (documents : List Parsed) (after : ℕ) (name : List ℕ) → AreReadFrom contents before front documents after → IsAmong front name → (bytes : List ℕ) × (contents name ≡ Some bytes) × (length bytes ≤ most_bytes)
   read_bytes before [] documents after name e among = absurd among
   read_bytes before (first ∷ front) [] after name e among = absurd e
   read_bytes before (first ∷ front) (d ∷ documents) after name e (inl f) =

@@ -1,4 +1,6 @@
+pub mod Defects
 pub mod Following
+pub mod Graphs
 pub mod OneWay
 pub mod Refusing
 pub mod Taking

@@ -1,17 +1,22 @@
 -- What a document is read as, and why it is not.
-use Rattle.std.proofs.Common.{Result, Ok, Err, IfErr, ◌≡◌, ◌≢◌, ◌<◌, ◌≤◌, ℕ, Option, None, Some, List, [], ◌++◌, length, refl, sym, ap, ◌∙◌, subst, arith}
+use Rattle.std.proofs.Common.{Result, Ok, Err, IfErr, ◌≡◌, ◌≢◌, ◌<◌, ◌≤◌, ◌+◌, ℕ, Bool, true, Option, None, Some, List, [], ◌++◌, length, take, refl, sym, ap, ◌∙◌, subst, arith}
 use Rattle.std.specs.Result.{IsErrAnd}
-use Rattle.std.proofs.lemmas.List.{length-append}
+use Rattle.std.proofs.lemmas.List.{append_assoc, length-append, length-take-le, take-append-le}
+use Rattle.owl_atom.specs.declared.prefixes.Prefix.{Prefix}
 use Rattle.owl_port.specs.Outside.{before}
 use Rattle.owl_port.specs.declared.whole.ReadFault as port
 use Rattle.owl_port.specs.declared.whole.ReadFault.TheVariants as pf
 use Rattle.owl_reader.specs.declared.fault.ReadFault.{ReadFault}
 use Rattle.owl_reader.specs.declared.fault.ReadFault.TheVariants as read
-use Rattle.fss_defects.specs.FirstDefects.{IsFirstDefect}
-use Rattle.owl_documents.specs.Documents.{AreFew, Contents, IsRefused, unreadable}
-use Rattle.owl_documents.specs.Reading.{IsLimit, IsLonger, IsProper, IsTroubleOf, IsTroubleOfShelf, failed, no_memory, too_long, trouble_of}
+use Rattle.rdf_graph.specs.declared.triple.Triple.{Triple}
+use Rattle.rdf_scans.specs.Outlines.{IsOutlineFault}
+use Rattle.rdf_scans.specs.declared.fault.OutlineFault.{OutlineFault}
+use Rattle.rdf_scans.specs.declared.fault.OutlineFault.TheVariants as outline
+use Rattle.ttl_grammar.specs.Documents.{ReadsTurtle}
+use Rattle.owl_documents.specs.Documents.{AreFew, Contents, IsDefect, IsRefused, defective, is_turtle, of_header}
+use Rattle.owl_documents.specs.Reading.{IsDefectUnder, IsLimit, IsLonger, IsProper, IsProperRefusal, IsTroubleOf, IsTroubleOfShelf, failed, no_memory, too_long, trouble_of, trouble_of_header}
 use Rattle.owl_documents.specs.declared.trouble.Refusal.{Refusal}
-use Rattle.owl_documents.specs.declared.trouble.Refusal.TheVariants.{DocumentBytes, AllBytes, Unreadable}
+use Rattle.owl_documents.specs.declared.trouble.Refusal.TheVariants.{DocumentBytes, AllBytes, Headless, Unreadable}
 use Rattle.owl_documents.specs.declared.trouble.Trouble.{Trouble}
 use Rattle.owl_documents.specs.declared.trouble.Trouble.TheVariants.{ReadFailed, Refused}
 
@@ -23,6 +28,20 @@ longer_by there None fed room e lacks more =
 longer_by there (Some rest) fed room e lacks more =
     let both = length-append fed rest in
     record { bytes = fed ++ rest; are = e; more = omega arith }
+
+-- a piece more was taken: what was put to the front of a buffer
+pub taken_more : (there middle now : Option (List ℕ)) (fed into behind : List ℕ) (n : ℕ) → there ≡ before fed middle → middle ≡ before (take n into) now → n ≤ length into → there ≡ before (fed ++ take n (into ++ behind)) now
+taken_more there middle None fed into behind n e f l = e ∙ ap (before fed) f
+taken_more there middle (Some rest) fed into behind n e f l =
+    e ∙ ap (before fed) f ∙ ap Some (sym (append_assoc fed (take n into) rest))
+    ∙ ap (λ (piece : List ℕ). before (fed ++ piece) (Some rest)) (sym (take-append-le n into behind l))
+
+pub counted_more : (size n : ℕ) (fed into behind : List ℕ) → size ≡ length fed → n ≤ length into → size + n ≡ length (fed ++ take n (into ++ behind))
+counted_more size n fed into behind e l =
+    let both = length-append fed (take n (into ++ behind)) in
+    let piece = ap (λ (xs : List ℕ). length xs) (take-append-le n into behind l) in
+    let taken = length-take-le n into l in
+    omega arith
 
 pub few_fed : (before size count : ℕ) → size ≡ count → AreFew before size → AreFew before count
 few_fed before size count e few = subst (AreFew before) e few
@@ -46,28 +65,63 @@ never_failed read.NumberTooLarge e = cc
 never_failed read.TooMany e = cc
 never_failed read.Memory e = cc
 
-module _ {T : Type 0} (r : Result T Trouble) (fault : ReadFault) (refused : IsErrAnd r (λ y. y ≡ trouble_of fault)) where
-  pub reader_trouble : (contents : Contents) (before : ℕ) (name bytes : List ℕ) → contents name ≡ Some bytes → AreFew before (length bytes) → (fault ≢ read.Memory → IsFirstDefect bytes fault) → IfErr r (IsTroubleOf contents before name)
-  reader_trouble contents before name bytes there few d = by_result r refused
+-- what is wrong with a header
+header_refusal_of : (fault : OutlineFault) (refusal : Refusal) → trouble_of_header fault ≡ Refused refusal → (refusal ≡ Headless fault) × (fault ≢ outline.Memory)
+header_refusal_of outline.NoHeader refusal e = (cc, λ f. cc)
+header_refusal_of outline.TwoHeaders refusal e = (cc, λ f. cc)
+header_refusal_of (outline.BadHeader node) refusal e = (cc, λ f. cc)
+header_refusal_of outline.Memory refusal e = absurd (cc)
+
+header_never_failed : (fault : OutlineFault) → trouble_of_header fault ≡ ReadFailed → ⊥
+header_never_failed outline.NoHeader e = cc
+header_never_failed outline.TwoHeaders e = cc
+header_never_failed (outline.BadHeader node) e = cc
+header_never_failed outline.Memory e = cc
+
+-- The trouble is what comes of this fault, whose refusal is of bytes that were fed.
+module _ {T Fault : Type 0} (trouble : Fault → Trouble) (r : Result T Trouble) (fault : Fault) (refused : IsErrAnd r (λ y. y ≡ trouble fault)) where
+  by_fault : (P : Trouble → Type 0) → P (trouble fault) → IfErr r P
+  by_fault P p = by_result r refused
     where
-      by_result : (r : Result T Trouble) → IsErrAnd r (λ y. y ≡ trouble_of fault) → IfErr r (IsTroubleOf contents before name)
+      by_result : (r : Result T Trouble) → IsErrAnd r (λ y. y ≡ trouble fault) → IfErr r P
       by_result (Ok x) e = tt
-      by_result (Err trouble) e = λ refusal is.
-          let told = refusal_of fault refusal (sym e ∙ is) in
-          record { bytes = bytes; there = there; refused = unreadable fault few (d told.1) told.0 }
+      by_result (Err y) e = subst P (sym e) p
+
+  not_failed : (trouble fault ≡ ReadFailed → ⊥) → r ≢ Err ReadFailed
+  not_failed n f = n (sym (subst (λ (x : Result T Trouble). IsErrAnd x (λ y. y ≡ trouble fault)) f refused))
+
+module _ {T : Type 0} (r : Result T Trouble) (fault : ReadFault) (refused : IsErrAnd r (λ y. y ≡ trouble_of fault)) where
+  pub reader_defect : (turtle : Bool) (Fed : List ℕ → Type 0) → (fault ≢ read.Memory → (bytes : List ℕ) → Fed bytes → (name : List ℕ) → is_turtle name ≡ turtle → IsDefect name bytes (Unreadable fault)) → IfErr r (λ trouble. (bytes : List ℕ) → Fed bytes → IsDefectUnder turtle bytes trouble)
+  reader_defect turtle Fed d = by_fault trouble_of r fault refused (λ trouble. (bytes : List ℕ) → Fed bytes → IsDefectUnder turtle bytes trouble) (λ bytes fed refusal is name t.
+      let told = refusal_of fault refusal is in
+      subst (IsDefect name bytes) (sym told.0) (d told.1 bytes fed name t))
 
   pub reader_proper : IfErr r IsProper
-  reader_proper = by_result r refused
-    where
-      by_result : (r : Result T Trouble) → IsErrAnd r (λ y. y ≡ trouble_of fault) → IfErr r IsProper
-      by_result (Ok x) e = tt
-      by_result (Err trouble) e = λ is.
-          let told = refusal_of fault (Unreadable read.Memory) (sym e ∙ is) in
-          let same : fault ≡ read.Memory = let g = told.0 in cc in
-          told.1 same
+  reader_proper = by_fault trouble_of r fault refused IsProper (λ refusal is.
+      let told = refusal_of fault refusal is in
+      subst IsProperRefusal (sym told.0) told.1)
 
-  pub reader_never_failed : r ≡ Err ReadFailed → ⊥
-  reader_never_failed f = never_failed fault (sym (subst (λ (x : Result T Trouble). IsErrAnd x (λ y. y ≡ trouble_of fault)) f refused))
+  pub reader_never_failed : r ≢ Err ReadFailed
+  reader_never_failed = not_failed trouble_of r fault refused (never_failed fault)
+
+module _ {T : Type 0} (r : Result T Trouble) (fault : OutlineFault) (refused : IsErrAnd r (λ y. y ≡ trouble_of_header fault)) where
+  pub header_defect : (Fed : List ℕ → Type 0) (prefixes : List Prefix) (triples : List Triple) → ((bytes : List ℕ) → Fed bytes → ReadsTurtle bytes prefixes triples) → IsOutlineFault triples fault → IfErr r (λ trouble. (bytes : List ℕ) → Fed bytes → IsDefectUnder true bytes trouble)
+  header_defect Fed prefixes triples reads f = by_fault trouble_of_header r fault refused (λ trouble. (bytes : List ℕ) → Fed bytes → IsDefectUnder true bytes trouble) (λ bytes fed refusal is name t.
+      let told = header_refusal_of fault refusal is in
+      subst (IsDefect name bytes) (sym told.0) (of_header fault prefixes triples t (reads bytes fed) told.1 f))
+
+  pub header_proper : IfErr r IsProper
+  header_proper = by_fault trouble_of_header r fault refused IsProper (λ refusal is.
+      let told = header_refusal_of fault refusal is in
+      subst IsProperRefusal (sym told.0) told.1)
+
+  pub header_not_failed : r ≢ Err ReadFailed
+  header_not_failed = not_failed trouble_of_header r fault refused (header_never_failed fault)
+
+-- the document under a name has the defect of its bytes
+pub defect_trouble : (contents : Contents) (before : ℕ) (turtle : Bool) (name bytes : List ℕ) (trouble : Trouble) → is_turtle name ≡ turtle → contents name ≡ Some bytes → AreFew before (length bytes) → IsDefectUnder turtle bytes trouble → IsTroubleOf contents before name trouble
+defect_trouble contents before turtle name bytes trouble t there few d = λ refusal is.
+    record { bytes = bytes; there = there; refused = defective few (d refusal is name t) }
 
 -- what a shelf refuses
 module _ (before : ℕ) (fault : port.ReadFault) (trouble : Trouble) (of : IsTroubleOfShelf before fault trouble) where
@@ -85,15 +139,16 @@ module _ (before : ℕ) (fault : port.ReadFault) (trouble : Trouble) (of : IsTro
   pub shelf_proper : IsProper trouble
   shelf_proper = by_cause of
     where
-      no_limit : (limit : Refusal) → IsLimit limit → limit ≡ Unreadable read.Memory → ⊥
-      no_limit DocumentBytes l e = cc
-      no_limit AllBytes l e = cc
-      no_limit (Unreadable f) l e = l
+      of_limit : (limit : Refusal) → IsLimit limit → IsProperRefusal limit
+      of_limit DocumentBytes l = tt
+      of_limit AllBytes l = tt
+      of_limit (Unreadable f) l = absurd l
+      of_limit (Headless f) l = absurd l
 
       by_cause : IsTroubleOfShelf before fault trouble → IsProper trouble
-      by_cause (failed f e) = λ is. absurd (cc)
-      by_cause (too_long limit f l p e) = λ is. let same : limit ≡ Unreadable read.Memory = cc in no_limit limit l same
-      by_cause (no_memory e) = λ is. absurd (cc)
+      by_cause (failed f e) = λ refusal is. absurd (cc)
+      by_cause (too_long limit f l p e) = λ refusal is. let same : limit ≡ refusal = cc in subst IsProperRefusal same (of_limit limit l)
+      by_cause (no_memory e) = λ refusal is. absurd (cc)
 
   pub shelf_failed : trouble ≡ ReadFailed → fault ≡ pf.Failed
   shelf_failed is = by_cause of

@@ -4,10 +4,10 @@ use Rattle.std.proofs.lemmas.List.{append-nil, length-append, map-append, take_a
 use Rattle.owl_characters.specs.Limit.{most_bytes}
 use Rattle.owl_port.specs.Outside.{Rose}
 use Rattle.owl_command.specs.Commands.{AreDistinct, IsAmong, Request, names_of}
-use Rattle.owl_doc.specs.Documents.{Document}
-use Rattle.owl_documents.specs.Documents.{AreReadFrom, Contents, FollowsRead, IsRead, IsRefusedAt, Said, said_of}
+use Rattle.owl_documents.specs.Documents.{AreReadFrom, Contents, FollowsRead, IsRead, IsRefusedAt, Parsed, parsed_of}
 use Rattle.owl_documents.specs.Reading.{IsProper, IsReadAs, IsStop, IsTakenAlone, IsTroubleOf, of_failure, of_no_memory, of_refusal}
 use Rattle.owl_documents.specs.Shelves.{IsFrontTaken, IsTaken, Rises, Shelves}
+use Rattle.owl_documents.specs.declared.document.Document.{Document}
 use Rattle.owl_documents.specs.declared.reading.Read.{Read}
 use Rattle.owl_documents.specs.declared.trouble.Refusal.{Refusal}
 use Rattle.owl_documents.specs.declared.trouble.Trouble.{Trouble}
@@ -15,7 +15,7 @@ use Rattle.owl_documents.specs.declared.trouble.Trouble.TheVariants.{ReadFailed,
 use Rattle.owl_documents.proofs.Following.{among_front, among_here, among_parts, apart, apart_behind, follows_read, front_and, parts, read_bytes, read_next}
 
 -- These documents were read to their ends, and no others were touched.
-pub record AreTaken (s : Shelves) (front : List (List ℕ)) (documents : List Said) (size : ℕ) : Type 0 where
+pub record AreTaken (s : Shelves) (front : List (List ℕ)) (documents : List Parsed) (size : ℕ) : Type 0 where
   pub read : IsTrue s.tells → AreReadFrom s.old 0 front documents size
   pub ended : IsTrue s.tells → (name : List ℕ) → IsAmong front name → s.new name ≡ Some []
   pub others : IsTrue s.tells → (name : List ℕ) → (IsAmong front name → ⊥) → s.new name ≡ s.old name
@@ -32,7 +32,7 @@ nothing_taken None = ([], omega arith, refl)
 nothing_taken (Some rest) = ([], omega arith, refl)
 
 -- of all of them nothing is left
-pub taken_whole : (s : Shelves) (request : Request) (documents : List Said) (size : ℕ) → AreTaken s (names_of request) documents size → IsTrue s.tells → IsTaken request s.old s.new
+pub taken_whole : (s : Shelves) (request : Request) (documents : List Parsed) (size : ℕ) → AreTaken s (names_of request) documents size → IsTrue s.tells → IsTaken request s.old s.new
 taken_whole s request documents size a tells = record {
   taken = λ name among.
       let b = read_bytes s.old 0 (names_of request) documents size name (a.read tells) among in
@@ -41,7 +41,7 @@ taken_whole s request documents size a tells = record {
 }
 
 -- One more is read from the shelf behind these, or it stops there.
-module _ (tells now : Bool) (told : now ≡ tells) (old middle new : Contents) (faults counts later : List ℕ → ℕ) (front others : List (List ℕ)) (name : List ℕ) (distinct : AreDistinct (front ++ name ∷ others)) (documents : List Said) (size : ℕ) (before : AreTaken (record { tells = tells; old = old; new = middle; faults = faults; later = counts }) front documents size) (alone : IsTakenAlone name (record { tells = now; old = middle; new = new; faults = counts; later = later })) where
+module _ (tells now : Bool) (told : now ≡ tells) (old middle new : Contents) (faults counts later : List ℕ → ℕ) (front others : List (List ℕ)) (name : List ℕ) (distinct : AreDistinct (front ++ name ∷ others)) (documents : List Parsed) (size : ℕ) (before : AreTaken (record { tells = tells; old = old; new = middle; faults = faults; later = counts }) front documents size) (alone : IsTakenAlone name (record { tells = now; old = middle; new = new; faults = counts; later = later })) where
   tells_yet : IsTrue tells → IsTrue now
   tells_yet t = subst IsTrue (sym told) t
 
@@ -54,12 +54,12 @@ module _ (tells now : Bool) (told : now ≡ tells) (old middle new : Contents) (
   is_other : (x : List ℕ) → IsAmong front x → x ≢ name
   is_other x among e = apart_here (subst (IsAmong front) e among)
 
-  pub more : (read : Read) → (IsTrue now → IsReadAs middle size name read) → (IsTrue now → new name ≡ Some []) → AreTaken (record { tells = tells; old = old; new = new; faults = faults; later = later }) (front ++ name ∷ []) (documents ++ said_of read.doc ∷ []) (size + read.size)
+  pub more : (read : Read) → (IsTrue now → IsReadAs middle size name read) → (IsTrue now → new name ≡ Some []) → AreTaken (record { tells = tells; old = old; new = new; faults = faults; later = later }) (front ++ name ∷ []) (documents ++ parsed_of read.document ∷ []) (size + read.size)
   more read is ended = record {
     read = λ t.
         let r = is (tells_yet t) in
-        let here : IsRead old size name r.bytes (said_of read.doc) = record { there = sym (own t) ∙ r.is.there; few = r.is.few; reads = r.is.reads } in
-        subst (λ (n : ℕ). AreReadFrom old 0 (front ++ name ∷ []) (documents ++ said_of read.doc ∷ []) (size + n)) (sym r.size) (read_next old 0 front documents size name r.bytes (said_of read.doc) (before.read t) here);
+        let here : IsRead old size name r.bytes (parsed_of read.document) = record { there = sym (own t) ∙ r.is.there; few = r.is.few; reads = r.is.reads } in
+        subst (λ (n : ℕ). AreReadFrom old 0 (front ++ name ∷ []) (documents ++ parsed_of read.document ∷ []) (size + n)) (sym r.size) (read_next old 0 front documents size name r.bytes (parsed_of read.document) (before.read t) here);
     ended = λ t x among. elim (among_parts front [] name x among) [
       | inl h ↦ alone.others (tells_yet t) x (is_other x h) ∙ before.ended t x h
       | inr h ↦ elim h [ inl e ↦ ap new e ∙ ended (tells_yet t) | inr n ↦ absurd n ]
@@ -114,17 +114,17 @@ module _ (tells now : Bool) (told : now ≡ tells) (old middle new : Contents) (
     stop_at document ReadFailed at bound proper of failed =
         of_failure name at refl (among, rises (failed refl)) (λ t. follows (λ _. Rises (record { tells = tells; old = old; new = new; faults = faults; later = later }) name) t (rises (failed refl)))
     stop_at document (Refused refusal) at bound proper of failed =
-        of_refusal name at refusal refl (λ e. proper (ap Refused e)) (λ t. follows (IsRefusedAt old name refusal) t (refused_here refusal t (of (tells_yet t) refusal refl)))
+        of_refusal name at refusal refl (proper refusal refl) (λ t. follows (IsRefusedAt old name refusal) t (refused_here refusal t (of (tells_yet t) refusal refl)))
     stop_at document Memory at bound proper of failed = of_no_memory bound refl
 
 -- The same, where the name stands at this place.
-module _ {tells now : Bool} {old middle new : Contents} {faults counts later : List ℕ → ℕ} (told : now ≡ tells) (request : Request) (distinct : AreDistinct (names_of request)) (place : ℕ) (name : List ℕ) (at : slice_get (names_of request) place ≡ Some name) (documents : List Said) (size : ℕ) (before : AreTaken (record { tells = tells; old = old; new = middle; faults = faults; later = counts }) (take place (names_of request)) documents size) (alone : IsTakenAlone name (record { tells = now; old = middle; new = new; faults = counts; later = later })) where
+module _ {tells now : Bool} {old middle new : Contents} {faults counts later : List ℕ → ℕ} (told : now ≡ tells) (request : Request) (distinct : AreDistinct (names_of request)) (place : ℕ) (name : List ℕ) (at : slice_get (names_of request) place ≡ Some name) (documents : List Parsed) (size : ℕ) (before : AreTaken (record { tells = tells; old = old; new = middle; faults = faults; later = counts }) (take place (names_of request)) documents size) (alone : IsTakenAlone name (record { tells = now; old = middle; new = new; faults = counts; later = later })) where
   apart_at : AreDistinct (take place (names_of request) ++ name ∷ drop (suc place) (names_of request))
   apart_at = subst AreDistinct (parts (names_of request) place name at) distinct
 
-  pub next : (read : Read) → (IsTrue now → IsReadAs middle size name read) → (IsTrue now → new name ≡ Some []) → AreTaken (record { tells = tells; old = old; new = new; faults = faults; later = later }) (take (suc place) (names_of request)) (documents ++ said_of read.doc ∷ []) (size + read.size)
+  pub next : (read : Read) → (IsTrue now → IsReadAs middle size name read) → (IsTrue now → new name ≡ Some []) → AreTaken (record { tells = tells; old = old; new = new; faults = faults; later = later }) (take (suc place) (names_of request)) (documents ++ parsed_of read.document ∷ []) (size + read.size)
   next read is ended =
-      subst (λ (front : List (List ℕ)). AreTaken (record { tells = tells; old = old; new = new; faults = faults; later = later }) front (documents ++ said_of read.doc ∷ []) (size + read.size)) (sym (front_and (names_of request) place name at)) (more tells now told old middle new faults counts later (take place (names_of request)) (drop (suc place) (names_of request)) name apart_at documents size before alone read is ended)
+      subst (λ (front : List (List ℕ)). AreTaken (record { tells = tells; old = old; new = new; faults = faults; later = later }) front (documents ++ parsed_of read.document ∷ []) (size + read.size)) (sym (front_and (names_of request) place name at)) (more tells now told old middle new faults counts later (take place (names_of request)) (drop (suc place) (names_of request)) name apart_at documents size before alone read is ended)
 
   pub taken_at : IsTrue tells → IsTaken request old new
   taken_at =
@@ -135,13 +135,13 @@ module _ {tells now : Bool} {old middle new : Contents} {faults counts later : L
       stop_at tells now told old middle new faults counts later (take place (names_of request)) (drop (suc place) (names_of request)) name apart_at documents size before alone request (parts (names_of request) place name at) document trouble (subst (λ (n : ℕ). slice_get (names_of request) n ≡ Some name) same at) (subst (λ (n : ℕ). n < length (names_of request)) same bound) proper of failed
 
 -- a document was put behind the others
-pub kept : (s : Shelves) (names : List (List ℕ)) (docs new : List Document) (doc : Document) (size : ℕ) → new ≡ docs ++ doc ∷ [] → AreTaken s (take (suc (length docs)) names) (map said_of docs ++ said_of doc ∷ []) size → AreTaken s (take (length new) names) (map said_of new) size
+pub kept : (s : Shelves) (names : List (List ℕ)) (docs new : List Document) (doc : Document) (size : ℕ) → new ≡ docs ++ doc ∷ [] → AreTaken s (take (suc (length docs)) names) (map parsed_of docs ++ parsed_of doc ∷ []) size → AreTaken s (take (length new) names) (map parsed_of new) size
 kept s names docs new doc size e a =
     let count : length new ≡ suc (length docs) = let l = ap (λ (ds : List Document). length ds) e ∙ length-append docs (doc ∷ []) in omega arith in
-    let said = ap (map said_of) e ∙ map-append said_of docs (doc ∷ []) in
-    subst (λ (n : ℕ). AreTaken s (take n names) (map said_of new) size) (sym count) (subst (λ (ds : List Said). AreTaken s (take (suc (length docs)) names) ds size) (sym said) a)
+    let parsed = ap (map parsed_of) e ∙ map-append parsed_of docs (doc ∷ []) in
+    subst (λ (n : ℕ). AreTaken s (take n names) (map parsed_of new) size) (sym count) (subst (λ (ds : List Parsed). AreTaken s (take (suc (length docs)) names) ds size) (sym parsed) a)
 
 -- all of them are taken
-pub all_of : (s : Shelves) (names : List (List ℕ)) (place : ℕ) (documents : List Said) (size : ℕ) → length names ≤ place → AreTaken s (take place names) documents size → AreTaken s names documents size
+pub all_of : (s : Shelves) (names : List (List ℕ)) (place : ℕ) (documents : List Parsed) (size : ℕ) → length names ≤ place → AreTaken s (take place names) documents size → AreTaken s names documents size
 all_of s names place documents size l a =
     subst (λ (front : List (List ℕ)). AreTaken s front documents size) (take_all place names l) a

@@ -1,14 +1,32 @@
 -- Documents as they stand under their names, and what they say.
-use Rattle.std.specs.Prelude.{◌≡◌, ◌<◌, ◌≤◌, ◌+◌, ◌^◌, ◌⊎◌, ℕ, Option, Some, List, [], ◌∷◌, length}
+use Rattle.std.specs.Prelude.{◌≡◌, ◌≢◌, ◌<◌, ◌≤◌, ◌+◌, ◌^◌, ◌⊎◌, ℕ, Bool, true, false, nat_eq, Option, Some, List, [], ◌∷◌, codes, length}
+use Rattle.std.specs.List.{ends_with}
 use Rattle.owl_characters.specs.Limit.{most_bytes}
+use Rattle.owl_atom.specs.Prefixes.{AreAscending}
 use Rattle.owl_atom.specs.declared.prefixes.Prefix.{Prefix}
-use Rattle.owl_tree.specs.Ontologies.{IsSameOntology, Ontology}
-use Rattle.owl_doc.specs.Documents.{Document, ontology_of}
-use Rattle.fss_terms.specs.Functional.{ReadsFunctional}
-use Rattle.fss_defects.specs.FirstDefects.{IsFirstDefect}
+use Rattle.owl_doc.specs.Documents as doc
+use Rattle.owl_doc.specs.Entities.{Declares}
+use Rattle.owl_doc.specs.Heads.{head_of}
+use Rattle.owl_kind.specs.Kinds.{IsDeclared}
+use Rattle.owl_kind.specs.declared.kind.Kind.{Kind}
 use Rattle.owl_reader.specs.declared.fault.ReadFault.{ReadFault}
+use Rattle.owl_tree.specs.Ontologies.{Head, IsSameOntology, Ontology}
+use Rattle.fss_defects.specs.FirstDefects as fss
+use Rattle.fss_terms.specs.Functional.{ReadsFunctional}
+use Rattle.rdf_graph.specs.declared.term.Term.{Term}
+use Rattle.rdf_graph.specs.declared.triple.Triple.{Triple}
+use Rattle.rdf_meaning.specs.Statements.{IsHeadOf, headers}
+use Rattle.rdf_scans.specs.Outlines.{IsOutlineFault, declarations}
+use Rattle.rdf_scans.specs.declared.fault.OutlineFault.{OutlineFault}
+use Rattle.rdf_scans.specs.declared.fault.OutlineFault.TheVariants as outline
+use Rattle.ttl_grammar.specs.Documents as ttl
+use Rattle.ttl_grammar.specs.Documents.{ReadsTurtle}
+use Rattle.ttl_read.specs.NameTables.{ArePlain}
+use Rattle.owl_documents.specs.declared.document.Document.{Document}
+use Rattle.owl_documents.specs.declared.document.Document.TheVariants as document
+use Rattle.owl_documents.specs.declared.document.GraphDocument.{GraphDocument}
 use Rattle.owl_documents.specs.declared.trouble.Refusal.{Refusal}
-use Rattle.owl_documents.specs.declared.trouble.Refusal.TheVariants.{DocumentBytes, AllBytes, Unreadable}
+use Rattle.owl_documents.specs.declared.trouble.Refusal.TheVariants.{DocumentBytes, AllBytes, Unreadable, Headless}
 
 -- the bytes under each name, where there are any
 abbrev pub Contents : Type 0
@@ -24,13 +42,51 @@ pub record IsSame (a b : Said) : Type 0 where
   pub prefixes : a.prefixes ≡ b.prefixes
   pub ontology : IsSameOntology a.ontology b.ontology
 
--- The bytes under this name say this. The suffix of the name tells their syntax, which is Functional-Style Syntax.
-abbrev pub Reads : List ℕ → List ℕ → Said → Type 0
-Reads name bytes said = ReadsFunctional bytes said.prefixes said.ontology
+-- a graph, and the prefixes that it has for it
+pub record GraphRead : Type 0 where
+  pub prefixes : List Prefix
+  pub triples : List Triple
+  pub head : Head
 
--- the first defect of the bytes under this name
-abbrev pub HasFirstDefect : List ℕ → List ℕ → ReadFault → Type 0
-HasFirstDefect name bytes fault = IsFirstDefect bytes fault
+-- What is read of a document before the kinds of IRIs are known: what it says, or a graph with the head that its header gives.
+pub data Parsed : Type 0 where
+  an_ontology : Said → Parsed
+  a_graph : GraphRead → Parsed
+
+-- how the document's ontology is called, and what it imports
+abbrev pub head_in : Parsed → Head
+head_in (an_ontology said) = said.ontology.head
+head_in (a_graph read) = read.head
+
+-- the document declares the IRI as this kind
+abbrev pub DeclaresAs : Parsed → Kind → List ℕ → Type 0
+DeclaresAs (an_ontology said) kind iri = Declares said.ontology kind iri
+DeclaresAs (a_graph read) kind iri = IsDeclared (declarations read.triples) kind iri
+
+-- the suffix of the name tells that the document is Turtle; else it is Functional-Style Syntax
+abbrev pub is_turtle : List ℕ → Bool
+is_turtle name = ends_with nat_eq name (codes ".ttl")
+
+-- The bytes are a document in Turtle with this graph and these prefixes, whose header gives this head.
+pub record ReadsGraph (bytes : List ℕ) (read : GraphRead) : Type 0 where
+  pub reads : ReadsTurtle bytes read.prefixes read.triples
+  pub ascending : AreAscending read.prefixes
+  pub plain : ArePlain read.prefixes
+  pub header : Term
+  pub one_header : headers read.triples ≡ header ∷ []
+  pub is_head : IsHeadOf read.triples header read.head
+
+-- the bytes under this name are read as this
+abbrev pub Reads : List ℕ → List ℕ → Parsed → Type 0
+Reads name bytes (an_ontology said) = (is_turtle name ≡ false) × ReadsFunctional bytes said.prefixes said.ontology
+Reads name bytes (a_graph read) = (is_turtle name ≡ true) × ReadsGraph bytes read
+
+-- What is wrong with the bytes under this name: the first defect by the grammar of their syntax, or what is wrong with the header of the graph.
+pub data IsDefect (name bytes : List ℕ) : Refusal → Type 0 where
+  of_functional : (fault : ReadFault) → is_turtle name ≡ false → fss.IsFirstDefect bytes fault → IsDefect name bytes (Unreadable fault)
+  of_turtle : (fault : ReadFault) → is_turtle name ≡ true → ttl.IsFirstDefect bytes fault → IsDefect name bytes (Unreadable fault)
+  of_header : (fault : OutlineFault) (prefixes : List Prefix) (triples : List Triple) → is_turtle name ≡ true → ReadsTurtle bytes prefixes triples →
+      fault ≢ outline.Memory → IsOutlineFault triples fault → IsDefect name bytes (Headless fault)
 
 -- the most bytes of all documents together
 abbrev pub most_bytes_of_all : ℕ
@@ -46,30 +102,30 @@ pub record AreFew (before size : ℕ) : Type 0 where
 pub data IsRefused (before : ℕ) (name bytes : List ℕ) (refusal : Refusal) : Type 0 where
   own_limit : most_bytes < length bytes → before + most_bytes ≤ most_bytes_of_all → refusal ≡ DocumentBytes → IsRefused before name bytes refusal
   limit_of_all : most_bytes_of_all < before + length bytes → most_bytes_of_all < before + most_bytes → refusal ≡ AllBytes → IsRefused before name bytes refusal
-  unreadable : (fault : ReadFault) → AreFew before (length bytes) → HasFirstDefect name bytes fault → refusal ≡ Unreadable fault → IsRefused before name bytes refusal
+  defective : AreFew before (length bytes) → IsDefect name bytes refusal → IsRefused before name bytes refusal
 
--- There are these bytes under the name, and they say this.
-pub record IsRead (contents : Contents) (before : ℕ) (name bytes : List ℕ) (said : Said) : Type 0 where
+-- There are these bytes under the name, and they are read as this.
+pub record IsRead (contents : Contents) (before : ℕ) (name bytes : List ℕ) (parsed : Parsed) : Type 0 where
   pub there : contents name ≡ Some bytes
   pub few : AreFew before (length bytes)
-  pub reads : Reads name bytes said
+  pub reads : Reads name bytes parsed
 
--- The documents under these names say this, one by one, and have so many bytes with those before them.
-abbrev pub AreReadFrom : Contents → ℕ → List (List ℕ) → List Said → ℕ → Type 0
+-- The documents under these names are read as this, one by one, and have so many bytes with those before them.
+abbrev pub AreReadFrom : Contents → ℕ → List (List ℕ) → List Parsed → ℕ → Type 0
 AreReadFrom contents before [] [] after = after ≡ before
-AreReadFrom contents before (name ∷ names) (said ∷ others) after =
-    (bytes : List ℕ) × IsRead contents before name bytes said × AreReadFrom contents (before + length bytes) names others after
+AreReadFrom contents before (name ∷ names) (parsed ∷ others) after =
+    (bytes : List ℕ) × IsRead contents before name bytes parsed × AreReadFrom contents (before + length bytes) names others after
 AreReadFrom contents before names documents after = ⊥
 
--- the documents under these names say this
-abbrev pub AreRead : Contents → List (List ℕ) → List Said → Type 0
+-- the documents under these names are read as this
+abbrev pub AreRead : Contents → List (List ℕ) → List Parsed → Type 0
 AreRead contents names documents = (after : ℕ) × AreReadFrom contents 0 names documents after
 
 -- The name is one of these, each document before it is read, and this holds behind their bytes.
 abbrev pub FollowsRead : Contents → (ℕ → Type 0) → ℕ → List (List ℕ) → List ℕ → Type 0
 FollowsRead contents Holds before [] name = ⊥
 FollowsRead contents Holds before (first ∷ others) name =
-    ((name ≡ first) × Holds before) ⊎ ((bytes : List ℕ) × (said : Said) × IsRead contents before first bytes said × FollowsRead contents Holds (before + length bytes) others name)
+    ((name ≡ first) × Holds before) ⊎ ((bytes : List ℕ) × (parsed : Parsed) × IsRead contents before first bytes parsed × FollowsRead contents Holds (before + length bytes) others name)
 
 -- There are bytes under the name that are refused.
 pub record IsRefusedAt (contents : Contents) (name : List ℕ) (refusal : Refusal) (before : ℕ) : Type 0 where
@@ -82,5 +138,13 @@ abbrev pub IsFirstRefused : Contents → List (List ℕ) → List ℕ → Refusa
 IsFirstRefused contents names name refusal = FollowsRead contents (IsRefusedAt contents name refusal) 0 names name
 
 -- what a document that is read says
-abbrev pub said_of : Document → Said
-said_of doc = record { prefixes = doc.prefixes; ontology = ontology_of doc }
+abbrev pub said_of : doc.Document → Said
+said_of d = record { prefixes = d.prefixes; ontology = doc.ontology_of d }
+
+abbrev pub graph_read_of : GraphDocument → GraphRead
+graph_read_of d = record { prefixes = d.prefixes; triples = d.graph; head = head_of d.head }
+
+-- what it is read as
+abbrev pub parsed_of : Document → Parsed
+parsed_of (document.Ontology d) = an_ontology (said_of d)
+parsed_of (document.Graph d) = a_graph (graph_read_of d)

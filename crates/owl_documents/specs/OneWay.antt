@@ -1,17 +1,30 @@
 -- Documents are read in one way, or refused in one way.
 use Rattle.std.specs.Prelude.{◌≡◌, ℕ, List, [], ◌∷◌}
-use Rattle.owl_documents.specs.Documents.{AreRead, Contents, IsFirstRefused, IsSame, Said}
+use Rattle.owl_tree.specs.Ontologies.{IsSameHead}
+use Rattle.owl_documents.specs.Documents.{AreRead, Contents, GraphRead, IsFirstRefused, IsSame, Parsed, an_ontology, a_graph}
 use Rattle.owl_documents.specs.declared.trouble.Refusal.{Refusal}
 
+-- the same graph, with the same prefixes and the same head
+pub record IsSameGraph (a b : GraphRead) : Type 0 where
+  pub prefixes : a.prefixes ≡ b.prefixes
+  pub triples : a.triples ≡ b.triples
+  pub head : IsSameHead a.head b.head
+
+abbrev pub IsSameParsed : Parsed → Parsed → Type 0
+IsSameParsed (an_ontology a) (an_ontology b) = IsSame a b
+IsSameParsed (a_graph a) (a_graph b) = IsSameGraph a b
+IsSameParsed (an_ontology a) (a_graph b) = ⊥
+IsSameParsed (a_graph a) (an_ontology b) = ⊥
+
 -- one by one the same
-abbrev pub AreSame : List Said → List Said → Type 0
+abbrev pub AreSame : List Parsed → List Parsed → Type 0
 AreSame [] [] = Unit {0}
-AreSame (a ∷ xs) (b ∷ ys) = IsSame a b × AreSame xs ys
+AreSame (a ∷ xs) (b ∷ ys) = IsSameParsed a b × AreSame xs ys
 AreSame xs ys = ⊥
 
 abbrev pub ReadOneWay : Type 0
 ReadOneWay =
-    (contents : Contents) (names : List (List ℕ)) (documents others : List Said) → AreRead contents names documents → AreRead contents names others → AreSame documents others
+    (contents : Contents) (names : List (List ℕ)) (documents others : List Parsed) → AreRead contents names documents → AreRead contents names others → AreSame documents others
 
 abbrev pub RefusedOneWay : Type 0
 RefusedOneWay =
@@ -19,4 +32,4 @@ RefusedOneWay =
 
 abbrev pub NeverBoth : Type 0
 NeverBoth =
-    (contents : Contents) (names : List (List ℕ)) (documents : List Said) (name : List ℕ) (refusal : Refusal) → AreRead contents names documents → IsFirstRefused contents names name refusal → ⊥
+    (contents : Contents) (names : List (List ℕ)) (documents : List Parsed) (name : List ℕ) (refusal : Refusal) → AreRead contents names documents → IsFirstRefused contents names name refusal → ⊥

@@ -1,23 +1,23 @@
 -- What comes of reading documents from a shelf.
-use Rattle.std.specs.Prelude.{◌≡◌, ◌≢◌, ◌<◌, ℕ, IsTrue, List, Option, Some, length, slice_get}
+use Rattle.std.specs.Prelude.{◌≡◌, ◌≢◌, ◌<◌, ℕ, Bool, IsTrue, List, Option, Some, length, slice_get}
 use Rattle.owl_port.specs.Outside.{SameElsewhere}
-use Rattle.owl_reader.specs.Readings.{Reading}
 use Rattle.owl_reader.specs.declared.fault.ReadFault.{ReadFault}
 use Rattle.owl_reader.specs.declared.fault.ReadFault.TheVariants as read
-use Rattle.fss_acts.specs.declared.assembler.Assembler.{Assembler}
-use Rattle.fss_read.specs.Reading.{HasRead}
+use Rattle.rdf_scans.specs.declared.fault.OutlineFault.{OutlineFault}
+use Rattle.rdf_scans.specs.declared.fault.OutlineFault.TheVariants as outline
 use Rattle.owl_command.specs.Commands.{Request, names_of}
 use Rattle.owl_port.specs.declared.whole.ReadFault as port
 use Rattle.owl_port.specs.declared.whole.ReadFault.TheVariants as pf
-use Rattle.owl_documents.specs.Documents.{AreFew, Contents, IsFirstRefused, IsRead, IsRefused, IsRefusedAt, said_of}
+use Rattle.owl_documents.specs.Documents.{AreFew, Contents, IsDefect, IsFirstRefused, IsRead, IsRefused, IsRefusedAt, Parsed, Reads, is_turtle, parsed_of}
 use Rattle.owl_documents.specs.Shelves.{IsFaulty, IsFirstFaulty, IsFrontTaken, Rises, Shelves}
 use Rattle.owl_documents.specs.declared.reading.Read.{Read}
 use Rattle.owl_documents.specs.declared.trouble.Refusal.{Refusal}
-use Rattle.owl_documents.specs.declared.trouble.Refusal.TheVariants.{DocumentBytes, AllBytes, Unreadable}
+use Rattle.owl_documents.specs.declared.trouble.Refusal.TheVariants.{DocumentBytes, AllBytes, Unreadable, Headless}
 use Rattle.owl_documents.specs.declared.trouble.Stop.{Stop}
 use Rattle.owl_documents.specs.declared.trouble.Trouble.{Trouble}
 use Rattle.owl_documents.specs.declared.trouble.Trouble.TheVariants.{ReadFailed, Refused, Memory}
 
+-- what comes of a refusal of the reader
 abbrev pub trouble_of : ReadFault → Trouble
 trouble_of read.Memory = Memory
 trouble_of (read.Refused item at reason) = Refused (Unreadable (read.Refused item at reason))
@@ -27,12 +27,19 @@ trouble_of read.TooHeavy = Refused (Unreadable read.TooHeavy)
 trouble_of read.NumberTooLarge = Refused (Unreadable read.NumberTooLarge)
 trouble_of read.TooMany = Refused (Unreadable read.TooMany)
 
+-- and what comes of a graph that gives no head
+abbrev pub trouble_of_header : OutlineFault → Trouble
+trouble_of_header outline.Memory = Memory
+trouble_of_header outline.NoHeader = Refused (Headless outline.NoHeader)
+trouble_of_header outline.TwoHeaders = Refused (Headless outline.TwoHeaders)
+trouble_of_header (outline.BadHeader node) = Refused (Headless (outline.BadHeader node))
+
 -- a reader was fed all that is there, so many bytes
-pub record IsFed (there : Option (List ℕ)) (reader : Reading Assembler) (size : ℕ) : Type 0 where
+pub record IsFed (Fed : List ℕ → Type 0) (there : Option (List ℕ)) (size : ℕ) : Type 0 where
   pub bytes : List ℕ
   pub are : there ≡ Some bytes
   pub count : size ≡ length bytes
-  pub read : HasRead reader bytes
+  pub read : Fed bytes
 
 -- Bytes are taken from this document alone.
 pub record IsTakenAlone (name : List ℕ) (s : Shelves) : Type 0 where
@@ -51,6 +58,7 @@ abbrev pub IsLimit : Refusal → Type 0
 IsLimit DocumentBytes = Unit {0}
 IsLimit AllBytes = Unit {0}
 IsLimit (Unreadable fault) = ⊥
+IsLimit (Headless fault) = ⊥
 
 -- Why a document is not fed whole, behind so many bytes of others.
 pub data IsTroubleOfShelf (before : ℕ) (fault : port.ReadFault) (trouble : Trouble) : Type 0 where
@@ -58,15 +66,31 @@ pub data IsTroubleOfShelf (before : ℕ) (fault : port.ReadFault) (trouble : Tro
   too_long : (refusal : Refusal) → fault ≡ pf.TooLong → IsLimit refusal → ((name bytes : List ℕ) → (AreFew before (length bytes) → ⊥) → IsRefused before name bytes refusal) → trouble ≡ Refused refusal → IsTroubleOfShelf before fault trouble
   no_memory : trouble ≡ Memory → IsTroubleOfShelf before fault trouble
 
--- a refusal is no want of memory
+-- a refusal that is no want of memory
+abbrev pub IsProperRefusal : Refusal → Type 0
+IsProperRefusal DocumentBytes = Unit {0}
+IsProperRefusal AllBytes = Unit {0}
+IsProperRefusal (Unreadable fault) = fault ≢ read.Memory
+IsProperRefusal (Headless fault) = fault ≢ outline.Memory
+
+-- as each refusal is that is told
 abbrev pub IsProper : Trouble → Type 0
-IsProper trouble = trouble ≢ Refused (Unreadable read.Memory)
+IsProper trouble = (refusal : Refusal) → trouble ≡ Refused refusal → IsProperRefusal refusal
 
 -- what a document was read as, behind so many bytes of others
 pub record IsReadAs (contents : Contents) (before : ℕ) (name : List ℕ) (read : Read) : Type 0 where
   pub bytes : List ℕ
-  pub is : IsRead contents before name bytes (said_of read.doc)
+  pub is : IsRead contents before name bytes (parsed_of read.document)
   pub size : read.size ≡ length bytes
+
+-- Bytes that are refused so, under each name of this syntax, where they are refused.
+abbrev pub IsDefectUnder : Bool → List ℕ → Trouble → Type 0
+IsDefectUnder turtle bytes trouble =
+    (refusal : Refusal) → trouble ≡ Refused refusal → (name : List ℕ) → is_turtle name ≡ turtle → IsDefect name bytes refusal
+
+-- Bytes that are read so under each name of this syntax.
+abbrev pub AreReadUnder : Bool → List ℕ → Parsed → Type 0
+AreReadUnder turtle bytes parsed = (name : List ℕ) → is_turtle name ≡ turtle → Reads name bytes parsed
 
 -- a refusal is the document's
 abbrev pub IsTroubleOf : Contents → ℕ → List ℕ → Trouble → Type 0
@@ -75,6 +99,6 @@ IsTroubleOf contents before name trouble =
 
 -- Why reading stops: the first of the documents that is refused or could not be read, or want of memory.
 pub data IsStop (request : Request) (s : Shelves) (stop : Stop) : Type 0 where
-  of_refusal : (name : List ℕ) → slice_get (names_of request) stop.document ≡ Some name → (refusal : Refusal) → stop.trouble ≡ Refused refusal → refusal ≢ Unreadable read.Memory → (IsTrue s.tells → IsFirstRefused s.old (names_of request) name refusal) → IsStop request s stop
+  of_refusal : (name : List ℕ) → slice_get (names_of request) stop.document ≡ Some name → (refusal : Refusal) → stop.trouble ≡ Refused refusal → IsProperRefusal refusal → (IsTrue s.tells → IsFirstRefused s.old (names_of request) name refusal) → IsStop request s stop
   of_failure : (name : List ℕ) → slice_get (names_of request) stop.document ≡ Some name → stop.trouble ≡ ReadFailed → IsFaulty (Rises s) request name → (IsTrue s.tells → IsFirstFaulty s.old (Rises s) request name) → IsStop request s stop
   of_no_memory : stop.document < length (names_of request) → stop.trouble ≡ Memory → IsStop request s stop

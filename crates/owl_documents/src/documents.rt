@@ -3,14 +3,14 @@
 ghost use Rattle.std.specs.Prelude.{◌≡◌, ◌∷◌, ◌++◌, [], Some, length, map, IsTrue, IfOk, IfErr, OnOk};
 ghost use Rattle.std.specs.List.{AllByRecursion};
 ghost use Rattle.owl_command.specs.Commands.{AreDistinct, names_of, request_of};
-ghost use Rattle.owl_documents.specs.Documents.{AreRead, said_of};
+ghost use Rattle.owl_documents.specs.Documents.{AreRead, parsed_of};
 ghost use Rattle.owl_documents.specs.Reading.{IsStop};
 ghost use Rattle.owl_documents.specs.Shelves.{IsTaken};
 
+use crate::document::Document;
 use crate::reading::read_document;
 use crate::trouble::{Stop, Trouble};
 use owl_command::Command;
-use owl_doc::Doc;
 use owl_port::Shelf;
 use std::alloc::Global;
 
@@ -20,10 +20,10 @@ pub fn read_documents<S: Shelf>(
     alloc: Global,
     command: &Command,
     shelf: &mut S,
-) -> Result<Vec<Doc>, Stop>
+) -> Result<Vec<Document>, Stop>
     requires { AreDistinct (names_of (request_of command.now)) }
     ensures read { IsTrue (S.tells shelf.old) → IfOk result (λ docs.
-        AreRead (S.left shelf.old) (names_of (request_of command.now)) (map said_of docs.items)) }
+        AreRead (S.left shelf.old) (names_of (request_of command.now)) (map parsed_of docs.items)) }
     ensures count { IfOk result (λ docs. length docs.items ≡ length (names_of (request_of command.now))) }
     ensures stop { IfErr result (IsStop (request_of command.now)
         (record { tells = S.tells shelf.old; old = S.left shelf.old; new = S.left shelf.new; faults = S.faults shelf.old; later = S.faults shelf.new })) }
@@ -37,7 +37,7 @@ pub fn read_documents<S: Shelf>(
         match read_document(alloc, command.name(docs.len()), size, shelf) {
             Ok(read) => {
                 size += read.size;
-                keep(&mut docs, read.doc)?;
+                keep(&mut docs, read.document)?;
             }
             Err(trouble) => {
                 return Err(Stop {
@@ -51,7 +51,7 @@ pub fn read_documents<S: Shelf>(
 }
 
 /// Puts a document behind the others.
-fn keep(docs: &mut Vec<Doc>, doc: Doc) -> Result<(), Stop>
+fn keep(docs: &mut Vec<Document>, doc: Document) -> Result<(), Stop>
     ensures kept { OnOk result (docs.new.items ≡ docs.old.items ++ doc ∷ []) }
     ensures memory { IfErr result (λ stop. stop ≡ record { document = length docs.old.items; trouble = Trouble.Memory }) }
 {

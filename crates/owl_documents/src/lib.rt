@@ -1,12 +1,15 @@
 //! Reads the documents that a command names, each to its end, from any shelf.
 #![tactic(auto)]
 
+mod document;
 mod documents;
 mod laws;
 mod limits;
+mod readers;
 mod reading;
 mod trouble;
 
+pub use document::{Document, GraphDocument};
 pub use documents::read_documents;
 pub use laws::documents_are_read_one_way;
 pub use trouble::{Refusal, Stop, Trouble};

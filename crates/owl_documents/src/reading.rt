@@ -1,17 +1,15 @@
 //! Reads one document.
 
-ghost use Rattle.std.specs.Prelude.{◌≡◌, ◌≤◌, ◌+◌, Some, Err, [], IsTrue, IfOk, IfErr, OnOk};
-ghost use Rattle.owl_characters.specs.Limit.{most_bytes};
+ghost use Rattle.std.specs.Prelude.{◌≡◌, ◌≢◌, ◌≤◌, ◌+◌, Some, Err, [], IsTrue, IfOk, IfErr, OnOk};
 ghost use Rattle.owl_port.specs.Outside.{Rose};
-ghost use Rattle.fss_read.specs.Reading.{HasRead};
-ghost use Rattle.owl_documents.specs.Documents.{most_bytes_of_all};
+ghost use Rattle.owl_documents.specs.Documents.{is_turtle, most_bytes_of_all};
 ghost use Rattle.owl_documents.specs.Reading.{IsFed, IsLonger, IsProper, IsReadAs, IsTakenAlone, IsTroubleOf, IsTroubleOfShelf};
+ghost use Rattle.owl_characters.specs.Limit.{most_bytes};
 
+use crate::document::Document;
 use crate::limits::{limit_behind, room_behind};
+use crate::readers::DocumentReader;
 use crate::trouble::Trouble;
-use fss_read::Reader;
-use owl_characters::NoMemory;
-use owl_doc::Doc;
 use owl_port::{ReadFault, Shelf};
 use std::alloc::Global;
 
@@ -21,7 +19,7 @@ const PIECE: usize = 4096;
 /// A document, and of how many bytes it was read.
 #[derive(Drop)]
 pub struct Read {
-    pub doc: Doc,
+    pub document: Document,
     pub size: u64,
 }
 
@@ -31,16 +29,16 @@ pub struct Read {
 ///
 /// `TooLong` where there are more than `room` bytes, once `room + 1` of them were
 /// taken.
-fn feed_document<S: Shelf>(
-    reader: &mut Reader,
+fn feed_document<R: DocumentReader, S: Shelf>(
+    reader: &mut R,
     name: &str,
     room: u64,
     shelf: &mut S,
 ) -> Result<u64, ReadFault>
-    requires empty { HasRead reader.old [] }
+    requires empty { R.Fed reader.old [] }
     requires room { room ≤ most_bytes }
     ensures told { S.tells shelf.new ≡ S.tells shelf.old }
-    ensures fed { IsTrue (S.tells shelf.old) → IfOk result (IsFed (S.left shelf.old name.now) reader.new) }
+    ensures fed { IsTrue (S.tells shelf.old) → IfOk result (IsFed (R.Fed reader.new) (S.left shelf.old name.now)) }
     ensures within { IfOk result (λ size. size ≤ room) }
     ensures ended { IsTrue (S.tells shelf.old) → OnOk result (S.left shelf.new name.now ≡ Some []) }
     ensures longer { IsTrue (S.tells shelf.old) → result ≡ Err ReadFault.TooLong → IsLonger (S.left shelf.old name.now) room }
@@ -57,8 +55,7 @@ fn feed_document<S: Shelf>(
         if count == 0 {
             return Ok(size as u64);
         }
-        // The reader keeps a refusal.
-        let _ = reader.feed(&buffer[..count]);
+        reader.take(&buffer[..count]);
         size += count;
     }
     Err(ReadFault::TooLong)
@@ -76,8 +73,49 @@ fn trouble_of_shelf(fault: ReadFault, before: u64) -> Trouble
     }
 }
 
-/// Reads the document under this name to its end, behind so many bytes of other
-/// documents.
+/// Reads the document under this name, in the reader's syntax, to its end, behind
+/// so many bytes of other documents.
+fn read_in<R: DocumentReader, S: Shelf>(
+    alloc: Global,
+    name: &str,
+    before: u64,
+    shelf: &mut S,
+) -> Result<Read, Trouble>
+    requires syntax { is_turtle name.now ≡ R.turtle }
+    requires before { before ≤ most_bytes_of_all }
+    ensures told { S.tells shelf.new ≡ S.tells shelf.old }
+    ensures read { IsTrue (S.tells shelf.old) → IfOk result (IsReadAs (S.left shelf.old) before name.now) }
+    ensures within { IfOk result (λ read. before + read.size ≤ most_bytes_of_all) }
+    ensures ended { IsTrue (S.tells shelf.old) → OnOk result (S.left shelf.new name.now ≡ Some []) }
+    ensures trouble { IsTrue (S.tells shelf.old) → IfErr result (IsTroubleOf (S.left shelf.old) before name.now) }
+    ensures proper { IfErr result IsProper }
+    ensures alone { IsTakenAlone name.now
+        (record { tells = S.tells shelf.old; old = S.left shelf.old; new = S.left shelf.new; faults = S.faults shelf.old; later = S.faults shelf.new }) }
+    ensures failed { result ≡ Err Trouble.ReadFailed → Rose (S.faults shelf.old name.now) (S.faults shelf.new name.now) }
+{
+    let Ok(mut reader) = R::begin(alloc) else {
+        return Err(Trouble::Memory);
+    };
+    let fed = feed_document(&mut reader, name, room_behind(before), shelf);
+    let document = reader.document(alloc);
+    match fed {
+        Ok(size) => Ok(Read {
+            document: document?,
+            size,
+        }),
+        Err(fault) => Err(trouble_of_shelf(fault, before)),
+    }
+}
+
+/// Whether the name is that of a document in Turtle.
+fn is_turtle(name: &str) -> bool
+    ensures { result ≡ is_turtle name.now }
+{
+    name.ends_with(".ttl")
+}
+
+/// Reads the document under this name to its end, in the syntax that its suffix
+/// tells, behind so many bytes of other documents.
 pub fn read_document<S: Shelf>(
     alloc: Global,
     name: &str,
@@ -95,13 +133,9 @@ pub fn read_document<S: Shelf>(
         (record { tells = S.tells shelf.old; old = S.left shelf.old; new = S.left shelf.new; faults = S.faults shelf.old; later = S.faults shelf.new }) }
     ensures failed { result ≡ Err Trouble.ReadFailed → Rose (S.faults shelf.old name.now) (S.faults shelf.new name.now) }
 {
-    let Ok(mut reader) = Reader::new(alloc) else {
-        return Err(Trouble::Memory);
-    };
-    let fed = feed_document(&mut reader, name, room_behind(before), shelf);
-    let doc = reader.finish();
-    match fed {
-        Ok(size) => Ok(Read { doc: doc?, size }),
-        Err(fault) => Err(trouble_of_shelf(fault, before)),
+    if is_turtle(name) {
+        read_in::<ttl_read::Reader, S>(alloc, name, before, shelf)
+    } else {
+        read_in::<fss_read::Reader, S>(alloc, name, before, shelf)
     }
 }

@@ -1,12 +1,13 @@
 //! Why documents are not read.
 
 ghost use Rattle.std.specs.Prelude.{◌≡◌};
-ghost use Rattle.owl_documents.specs.Reading.{trouble_of};
+ghost use Rattle.owl_documents.specs.Reading.{trouble_of, trouble_of_header};
 
-use fss_read::ReadFault;
+use owl_reader::ReadFault;
+use rdf_scans::OutlineFault;
 
 /// Why a document is refused.
-#[derive(Clone, Copy, Debug, PartialEq, Eq)]
+#[derive(Debug, Drop)]
 pub enum Refusal {
     /// It has more than 2^27 bytes.
     DocumentBytes,
@@ -14,10 +15,12 @@ pub enum Refusal {
     AllBytes,
     /// The reader of its syntax refuses it.
     Unreadable(ReadFault),
+    /// Its graph has no header of an ontology.
+    Headless(OutlineFault),
 }
 
 /// Why a document is not read.
-#[derive(Clone, Copy, Debug, PartialEq, Eq)]
+#[derive(Debug, Drop)]
 pub enum Trouble {
     /// The shelf failed, or has no such document.
     ReadFailed,
@@ -28,7 +31,7 @@ pub enum Trouble {
 }
 
 /// Why documents are not read, and at which place among them.
-#[derive(Clone, Copy, Debug, PartialEq, Eq)]
+#[derive(Debug, Drop)]
 pub struct Stop {
     pub document: usize,
     pub trouble: Trouble,
@@ -41,6 +44,17 @@ impl From<ReadFault> for Trouble {
         match fault {
             ReadFault::Memory => Trouble::Memory,
             _ => Trouble::Refused(Refusal::Unreadable(fault)),
+        }
+    }
+}
+
+impl From<OutlineFault> for Trouble {
+    ghost from_gives = { λ fault e. e ≡ trouble_of_header fault };
+
+    fn from(fault: OutlineFault) -> Trouble {
+        match fault {
+            OutlineFault::Memory => Trouble::Memory,
+            _ => Trouble::Refused(Refusal::Headless(fault)),
         }
     }
 }

@@ -1,6 +1,5 @@
 use Rattle.std.proofs.Common.{◌≡◌, ◌≤◌, ◌+◌, ◌-◌, ℕ, None, List, [], length, IsTrue}
 use Rattle.owl_port.specs.Outside.{SameElsewhere, before}
-use Rattle.fss_read.specs.Reading.{HasRead}
 use Rattle.owl_documents.proofs.reading.feed_document.Given as goal
 
 -- a front of the bytes was fed
@@ -10,7 +9,7 @@ invariant-loop-size g l = record {
   within : l.size ≤ l.most;
   fed : List ℕ;
   counted : l.size ≡ length fed;
-  read : HasRead l.reader fed;
+  read : g.R.DocumentReader.Fed l.reader fed;
   told : g.S.Shelf.tells l.shelf ≡ g.S.Shelf.tells l.fn.shelf;
   taken : IsTrue (g.S.Shelf.tells l.fn.shelf) → g.S.Shelf.left l.fn.shelf l.name ≡ before fed (g.S.Shelf.left l.shelf l.name);
   lacks : IsTrue (g.S.Shelf.tells l.fn.shelf) → g.S.Shelf.left l.shelf l.name ≡ None → fed ≡ [];

@@ -1,0 +1,69 @@
+-- The bytes under a name are read in one way, or have one defect.
+use Rattle.std.proofs.Common.{◌≡◌, ◌≤◌, ℕ, List, [], ◌∷◌, length, ap, subst}
+use Rattle.owl_characters.specs.Limit.{most_bytes}
+use Rattle.owl_atom.specs.Prefixes.{iri_of}
+use Rattle.owl_atom.specs.declared.prefixes.Prefix.{Prefix}
+use Rattle.owl_tree.specs.Ontologies.{IsSameOntology, Ontology}
+use Rattle.owl_reader.specs.declared.fault.ReadFault.{ReadFault}
+use Rattle.fss_defects.specs.FirstDefects as fss
+use Rattle.fss_terms.specs.Functional.{ReadsFunctional}
+use Rattle.rdf_graph.specs.declared.triple.Triple.{Triple}
+use Rattle.rdf_meaning.specs.Statements.{IsHeadOf, headers}
+use Rattle.rdf_scans.specs.Outlines.{IsOutlineFault}
+use Rattle.ttl_grammar.specs.Documents as ttl
+use Rattle.ttl_grammar.specs.Documents.{ReadsTurtle}
+use Rattle.owl_documents.specs.Documents.{GraphRead, IsDefect, Parsed, Reads, ReadsGraph, a_graph, an_ontology, of_functional, of_header, of_turtle}
+use Rattle.owl_documents.specs.OneWay.{IsSameGraph, IsSameParsed}
+use Rattle.owl_documents.specs.declared.trouble.Refusal.{Refusal}
+use Rattle.owl_documents.specs.declared.trouble.Refusal.TheVariants.{Headless, Unreadable}
+use Rattle.owl_documents.proofs.Graphs.{no_fault, one_fault, same_head, same_tables}
+
+-- what the grammars tell of both syntaxes
+pub record GrammarLaws : Type 0 where
+  pub functional : (bytes : List ℕ) (p q : List Prefix) (o u : Ontology) → ReadsFunctional bytes p o → ReadsFunctional bytes q u → (p ≡ q) × IsSameOntology o u
+  pub no_functional : (bytes : List ℕ) (fault : ReadFault) (p : List Prefix) (o : Ontology) → fss.IsFirstDefect bytes fault → ReadsFunctional bytes p o → ⊥
+  pub functional_defect : (bytes : List ℕ) (fault other : ReadFault) → length bytes ≤ most_bytes → fss.IsFirstDefect bytes fault → fss.IsFirstDefect bytes other → fault ≡ other
+  pub turtle : (bytes : List ℕ) (p q : List Prefix) (g h : List Triple) → ReadsTurtle bytes p g → ReadsTurtle bytes q h → (g ≡ h) × ((name : List ℕ) → iri_of p name ≡ iri_of q name)
+  pub no_turtle : (bytes : List ℕ) (fault : ReadFault) (p : List Prefix) (g : List Triple) → ttl.IsFirstDefect bytes fault → ReadsTurtle bytes p g → ⊥
+  pub turtle_defect : (bytes : List ℕ) (fault other : ReadFault) → length bytes ≤ most_bytes → ttl.IsFirstDefect bytes fault → ttl.IsFirstDefect bytes other → fault ≡ other
+
+module _ (laws : GrammarLaws) where
+  same_graph : (bytes : List ℕ) (a b : GraphRead) → ReadsGraph bytes a → ReadsGraph bytes b → IsSameGraph a b
+  same_graph bytes a b r s =
+      let one = laws.turtle bytes a.prefixes b.prefixes a.triples b.triples r.reads s.reads in
+      record {
+        prefixes = same_tables a.prefixes b.prefixes r.ascending s.ascending r.plain s.plain one.1;
+        triples = one.0;
+        head = same_head b.triples r.header s.header a.head b.head (subst (λ (g : List Triple). headers g ≡ r.header ∷ []) one.0 r.one_header) s.one_header (subst (λ (g : List Triple). IsHeadOf g r.header a.head) one.0 r.is_head) s.is_head;
+      }
+
+  pub same_parsed : (name bytes : List ℕ) (parsed other : Parsed) → Reads name bytes parsed → Reads name bytes other → IsSameParsed parsed other
+  same_parsed name bytes (an_ontology a) (an_ontology b) r s =
+      let one = laws.functional bytes a.prefixes b.prefixes a.ontology b.ontology r.1 s.1 in
+      record { prefixes = one.0; ontology = one.1 }
+  same_parsed name bytes (an_ontology a) (a_graph b) r s = let no = r.0 in let yes = s.0 in cc
+  same_parsed name bytes (a_graph a) (an_ontology b) r s = let yes = r.0 in let no = s.0 in cc
+  same_parsed name bytes (a_graph a) (a_graph b) r s = same_graph bytes a b r.1 s.1
+
+  pub no_defect : (name bytes : List ℕ) (parsed : Parsed) (refusal : Refusal) → Reads name bytes parsed → IsDefect name bytes refusal → ⊥
+  no_defect name bytes (an_ontology a) _ r (of_functional fault t d) = laws.no_functional bytes fault a.prefixes a.ontology d r.1
+  no_defect name bytes (an_ontology a) _ r (of_turtle fault t d) = let f = r.0 in cc
+  no_defect name bytes (an_ontology a) _ r (of_header fault p g t s m f) = let n = r.0 in cc
+  no_defect name bytes (a_graph a) _ r (of_functional fault t d) = let y = r.0 in cc
+  no_defect name bytes (a_graph a) _ r (of_turtle fault t d) = laws.no_turtle bytes fault a.prefixes a.triples d r.1.reads
+  no_defect name bytes (a_graph a) _ r (of_header fault p g t s m f) =
+      let same = (laws.turtle bytes p a.prefixes g a.triples s r.1.reads).0 in
+      no_fault a.triples fault r.1.header a.head r.1.one_header r.1.is_head m (subst (λ (h : List Triple). IsOutlineFault h fault) same f)
+
+  pub one_defect : (name bytes : List ℕ) (refusal other : Refusal) → length bytes ≤ most_bytes → IsDefect name bytes refusal → IsDefect name bytes other → refusal ≡ other
+  one_defect name bytes _ _ few (of_functional fault t d) (of_functional other u e) = ap Unreadable (laws.functional_defect bytes fault other few d e)
+  one_defect name bytes _ _ few (of_functional fault t d) (of_turtle other u e) = absurd (cc)
+  one_defect name bytes _ _ few (of_functional fault t d) (of_header other p g u s m f) = absurd (cc)
+  one_defect name bytes _ _ few (of_turtle fault t d) (of_functional other u e) = absurd (cc)
+  one_defect name bytes _ _ few (of_turtle fault t d) (of_turtle other u e) = ap Unreadable (laws.turtle_defect bytes fault other few d e)
+  one_defect name bytes _ _ few (of_turtle fault t d) (of_header other p g u s m f) = absurd (laws.no_turtle bytes fault p g d s)
+  one_defect name bytes _ _ few (of_header fault p g t s m f) (of_functional other u e) = absurd (cc)
+  one_defect name bytes _ _ few (of_header fault p g t s m f) (of_turtle other u e) = absurd (laws.no_turtle bytes other p g e s)
+  one_defect name bytes _ _ few (of_header fault p g t s m f) (of_header other q h u r n e) =
+      let same = (laws.turtle bytes p q g h s r).0 in
+      ap Headless (one_fault h fault other m n (subst (λ (x : List Triple). IsOutlineFault x fault) same f) e)
