@@ -1,0 +1,6 @@
+mod Numbering
+mod Passed
+mod Placing
+mod Reifying
+mod Saying
+mod Setting

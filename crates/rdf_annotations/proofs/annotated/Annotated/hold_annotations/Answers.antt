@@ -1,0 +1,34 @@
+use Rattle.std.specs.Prelude.{◌≡◌, ◌<◌, ℕ, length}
+use Rattle.std.proofs.Common.{arith, subst}
+use Rattle.rdf_annotations.specs.AnnotationLaws.{some_sets_kept}
+use Rattle.rdf_annotations.proofs.Saying.{AnnotatesUpTo, all_annotated, next_annotated, none_annotated, there}
+use Rattle.rdf_annotations.proofs.annotated.Annotated.hold_annotations.Goals as goal
+
+pub loop-place-init : goal.loop-place-init
+loop-place-init g c =
+    let r = c.args.self.now.reading in
+    none_annotated r.graph.now r.kinds.now r.header.now (g.S.TreeStore.stands c.args.store.now) _ _ c.new-annotations.ensures.items
+
+pub add_at-requires-clause-sets : goal.add_at-requires-clause-sets
+add_at-requires-clause-sets g c =
+    let r = c.args.self.now.reading in
+    some_sets_kept (g.S.TreeStore.stands c.args.store.now) (g.S.TreeStore.stands c.loop-place.store) c.loop-place.invariant.kept r.graph.now r.kinds.now r.roles.now
+    c.args.sets.now.of_nodes.items c.args.sets.now.empty c.requires.sets
+
+pub loop-place-preserved : goal.loop-place-preserved
+loop-place-preserved g c =
+    let r = c.args.self.now.reading in
+    let within : c.loop-place.place < length r.graph.now = omega arith in
+    let t = there r.graph.now c.loop-place.place within in
+    next_annotated r.graph.now r.kinds.now r.header.now (g.S.TreeStore.stands c.args.store.now) (g.S.TreeStore.stands c.loop-place.store) (g.S.TreeStore.stands c.add_at.new.store)
+    _ c.loop-place.place t.0 c.loop-place.annotations.items c.add_at.new.annotations.items t.1 c.loop-place.invariant (c.in_ok-add_at.ensures.added t.0 t.1) c.add_at.ensures.kept
+
+pub returns-clause-annotations : goal.returns-clause-annotations
+returns-clause-annotations g c =
+    let r = c.args.self.now.reading in
+    let begun = c.loop-place.invariant.begun in
+    let end : c.loop-place.place ≡ c.of_subject-start.result.1 = omega (arith, begun) in
+    all_annotated r.graph.now r.kinds.now r.header.now (g.S.TreeStore.stands c.args.store.now) (g.S.TreeStore.stands c.loop-place.store) c.of_subject-start.result.0 c.of_subject-start.result.1
+    c.args.node.now c.loop-place.annotations.items c.of_subject-start.ensures.among
+    (subst (λ (place : ℕ). AnnotatesUpTo r.graph.now r.kinds.now r.header.now (g.S.TreeStore.stands c.args.store.now) (g.S.TreeStore.stands c.loop-place.store) c.of_subject-start.result.0 place c.loop-place.annotations.items) end
+    c.loop-place.invariant)

@@ -1,0 +1,12 @@
+use Rattle.tree_stores.specs.StoreLaws.{keeps_more}
+use Rattle.rdf_annotations.specs.AnnotationLaws.{some_sets_kept}
+use Rattle.rdf_annotations.proofs.annotated.Annotated.said.Goals as goal
+
+pub variants-requires-clause-sets : goal.variants-requires-clause-sets
+variants-requires-clause-sets g c =
+    let r = c.args.self.now.reading in
+    let old = g.S.TreeStore.stands c.args.store.now in
+    let mid = g.S.TreeStore.stands c.hold_property.new.store in
+    let new = g.S.TreeStore.stands c.hold_value.new.store in
+    some_sets_kept old new (keeps_more old mid new c.hold_property.ensures.kept c.hold_value.ensures.kept) r.graph.now r.kinds.now r.roles.now
+    c.args.sets.now.of_nodes.items c.args.sets.now.empty c.requires.sets

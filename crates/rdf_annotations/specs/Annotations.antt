@@ -1,0 +1,77 @@
+-- The annotations of a graph, and their sets, as they stand in a store (Mapping to RDF Graphs, sections 2.3 and 3.3).
+use Rattle.std.specs.Prelude.{◌≡◌, ◌||◌, ℕ, Bool, IsTrue, List, [], Contains, Option, Some, slice_get}
+use Rattle.std.specs.List.{filter}
+use Rattle.std.specs.Map.{keys_of}
+use Rattle.owl_kind.specs.Kinds.{Entity}
+use Rattle.owl_tree.specs.Trees.{Tree}
+use Rattle.rdf_graph.specs.declared.term.Term.{Term}
+use Rattle.rdf_graph.specs.declared.term.Term.TheVariants.{Blank}
+use Rattle.rdf_graph.specs.declared.triple.Triple.{Triple}
+use Rattle.rdf_meaning.specs.declared.role.Role.{Role}
+use Rattle.rdf_meaning.specs.declared.role.Role.TheVariants as role
+use Rattle.rdf_meaning.specs.Nodes.{is_role, of_subject, role_of}
+use Rattle.rdf_meaning.specs.Statements.{Annotates, IsNoteOf, Variants, is_annotation_triple, notes, notes_of}
+use Rattle.rdf_roles.specs.Tables.{RoleTable}
+use Rattle.tree_stores.specs.Stores.{IsTreeFault, StandFor}
+use Rattle.tree_stores.specs.declared.fault.TreeFault.{TreeFault}
+use Rattle.tree_stores.specs.declared.fault.TreeFault.TheVariants.{TooDeep, TooHeavy, Memory}
+
+-- nodes of the role have annotations of their own
+abbrev pub is_noted : Role → Bool
+is_noted r = is_role role.Main r || is_role role.Note r
+
+-- the annotations that stand at a term: at the header, at a reification, or at a node that stands for an axiom
+abbrev pub annotations_at : List Triple → List Entity → Term → Term → List Triple
+annotations_at g k header x = filter (is_annotation_triple g k header) (of_subject g x)
+
+-- A tree of an annotation that the graph says, or of the set of those of a reification or of a node that stands for an axiom.
+pub data IsNotedTree (g : List Triple) (k : List Entity) (header : Term) : Tree → Type 0 where
+  an_annotation : (u : Triple) (t : Tree) → Contains g u → IsTrue (is_annotation_triple g k header u) → IsNoteOf g k u t →
+      IsNotedTree g k header t
+  a_set : (x : Term) (ts : List Tree) → IsTrue (is_noted (role_of g x)) → Annotates g k (notes_of g x) ts →
+      IsNotedTree g k header (notes ts)
+
+-- some tree of these is too deep or too heavy; want of memory is told of any
+abbrev pub IsFaultOfSome : (Tree → Type 0) → TreeFault → Type 0
+IsFaultOfSome P TooDeep = (t : Tree) × P t × IsTreeFault t TooDeep
+IsFaultOfSome P TooHeavy = (t : Tree) × P t × IsTreeFault t TooHeavy
+IsFaultOfSome P Memory = Unit {0}
+
+-- the numbers stand for the sets of annotations of the triple
+pub record AreVariants {N : Type 0} (Stands : Tree → N → Type 0) (g : List Triple) (k : List Entity) (t : Triple) (ns : List N) : Type 0 where
+  pub sets : List Tree
+  pub variants : Variants g k t sets
+  pub stand : StandFor Stands sets ns
+
+-- the numbers stand for the annotations that stand at the term
+pub record AreAnnotations {N : Type 0} (Stands : Tree → N → Type 0) (g : List Triple) (k : List Entity) (header x : Term) (ns : List N) : Type 0 where
+  pub trees : List Tree
+  pub annotates : Annotates g k (annotations_at g k header x) trees
+  pub stand : StandFor Stands trees ns
+
+-- the number stands for their set
+pub record IsSetOf {N : Type 0} (Stands : Tree → N → Type 0) (g : List Triple) (k : List Entity) (x : Term) (n : N) : Type 0 where
+  pub trees : List Tree
+  pub annotates : Annotates g k (notes_of g x) trees
+  pub stands : Stands (notes trees) n
+
+-- By the numbers of nodes: the numbers of the sets of annotations of some reifications; and that of the empty set.
+pub record AreSomeSets {N : Type 0} (Stands : Tree → N → Type 0) (g : List Triple) (k : List Entity) (roles : RoleTable) (of_nodes : List (Option N)) (empty : N) : Type 0 where
+  pub each : (number : ℕ) (label : List ℕ) (n : N) → slice_get (keys_of roles.nodes) number ≡ Some label → slice_get of_nodes number ≡ Some (Some n) →
+      IsSetOf Stands g k (Blank label) n
+  pub empty_set : Stands (notes []) empty
+
+-- the node with the number has its set, where it is a reification
+abbrev pub HasItsSet : {N : Type 0} → List Triple → RoleTable → List (Option N) → ℕ → Type 0
+HasItsSet {N} g roles of_nodes number =
+    (label : List ℕ) → slice_get (keys_of roles.nodes) number ≡ Some label → role_of g (Blank label) ≡ role.Note →
+    (n : N) × (slice_get of_nodes number ≡ Some (Some n))
+
+-- so has each node
+pub record HaveSets {N : Type 0} (g : List Triple) (roles : RoleTable) (of_nodes : List (Option N)) : Type 0 where
+  pub each : (number : ℕ) → HasItsSet g roles of_nodes number
+
+-- By the numbers of nodes: the numbers of the sets of annotations of all reifications; and that of the empty set.
+pub record AreSets {N : Type 0} (Stands : Tree → N → Type 0) (g : List Triple) (k : List Entity) (roles : RoleTable) (of_nodes : List (Option N)) (empty : N) : Type 0 where
+  pub some : AreSomeSets Stands g k roles of_nodes empty
+  pub all : HaveSets g roles of_nodes

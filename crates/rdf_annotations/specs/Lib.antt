@@ -1,0 +1,4 @@
+pub mod Annotations
+pub mod AnnotationLaws
+pub mod Noters
+pub mod Held

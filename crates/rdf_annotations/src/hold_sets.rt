@@ -1,0 +1,179 @@
+//! The sets of annotations of all reifications.
+
+ghost use Rattle.std.specs.Prelude.{◌≡◌, [], IfErr, IfOk, IsTrue, OnOk, Some, slice_get};
+ghost use Rattle.rdf_meaning.specs.Nodes.{role_of};
+ghost use Rattle.rdf_meaning.specs.Statements.{notes};
+ghost use Rattle.rdf_annotations.specs.Annotations.{AreSets, AreSomeSets, HasItsSet, HaveSets, IsFaultOfSome, IsNotedTree, IsSetOf, is_noted};
+ghost use Rattle.rdf_annotations.specs.Held.{IsAnnotated};
+ghost use Rattle.rdf_roles.specs.Tables.{IsTableOf};
+ghost use Rattle.tree_stores.specs.Stores.{Keeps};
+
+use crate::annotated::Annotated;
+use crate::places::is_note;
+use crate::sets::Sets;
+use owl_characters::NoMemory;
+use owl_tree::Tag;
+use rdf_graph::Term;
+use std::alloc::Global;
+use tree_stores::{TreeFault, TreeStore};
+
+impl<'a> Annotated<'a> {
+    /// The number of the set of the annotations that stand at a reification, or at
+    /// a node that stands for an axiom (Mapping to RDF Graphs, section 2.3).
+    ///
+    /// `TooDeep` and `TooHeavy` where it, or one of them, is.
+    pub fn hold_set<S: TreeStore>(
+        &self,
+        store: &mut S,
+        sets: &Sets<S::Number>,
+        node: &Term,
+    ) -> Result<S::Number, TreeFault>
+        requires annotated { IsAnnotated self.now }
+        requires sets { AreSomeSets (S.stands store.old) self.now.reading.graph.now
+            self.now.reading.kinds.now self.now.reading.roles.now sets.now.of_nodes.items
+            sets.now.empty }
+        requires noted { IsTrue (is_noted (role_of self.now.reading.graph.now node.now)) }
+        ensures set { IfOk result (IsSetOf (S.stands store.new) self.now.reading.graph.now
+            self.now.reading.kinds.now node.now) }
+        ensures fault { IfErr result (IsFaultOfSome (IsNotedTree self.now.reading.graph.now
+            self.now.reading.kinds.now self.now.reading.header.now)) }
+        ensures kept { Keeps (S.stands store.old) (S.stands store.new) }
+    {
+        let annotations = self.hold_annotations(store, sets, node)?;
+        store.hold_node(Tag::Notes, annotations)
+    }
+
+    /// The numbers of the sets of annotations of all reifications.
+    ///
+    /// `TooDeep` and `TooHeavy` where one of these, or an annotation in them, is.
+    pub fn hold_sets<S: TreeStore>(&self, store: &mut S) -> Result<Sets<S::Number>, TreeFault>
+        requires { IsAnnotated self.now }
+        ensures sets { IfOk result (λ sets. AreSets (S.stands store.new)
+            self.now.reading.graph.now self.now.reading.kinds.now self.now.reading.roles.now
+            sets.of_nodes.items sets.empty) }
+        ensures fault { IfErr result (IsFaultOfSome (IsNotedTree self.now.reading.graph.now
+            self.now.reading.kinds.now self.now.reading.header.now)) }
+        ensures kept { Keeps (S.stands store.old) (S.stands store.new) }
+    {
+        let mut sets = self.no_sets(store)?;
+        self.add_sets(store, &mut sets)?;
+        if self.have_sets(&sets) {
+            Ok(sets)
+        } else {
+            Err(TreeFault::Memory)
+        }
+    }
+
+    /// The number of the empty set, and no others.
+    fn no_sets<S: TreeStore>(&self, store: &mut S) -> Result<Sets<S::Number>, NoMemory>
+        ensures sets { IfOk result (λ sets. AreSomeSets (S.stands store.new)
+            self.now.reading.graph.now self.now.reading.kinds.now self.now.reading.roles.now
+            sets.of_nodes.items sets.empty) }
+        ensures kept { Keeps (S.stands store.old) (S.stands store.new) }
+    {
+        let empty = hold_empty(self.alloc, store)?;
+        let of_nodes = vec![in self.alloc; None; self.reading.roles.len()]?;
+        Ok(Sets { of_nodes, empty })
+    }
+
+    /// Adds the sets of all reifications, each behind those of the reifications of
+    /// its annotations.
+    fn add_sets<S: TreeStore>(
+        &self,
+        store: &mut S,
+        sets: &mut Sets<S::Number>,
+    ) -> Result<(), TreeFault>
+        requires annotated { IsAnnotated self.now }
+        requires sets { AreSomeSets (S.stands store.old) self.now.reading.graph.now
+            self.now.reading.kinds.now self.now.reading.roles.now sets.old.of_nodes.items
+            sets.old.empty }
+        ensures sets { OnOk result (AreSomeSets (S.stands store.new) self.now.reading.graph.now
+            self.now.reading.kinds.now self.now.reading.roles.now sets.new.of_nodes.items
+            sets.new.empty) }
+        ensures fault { IfErr result (IsFaultOfSome (IsNotedTree self.now.reading.graph.now
+            self.now.reading.kinds.now self.now.reading.header.now)) }
+        ensures kept { Keeps (S.stands store.old) (S.stands store.new) }
+    {
+        for number in self.reading.roles.order() {
+            self.add_set(store, sets, *number)?;
+        }
+        Ok(())
+    }
+
+    /// Adds the set of the node with this number, where it is a reification.
+    fn add_set<S: TreeStore>(
+        &self,
+        store: &mut S,
+        sets: &mut Sets<S::Number>,
+        number: usize,
+    ) -> Result<(), TreeFault>
+        requires annotated { IsAnnotated self.now }
+        requires sets { AreSomeSets (S.stands store.old) self.now.reading.graph.now
+            self.now.reading.kinds.now self.now.reading.roles.now sets.old.of_nodes.items
+            sets.old.empty }
+        ensures sets { OnOk result (AreSomeSets (S.stands store.new) self.now.reading.graph.now
+            self.now.reading.kinds.now self.now.reading.roles.now sets.new.of_nodes.items
+            sets.new.empty) }
+        ensures fault { IfErr result (IsFaultOfSome (IsNotedTree self.now.reading.graph.now
+            self.now.reading.kinds.now self.now.reading.header.now)) }
+        ensures kept { Keeps (S.stands store.old) (S.stands store.new) }
+    {
+        let Some(label) = self.reading.roles.node(number) else {
+            return Err(TreeFault::Memory);
+        };
+        if !is_note(self.reading.roles.role(label)) || sets.of_nodes.len() <= number {
+            return Ok(());
+        }
+        let node = Term::Blank(label.copy(self.alloc)?);
+        let set = self.hold_set(store, sets, &node)?;
+        sets.of_nodes[number] = Some(set);
+        Ok(())
+    }
+
+    /// Whether each reification has its set.
+    fn have_sets<N: Copy>(&self, sets: &Sets<N>) -> bool
+        requires { IsTableOf self.now.reading.graph.now self.now.reading.roles.now }
+        ensures { IsTrue result → HaveSets self.now.reading.graph.now self.now.reading.roles.now
+            sets.now.of_nodes.items }
+    {
+        for number in 0..self.reading.roles.len() {
+            if !self.has_its_set(sets, number) {
+                return false;
+            }
+        }
+        true
+    }
+
+    /// Whether the node with this number has its set, where it is a reification.
+    fn has_its_set<N: Copy>(&self, sets: &Sets<N>, number: usize) -> bool
+        requires { IsTableOf self.now.reading.graph.now self.now.reading.roles.now }
+        ensures { IsTrue result → HasItsSet self.now.reading.graph.now self.now.reading.roles.now
+            sets.now.of_nodes.items number }
+    {
+        match self.reading.roles.node(number) {
+            Some(label) => !is_note(self.reading.roles.role(label)) || has_set(sets, number),
+            None => false,
+        }
+    }
+}
+
+/// Whether the node with this number has a set.
+fn has_set<N: Copy>(sets: &Sets<N>, number: usize) -> bool
+    ensures { IsTrue result → (n : N) × (slice_get sets.now.of_nodes.items number ≡ Some (Some n)) }
+{
+    match sets.of_nodes.get(number) {
+        Some(Some(_)) => true,
+        Some(None) | None => false,
+    }
+}
+
+/// The number of the empty set.
+fn hold_empty<S: TreeStore>(alloc: Global, store: &mut S) -> Result<S::Number, NoMemory>
+    ensures held { IfOk result (S.stands store.new (notes [])) }
+    ensures kept { Keeps (S.stands store.old) (S.stands store.new) }
+{
+    match store.hold_node(Tag::Notes, Vec::new(alloc)) {
+        Ok(empty) => Ok(empty),
+        Err(_) => Err(NoMemory),
+    }
+}
