@@ -12,7 +12,6 @@ pub mod Sorting
 pub mod FirstNodes
 pub mod Noting
 pub mod NothingFound
-pub mod Typing
 pub mod Meeting
 pub mod Mistyped
 pub mod Marking

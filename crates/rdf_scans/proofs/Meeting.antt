@@ -1,52 +1,27 @@
 -- The tests say which triples are axioms by their terms.
-use Rattle.std.specs.Prelude.{◌≡◌, ◌↔◌, ◌≤◌, ℕ, suc, Bool, true, false, nat_eq, IsTrue, cond, ◌&&◌, List, [], ◌∷◌, Contains, Option, None, Some, length, map}
-use Rattle.std.specs.Option.{is_some}
-use Rattle.std.proofs.Common.{inl, inr, ◌<◌, ◌++◌, drop, drop-cons, get_or, take, refl, sym, ap, arith, ◌∙◌, subst}
+use Rattle.std.specs.Prelude.{◌≡◌, ◌↔◌, ◌≤◌, ℕ, suc, Bool, true, nat_eq, IsTrue, List, [], ◌∷◌, Contains, length, map}
+use Rattle.std.proofs.Common.{inl, inr, ◌<◌, ◌++◌, drop, drop-cons, get_or, take, sym, ap, arith, ◌∙◌, subst}
 use Rattle.std.proofs.lemmas.List.{take-append-drop}
 use Rattle.std.proofs.lemmas.List.Elements.{Contains-append_right}
 use Rattle.owl_list.specs.AscendingLaws.{all_in, from_map, in_head, in_map}
-use Rattle.owl_kind.specs.declared.kind.Kind.{Kind}
-use Rattle.owl_kind.specs.declared.kind.Kind.TheVariants as kind
-use Rattle.owl_kind.specs.Kinds.{Entity}
-use Rattle.owl_tree.specs.declared.tag.Tag.{Tag}
 use Rattle.rdf_graph.specs.declared.term.Term.TheVariants.{Iri}
 use Rattle.rdf_graph.specs.declared.triple.Triple.{Triple}
 use Rattle.std.proofs.lemmas.Bool.{eq-eqb, eqb-true}
-use Rattle.owl_tree.specs.declared.row.Sort.{Sort}
 use Rattle.rdf_graph.specs.declared.term.Term.{Term}
 use Rattle.rdf_meaning.specs.declared.role.Role.TheVariants as role
 use Rattle.rdf_meaning.specs.declared.row.Site.{Site}
 use Rattle.rdf_meaning.specs.declared.row.Site.TheVariants.{TypedBy, LinkedBy}
-use Rattle.rdf_meaning.specs.declared.row.Want.{Want}
-use Rattle.rdf_meaning.specs.declared.row.Want.TheVariants.{One, Declared}
 use Rattle.rdf_meaning.specs.declared.word.Word.{Word}
-use Rattle.rdf_meaning.specs.Denotation.{declared_entity, declared_kind, iri_leaf, kind_of_entity}
 use Rattle.rdf_meaning.specs.Nodes.{is_word, nil_iri, role_of}
 use Rattle.rdf_meaning.specs.WordLaws.{same_word}
 use Rattle.rdf_rows.specs.CarryingLaws.{own_word}
 use Rattle.rdf_faults.specs.BelowLaws.{elements_are}
-use Rattle.rdf_scans.specs.Typed.{iri_is_of}
-use Rattle.rdf_scans.proofs.Typing.{iri_of}
-use Rattle.rdf_meaning.specs.Kinds.{has_kind, may_be_declared}
 use Rattle.rdf_meaning.specs.Rows.{axiom_rows, row_seen}
 use Rattle.rdf_meaning.specs.declared.row.Row as held
-use Rattle.rdf_faults.specs.Asked.{IsListOf, IsMet, IsTypedAxiom, no_element}
+use Rattle.rdf_faults.specs.Asked.{IsListOf, IsTypedAxiom, no_element}
 use Rattle.rdf_faults.specs.Firsts.{HoldsForNone}
 use Rattle.rdf_scans.specs.declared.reading.Reading.{Reading}
-use Rattle.rdf_scans.specs.Statements.{IsAxiomBy, declared_as}
-
-some_is : {A : Type 0} (b : Bool) (a : A) → is_some (cond b (Some a) None) ≡ b
-some_is true a = refl
-some_is false a = refl
-
-pub declared_is : (k : List Entity) (t : Tag) (iri : List ℕ) (o : Option Kind) → is_some (declared_kind k t iri o) ≡ declared_as k o iri
-declared_is k t iri None = refl
-declared_is k t iri (Some kind.Individual) = some_is (may_be_declared kind.Individual iri) (iri_leaf t iri)
-declared_is k t iri (Some kind.Class) = some_is (has_kind k kind.Class iri && may_be_declared kind.Class iri) (iri_leaf t iri)
-declared_is k t iri (Some kind.Datatype) = some_is (has_kind k kind.Datatype iri && may_be_declared kind.Datatype iri) (iri_leaf t iri)
-declared_is k t iri (Some kind.ObjectProperty) = some_is (has_kind k kind.ObjectProperty iri && may_be_declared kind.ObjectProperty iri) (iri_leaf t iri)
-declared_is k t iri (Some kind.DataProperty) = some_is (has_kind k kind.DataProperty iri && may_be_declared kind.DataProperty iri) (iri_leaf t iri)
-declared_is k t iri (Some kind.AnnotationProperty) = some_is (has_kind k kind.AnnotationProperty iri && may_be_declared kind.AnnotationProperty iri) (iri_leaf t iri)
+use Rattle.rdf_scans.specs.Statements.{IsAxiomBy}
 
 -- the row that the program has
 abbrev pub IsAxiomAt : Reading → Triple → held.Row → Type 0
@@ -96,29 +71,11 @@ module _ (a b : Site) (v w : Word) (answer : Bool) (is : answer ≡ is_word v w)
 
 -- what is wanted of an IRI
 
-declared_term : (k : List Entity) (t : Tag) (iri : List ℕ) → is_some (declared_entity k t (Iri iri)) ≡ declared_as k (kind_of_entity t) iri
-unfolding declared_entity
-declared_term k t iri = declared_is k t iri (kind_of_entity t)
-
 no_list : (g : List Triple) (iri : List ℕ) → role_of g (Iri iri) ≡ role.List → ⊥
 no_list g iri e = let same : role.Individual ≡ role.List = e in cc
 
 nothing : (least : ℕ) → nat_eq least 0 ≡ true → least ≤ 0
 nothing least h = let none : least ≡ 0 = eqb-true least 0 h in omega (arith, none)
-
-module _ (g : List Triple) (k : List Entity) (iri : List ℕ) (want : Want) (answer : Bool) where
-  abbrev Tells : Want → Type 0
-  Tells w = IsTrue answer ↔ IsMet g k w (Iri iri)
-
-  pub met_one : (s : Sort) → want ≡ One s → answer ≡ iri_is_of k s iri → Tells want
-  met_one s e is =
-      let so = is ∙ sym (iri_of g k s iri) in
-      subst Tells (sym e) (λ h. sym so ∙ h, λ h. so ∙ h)
-
-  pub met_declared : (t : Tag) (o : Option Kind) → want ≡ Declared t → o ≡ kind_of_entity t → answer ≡ declared_as k o iri → Tells want
-  met_declared t o e kind is =
-      let so = is ∙ ap (λ p. declared_as k p iri) kind ∙ sym (declared_term k t iri) in
-      subst Tells (sym e) (λ h. sym so ∙ h, λ h. so ∙ h)
 
 module _ (g : List Triple) (test : Term → Bool) (least : ℕ) (iri : List ℕ) (nil : iri ≡ nil_iri) where
   pub nil_list : IsTrue (nat_eq least 0) ↔ IsListOf g test least (Iri iri)

@@ -1,13 +1,16 @@
 -- The tests say which triples are not the axioms or annotations that they would be.
-use Rattle.std.specs.Prelude.{◌≡◌, ◌↔◌, ◌||◌, Bool, false, IsTrue, List, Contains}
+use Rattle.std.specs.Prelude.{◌≡◌, ◌↔◌, ◌||◌, ℕ, Bool, true, false, IsTrue, List, Contains}
 use Rattle.std.specs.Option.{is_some}
 use Rattle.std.proofs.Common.{refl, sym, ap, ◌∙◌}
 use Rattle.std.proofs.lemmas.Bool.{both_ways}
 use Rattle.owl_kind.specs.Kinds.{Entity}
+use Rattle.owl_tree.specs.declared.row.Sort.{Sort}
 use Rattle.owl_tree.specs.declared.row.Sort.TheVariants as sort
 use Rattle.rdf_graph.specs.declared.term.Term.{Term}
 use Rattle.rdf_graph.specs.declared.term.Term.TheVariants.{Iri}
 use Rattle.rdf_graph.specs.declared.triple.Triple.{Triple}
+use Rattle.rdf_meaning.specs.declared.role.Role.{Role}
+use Rattle.rdf_meaning.specs.declared.role.Role.TheVariants as role
 use Rattle.rdf_meaning.specs.Denotation.{simple}
 use Rattle.rdf_meaning.specs.Nodes.{role_of}
 use Rattle.rdf_faults.specs.Asked.{IsTypedNote, is_of_sort, role_gives}
@@ -16,9 +19,7 @@ use Rattle.rdf_scans.specs.declared.reading.Reading.{Reading}
 use Rattle.rdf_scans.specs.Sorts.{sort_in}
 use Rattle.rdf_scans.specs.SortLaws.{main_is}
 use Rattle.rdf_scans.specs.Statements.{IsNoAxiom, IsNoNote, IsUntypedIn}
-use Rattle.rdf_scans.specs.Typed.{iri_is_of}
 use Rattle.rdf_scans.proofs.Reserving.{main_sort}
-use Rattle.rdf_scans.proofs.Typing.{by_role, iri_of, or_false}
 
 module _ (reading : Reading) (t : Triple) where
   pub untyped_axiom : Contains reading.graph.now t → IsNoAxiom reading t → IsUntypedIn reading t
@@ -32,24 +33,33 @@ module _ (reading : Reading) (t : Triple) where
       a ((main_sort (sort_in reading t)).1 ((main_is reading.graph.now reading.kinds.now reading.header.now t).0 m).1, u)
   typed_so a n (no_note inside h u) = n (h, u)
 
-module _ (g : List Triple) (k : List Entity) where
-  value_of : (x : Term) → is_of_sort g k sort.AnnotationValue x ≡ is_some (simple g k sort.AnnotationValue x)
-  value_of x =
-      ap (λ b. is_some (simple g k sort.AnnotationValue x) || b)
-      (by_role (λ r. role_gives r sort.AnnotationValue) (λ r. false) refl refl refl refl refl refl refl refl refl (role_of g x))
-      ∙ or_false (is_some (simple g k sort.AnnotationValue x))
+-- no node stands for the value of an annotation by what it is
+no_value : (r : Role) → role_gives r sort.AnnotationValue ≡ false
+no_value role.List = refl
+no_value _ = refl
 
-  property_of : (iri : _) → iri_is_of k sort.AnnotationProperty iri ≡ is_some (simple g k sort.AnnotationProperty (Iri iri))
-  property_of iri = sym (iri_of g k sort.AnnotationProperty iri) ∙ or_false (is_some (simple g k sort.AnnotationProperty (Iri iri)))
+or_false : (b : Bool) → (b || false) ≡ b
+or_false true = refl
+or_false false = refl
+
+module _ (g : List Triple) (k : List Entity) where
+  by_itself : (s : Sort) (x : Term) → role_gives (role_of g x) s ≡ false → is_of_sort g k s x ≡ is_some (simple g k s x)
+  by_itself s x none = ap (λ b. is_some (simple g k s x) || b) none ∙ or_false (is_some (simple g k s x))
+
+  value_of : (x : Term) → is_of_sort g k sort.AnnotationValue x ≡ is_some (simple g k sort.AnnotationValue x)
+  value_of x = by_itself sort.AnnotationValue x (no_value (role_of g x))
+
+  property_of : (iri : List ℕ) → is_of_sort g k sort.AnnotationProperty (Iri iri) ≡ is_some (simple g k sort.AnnotationProperty (Iri iri))
+  property_of iri = by_itself sort.AnnotationProperty (Iri iri) refl
 
   module _ (t : Triple) (answer : Bool) where
     -- the property is one
-    pub typed_note : IsTrue (iri_is_of k sort.AnnotationProperty t.predicate) → answer ≡ is_of_sort g k sort.AnnotationValue t.object → IsTrue answer ↔ IsTypedNote g k t
+    pub typed_note : IsTrue (is_of_sort g k sort.AnnotationProperty (Iri t.predicate)) → answer ≡ is_of_sort g k sort.AnnotationValue t.object → IsTrue answer ↔ IsTypedNote g k t
     typed_note p e = (
       λ h. record { property = sym (property_of t.predicate) ∙ p; value = sym (value_of t.object) ∙ sym e ∙ h },
       λ n. e ∙ value_of t.object ∙ n.value,
     )
 
     -- it is none
-    pub no_property : iri_is_of k sort.AnnotationProperty t.predicate ≡ false → IsTypedNote g k t → ⊥
+    pub no_property : is_of_sort g k sort.AnnotationProperty (Iri t.predicate) ≡ false → IsTypedNote g k t → ⊥
     no_property p n = both_ways _ p (property_of t.predicate ∙ n.property)

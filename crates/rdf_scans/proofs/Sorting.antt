@@ -7,15 +7,11 @@ use Rattle.rdf_graph.specs.declared.triple.Triple.{Triple}
 use Rattle.rdf_meaning.specs.declared.row.Site.TheVariants.{TypedBy, OtherType, LinkedBy, OtherLink}
 use Rattle.rdf_meaning.specs.declared.word.Word.{Word}
 use Rattle.rdf_meaning.specs.Denotation.{axiom_predicates, axiom_types, first_of, site_of}
-use Rattle.rdf_meaning.specs.Nodes.{is_own, is_structural, role_of, says_type, type_iri}
+use Rattle.rdf_meaning.specs.Nodes.{says_type, type_iri}
 use Rattle.rdf_meaning.specs.Statements.{is_annotation_triple, is_axiom_predicate}
 use Rattle.rdf_meaning.specs.Words.{word_iri}
 use Rattle.rdf_scans.specs.declared.reading.Reading.{Reading}
 use Rattle.rdf_scans.specs.Sorts.{annotates, is_axiom_site, is_header_note, is_node_note}
-
-pub structural_is : (g : List Triple) (t : Triple) → is_own (role_of g t.subject) t ≡ is_structural g t
-unfolding is_structural
-structural_is g t = refl
 
 pub annotation_is : (reading : Reading) (t : Triple) → (is_header_note reading.kinds.now reading.header.now t || is_node_note reading.graph.now t) ≡ annotates reading t
 unfolding is_annotation_triple

@@ -5,5 +5,4 @@ pub mod SortLaws
 pub mod Reserved
 pub mod Notes
 pub mod Reach
-pub mod Typed
 pub mod Statements

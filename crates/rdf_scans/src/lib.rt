@@ -12,7 +12,6 @@ mod reading;
 mod reserved;
 mod sorts;
 mod statements;
-mod typed;
 mod untyped;
 
 pub use fault::OutlineFault;

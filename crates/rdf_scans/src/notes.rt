@@ -12,7 +12,8 @@ ghost use Rattle.rdf_roles.specs.Refusals.{IsFirstNode};
 ghost use Rattle.rdf_roles.specs.Tables.{blank_nodes};
 
 use crate::reading::Reading;
-use crate::sorts::{is_annotation, is_main, is_same, role_of, sort_of};
+use crate::sorts::{is_annotation, is_main, is_same, sort_of};
+use rdf_asked::role_of_term;
 use rdf_graph::{Term, Triple};
 use rdf_meaning::{Role, Word};
 use rdf_rows::carries;
@@ -74,7 +75,7 @@ fn is_of_nothing(reading: &Reading, node: &Term) -> bool
     requires { IsReading reading.now }
     ensures { result ≡ is_of_nothing reading.now node.now }
 {
-    is_note(role_of(reading.roles, node)) && !reifies_some(reading, reading.graph.about(node))
+    is_note(role_of_term(reading.roles, node)) && !reifies_some(reading, reading.graph.about(node))
 }
 
 fn is_note(role: Role) -> bool

@@ -3,14 +3,14 @@
 ghost use Rattle.std.specs.Prelude.{◌≡◌, IfSome, IsNone};
 ghost use Rattle.rdf_faults.specs.Faults.{is_property};
 ghost use Rattle.rdf_faults.specs.Firsts.{HoldsForNone, IsFirst};
-ghost use Rattle.rdf_meaning.specs.Kinds.{may_be_declared};
 ghost use Rattle.rdf_scans.specs.Reserved.{IsReservedIn, is_reserved, takes_class, takes_declared, takes_property, takes_reserved};
 ghost use Rattle.rdf_scans.specs.Sorts.{IsReading};
 
 use crate::declarations::kind_declared;
 use crate::reading::Reading;
-use crate::sorts::{has_kind, is_main, sort_of};
-use owl_kind::{Kind, Kinds, built_in};
+use crate::sorts::{is_main, sort_of};
+use owl_kind::{Kind, Kinds};
+use rdf_asked::{has_kind, may_be_declared};
 use rdf_graph::{Term, Triple};
 use rdf_meaning::Site;
 use rdf_rows::site_of;
@@ -88,13 +88,4 @@ fn takes_declared(declared: Option<Kind>, term: &Term) -> bool
         (Some(kind), Term::Iri(iri)) => !may_be_declared(kind, iri),
         _ => false,
     }
-}
-
-/// Whether the IRI may be declared as this kind: one that is reserved, as what it
-/// is built in as.
-#[tactic(auto, unfolding(rdf_meaning::specs::Kinds::may_be_declared))]
-pub(crate) fn may_be_declared(kind: Kind, iri: &Iri) -> bool
-    ensures { result ≡ may_be_declared kind iri.now }
-{
-    !reserved(iri) || built_in(kind, iri)
 }

@@ -2,19 +2,18 @@
 
 ghost use Rattle.std.specs.Prelude.{◌≡◌, List};
 ghost use Rattle.rdf_graph.specs.declared.triple.Triple.{Triple};
-ghost use Rattle.rdf_meaning.specs.Kinds.{has_kind};
-ghost use Rattle.rdf_meaning.specs.Nodes.{carries_some, is_same, is_structural, role_of};
+ghost use Rattle.rdf_meaning.specs.Nodes.{carries_some, is_same};
 ghost use Rattle.rdf_meaning.specs.Statements.{header_words, is_axiom_predicate, is_header_triple};
 ghost use Rattle.rdf_scans.specs.Sorts.{IsReading, annotates, is_axiom_site, is_header_note, is_main, is_node_note, may_be_noted, sort_in};
 ghost use Rattle.rdf_roles.specs.Tables.{IsTableOf};
 
 use crate::reading::Reading;
 use owl_kind::{Kind, Kinds};
+use rdf_asked::{has_kind, is_structural, role_of_term};
 use rdf_graph::{Term, Triple};
 use rdf_meaning::{Role, Site, Word};
 use rdf_roles::Roles;
-use rdf_rows::{carries, is_own, site_of};
-use rdf_terms::Iri;
+use rdf_rows::{carries, site_of};
 
 /// What names the ontology, and what it imports.
 const HEADER_WORDS: [Word; 3] = [Word::Ontology, Word::VersionIri, Word::Imports];
@@ -59,24 +58,6 @@ pub fn is_main(sort: TripleSort) -> bool
     }
 }
 
-/// Whether the triple makes its subject what it is.
-fn is_structural(roles: &Roles, triple: &Triple) -> bool
-    ensures { (g : List Triple) → IsTableOf g roles.now →
-        result ≡ is_structural g triple.now }
-{
-    is_own(role_of(roles, &triple.subject), triple)
-}
-
-/// What the term is in the graph whose roles these are.
-pub(crate) fn role_of(roles: &Roles, term: &Term) -> Role
-    ensures { (g : List Triple) → IsTableOf g roles.now → result ≡ role_of g term.now }
-{
-    match term {
-        Term::Blank(label) => roles.role(label),
-        Term::Iri(_) | Term::Literal(_) => Role::Individual,
-    }
-}
-
 /// Whether the triple says how the ontology is called, or what it imports.
 #[tactic(auto, unfolding(rdf_meaning::specs::Statements::is_header_triple))]
 fn is_header_triple(header: &Term, triple: &Triple) -> bool
@@ -118,13 +99,6 @@ fn is_header_note(kinds: &Kinds, header: &Term, triple: &Triple) -> bool
         && !has_axiom_predicate(triple)
 }
 
-/// Whether the IRI is declared as this kind, or built in.
-pub(crate) fn has_kind(kinds: &Kinds, kind: Kind, iri: &Iri) -> bool
-    ensures { result ≡ has_kind kinds.now kind iri.now }
-{
-    kinds.has(kind, iri)
-}
-
 /// Whether the predicate is named by a row of an axiom.
 fn has_axiom_predicate(triple: &Triple) -> bool
     ensures { result ≡ is_axiom_predicate triple.now.predicate }
@@ -147,7 +121,7 @@ fn is_axiom_site(site: Site) -> bool
 fn is_node_note(roles: &Roles, triple: &Triple) -> bool
     ensures { (g : List Triple) → IsTableOf g roles.now → result ≡ is_node_note g triple.now }
 {
-    may_be_noted(role_of(roles, &triple.subject)) && !is_structural(roles, triple)
+    may_be_noted(role_of_term(roles, &triple.subject)) && !is_structural(roles, triple)
 }
 
 /// Whether a node of the role has annotations.

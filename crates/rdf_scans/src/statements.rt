@@ -4,21 +4,16 @@ ghost use Rattle.std.specs.Prelude.{◌≡◌, ◌↔◌, IsTrue, List};
 ghost use Rattle.rdf_faults.specs.Asked.{IsMet, IsTypedAxiom};
 ghost use Rattle.rdf_graph.specs.declared.term.Term.TheVariants as held;
 ghost use Rattle.rdf_graph.specs.declared.triple.Triple.{Triple};
-ghost use Rattle.rdf_meaning.specs.Denotation.{kind_of_entity};
-ghost use Rattle.rdf_meaning.specs.Nodes.{nil_iri};
 ghost use Rattle.rdf_meaning.specs.Rows.{row_seen};
 ghost use Rattle.rdf_scans.specs.Sorts.{IsReading};
-ghost use Rattle.rdf_scans.specs.Statements.{IsAxiomBy, IsMetBy, IsMetIn, declared_as};
+ghost use Rattle.rdf_scans.specs.Statements.{IsAxiomBy, IsMetBy, IsMetIn};
 
 use crate::reading::Reading;
-use crate::reserved::may_be_declared;
-use crate::sorts::has_kind;
-use crate::typed::iri_is_of;
-use owl_kind::{Kind, Kinds};
-use owl_tree::Tag;
+use owl_kind::Kinds;
+use rdf_asked::{is_entity, names_tree};
 use rdf_graph::{Term, Triple};
 use rdf_meaning::{Part, Place, Row, Site, Want, axiom_rows};
-use rdf_rows::site_of;
+use rdf_rows::{is_nil_iri, site_of};
 use rdf_terms::Iri;
 
 /// Whether the triple is an axiom by its terms: what a row for it wants is what
@@ -97,46 +92,12 @@ fn is_met_by_iri(kinds: &Kinds, want: Want, iri: &Iri) -> bool
     ensures { (g : List Triple) → IsTrue result ↔ IsMet g kinds.now want (held.Iri iri.now) }
 {
     match want {
-        Want::One(sort) => iri_is_of(kinds, sort, iri),
+        Want::One(sort) => names_tree(kinds, sort, iri),
         Want::Many(_, least) => is_nil_iri(iri) && least == 0,
         Want::Whole(_, _, least) => is_nil_iri(iri) && least == 0,
         Want::Keys => false,
-        Want::Declared(tag) => declared_as(kinds, kind_of_entity(tag), iri),
+        Want::Declared(tag) => is_entity(kinds, tag, iri),
         Want::Mark => true,
         Want::True => false,
-    }
-}
-
-/// Whether the IRI is rdf:nil.
-fn is_nil_iri(iri: &Iri) -> bool
-    ensures { IsTrue result ↔ (iri.now ≡ nil_iri) }
-{
-    iri.is("http://www.w3.org/1999/02/22-rdf-syntax-ns#nil")
-}
-
-/// The kind of the entities with the tag.
-fn kind_of_entity(tag: Tag) -> Option<Kind>
-    ensures { result ≡ kind_of_entity tag }
-{
-    match tag {
-        Tag::Class => Some(Kind::Class),
-        Tag::Datatype => Some(Kind::Datatype),
-        Tag::ObjectProperty => Some(Kind::ObjectProperty),
-        Tag::DataProperty => Some(Kind::DataProperty),
-        Tag::AnnotationProperty => Some(Kind::AnnotationProperty),
-        Tag::NamedIndividual => Some(Kind::Individual),
-        _ => None,
-    }
-}
-
-/// Whether the IRI is declared as this kind, and may be. Every IRI may stand for an
-/// individual.
-fn declared_as(kinds: &Kinds, kind: Option<Kind>, iri: &Iri) -> bool
-    ensures { result ≡ declared_as kinds.now kind iri.now }
-{
-    match kind {
-        Some(Kind::Individual) => may_be_declared(Kind::Individual, iri),
-        Some(kind) => has_kind(kinds, kind, iri) && may_be_declared(kind, iri),
-        None => false,
     }
 }

@@ -9,9 +9,8 @@ ghost use Rattle.rdf_scans.specs.Statements.{IsNoAxiom, IsNoNote, IsUntypedIn};
 use crate::reading::Reading;
 use crate::sorts::{is_annotation, is_main, sort_of};
 use crate::statements::is_typed_axiom;
-use crate::typed::iri_is_of;
 use owl_tree::Sort;
-use rdf_asked::is_of_sort;
+use rdf_asked::{is_of_sort, names_tree};
 use rdf_graph::Triple;
 
 /// The first triple of the graph that is no part of a node, and is not the axiom or
@@ -61,7 +60,7 @@ fn is_typed_note(reading: &Reading, triple: &Triple) -> bool
     requires { IsReading reading.now }
     ensures { IsTrue result ↔ IsTypedNote reading.now.graph.now reading.now.kinds.now triple.now }
 {
-    iri_is_of(reading.kinds, Sort::AnnotationProperty, &triple.predicate)
+    names_tree(reading.kinds, Sort::AnnotationProperty, &triple.predicate)
         && is_of_sort(
             reading.roles,
             reading.kinds,
