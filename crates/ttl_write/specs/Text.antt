@@ -50,3 +50,11 @@ lines_of prefixes triples = flat_map prefix_line prefixes ++ flat_map (triple_li
 -- the text of triples, in their order
 abbrev pub turtle_text : List Prefix → List Triple → List ℕ
 turtle_text prefixes triples = lines_of (written_prefixes prefixes) triples
+
+-- a term alone, with IRIs in full
+abbrev pub full_term : Term → List ℕ
+full_term term = term_text [] term
+
+-- a triple alone, with IRIs in full
+abbrev pub full_triple : Triple → List ℕ
+full_triple triple = full_term triple.subject ++ (codes " " ++ (full_iri triple.predicate ++ (codes " " ++ full_term triple.object)))

@@ -6,4 +6,4 @@ mod terms;
 mod writer;
 
 pub use owl_writing::WriteFault;
-pub use writer::write;
+pub use writer::{term_text, triple_text, write};

@@ -1,13 +1,13 @@
 //! The lines of a text.
 
-ghost use Rattle.std.specs.Prelude.{◌≡◌, ◌++◌, flat_map, IsErrOf, OnOk};
+ghost use Rattle.std.specs.Prelude.{◌≡◌, ◌++◌, [], flat_map, IsErrOf, OnOk};
 ghost use Rattle.std.specs.Str.{chars};
 ghost use Rattle.owl_characters.specs.Iri.{IsIri};
 ghost use Rattle.owl_writing.specs.Limits.{IsTooLong};
 ghost use Rattle.owl_writing.specs.Tables.{HaveIris};
 ghost use Rattle.owl_writing.specs.declared.fault.WriteFault.{WriteFault};
 ghost use Rattle.ttl_write.specs.Formed.{AreFormed, IsFormedTriple};
-ghost use Rattle.ttl_write.specs.Text.{lines_of, namespace_line, prefix_line, triple_line};
+ghost use Rattle.ttl_write.specs.Text.{full_triple, lines_of, namespace_line, prefix_line, triple_line};
 
 use crate::terms::{add_term, known};
 use owl_atom::{Iri, Prefixes};
@@ -90,4 +90,23 @@ fn add_triple(draft: &mut Draft, prefixes: &Prefixes, triple: &Triple) -> Result
     draft.add_ascii(" ")?;
     add_term(draft, prefixes, &triple.object)?;
     draft.add_ascii(" .\n")
+}
+
+/// Adds the terms of a triple, with IRIs in full.
+#[tactic(auto, using(owl_characters::specs::Utf8Laws::size_append))]
+pub fn add_full_triple(
+    draft: &mut Draft,
+    none: &Prefixes,
+    triple: &Triple,
+) -> Result<(), WriteFault>
+    requires { none.now ≡ [] }
+    ensures ok { OnOk result (draft.new ≡ draft.old ++ full_triple triple.now) }
+    ensures too_long { IsErrOf result WriteFault.TooLong
+        → IsTooLong (draft.old ++ full_triple triple.now) }
+{
+    add_term(draft, none, &triple.subject)?;
+    draft.add_ascii(" ")?;
+    draft.add_full_iri(&triple.predicate)?;
+    draft.add_ascii(" ")?;
+    add_term(draft, none, &triple.object)
 }

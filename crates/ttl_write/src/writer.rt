@@ -6,13 +6,14 @@ ghost use Rattle.owl_characters.specs.Limit.{most_bytes};
 ghost use Rattle.owl_writing.specs.Tables.{written_prefixes};
 ghost use Rattle.owl_writing.specs.declared.fault.WriteFault.{WriteFault};
 ghost use Rattle.ttl_grammar.specs.Documents.{ReadsTurtle};
-ghost use Rattle.ttl_write.specs.Text.{turtle_text};
+ghost use Rattle.ttl_write.specs.Text.{full_term, full_triple, turtle_text};
 
-use crate::lines::add_graph;
+use crate::lines::{add_full_triple, add_graph};
+use crate::terms::add_term;
 use owl_atom::Prefixes;
 use owl_characters::Text;
 use owl_writing::{Draft, WriteFault, written_prefixes};
-use rdf_graph::Graph;
+use rdf_graph::{Graph, Term, Triple};
 use std::alloc::Global;
 
 /// The text of the graph in Turtle (RDF 1.1 Turtle): a line for each prefix, in the order of the bytes of their names, and
@@ -39,4 +40,30 @@ pub fn write(alloc: Global, graph: &Graph, prefixes: &Prefixes) -> Result<Text, 
     let text = draft.into_text();
     text.as_str();
     Ok(text)
+}
+
+/// The text of a term in Turtle, with all IRIs in full.
+///
+/// `TooLong` exactly where it has more than 2^27 bytes, and `Memory` where memory runs out.
+pub fn term_text(alloc: Global, term: &Term) -> Result<Text, WriteFault>
+    ensures text { IfOk result (λ text. text ≡ full_term term.now) }
+    ensures within { IfOk result (λ text. length (encode_utf8_all text) ≤ most_bytes) }
+    ensures too_long { IsErrOf result WriteFault.TooLong → most_bytes < length (encode_utf8_all (full_term term.now)) }
+{
+    let mut draft = Draft::new(alloc);
+    add_term(&mut draft, &Prefixes::empty(alloc), term)?;
+    Ok(draft.into_text())
+}
+
+/// The terms of a triple in Turtle, with all IRIs in full.
+///
+/// `TooLong` exactly where they have more than 2^27 bytes, and `Memory` where memory runs out.
+pub fn triple_text(alloc: Global, triple: &Triple) -> Result<Text, WriteFault>
+    ensures text { IfOk result (λ text. text ≡ full_triple triple.now) }
+    ensures within { IfOk result (λ text. length (encode_utf8_all text) ≤ most_bytes) }
+    ensures too_long { IsErrOf result WriteFault.TooLong → most_bytes < length (encode_utf8_all (full_triple triple.now)) }
+{
+    let mut draft = Draft::new(alloc);
+    add_full_triple(&mut draft, &Prefixes::empty(alloc), triple)?;
+    Ok(draft.into_text())
 }
