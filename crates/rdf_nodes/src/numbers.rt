@@ -24,6 +24,8 @@ impl<'a> Source<'a> {
         requires { IsTableOf self.now.graph.now self.now.roles.now }
         ensures numbered { IfOk result (λ ids. AreNumbered self.now.graph.now self.now.kinds.now
             self.now.roles.now (S.stands store.new) ids.items) }
+        ensures known { IfOk result (λ ids.
+            AreKnown self.now.graph.now self.now.roles.now ids.items) }
         ensures all { OnOk result (HaveNoClash self.now.kinds.now →
             AreAllHeld self.now.graph.now self.now.kinds.now (S.stands store.new)) }
         ensures fault { IfErr result (IsSomeNodeFault self.now.graph.now self.now.kinds.now) }
