@@ -1,0 +1,4 @@
+use Rattle.rdf_statements.proofs.forms.form_of_role.Given as goal
+
+abbrev pub invariant-loop-row : goal.invariant-loop-row
+invariant-loop-row l = Unit {0}

@@ -1,0 +1,5 @@
+use Rattle.rdf_statements.specs.FormLaws.{axiom_form_says}
+use Rattle.rdf_statements.proofs.laws.axiom_forms_say.Goals as goal
+
+pub returns : goal.returns
+returns c = axiom_form_says

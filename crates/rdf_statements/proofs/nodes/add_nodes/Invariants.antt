@@ -1,0 +1,7 @@
+use Rattle.rdf_statements.proofs.Adding.{NodesUpTo}
+use Rattle.rdf_statements.proofs.nodes.add_nodes.Given as goal
+
+abbrev pub invariant-loop-number : goal.invariant-loop-number
+invariant-loop-number g l =
+    let reading = l.known.annotated.reading in
+    NodesUpTo (g.S.TreeStore.stands l.fn.store) reading.graph.now reading.kinds.now (g.S.TreeStore.stands l.store) l.number l.fn.axioms.items l.axioms.items

@@ -1,0 +1,5 @@
+pub mod GraphTrees
+pub mod PartLaws
+pub mod Forms
+pub mod FormLaws
+pub mod Holding

@@ -1,0 +1,47 @@
+-- A part of a tree is no deeper than the tree, and its canonical form no heavier.
+use Rattle.std.specs.Prelude.{◌≤◌, List, [], ◌∷◌, Contains, map}
+use Rattle.std.proofs.Common.{inl, inr, ap, arith}
+use Rattle.owl_list.specs.AscendingLaws.{in_cases, in_map, in_none}
+use Rattle.owl_tree.specs.declared.tag.Tag.{Tag}
+use Rattle.owl_tree.specs.Canonical.{arranged, canonical}
+use Rattle.owl_tree.specs.CanonicalLaws.{arranged_holds, canonicals_kids_of}
+use Rattle.owl_tree.specs.Rows.{row_of, set_start}
+use Rattle.owl_tree.specs.Trees.{Tree, depth, kids_of, most_depth, node, sum_weight, weight}
+use Rattle.rdf_statements.specs.GraphTrees.{IsPartOf, itself, below}
+
+most_of_kids : (ts : List Tree) (t : Tree) → Contains ts t → depth t ≤ most_depth (kids_of ts)
+most_of_kids [] t m = absurd (in_none t m)
+most_of_kids (u ∷ us) t m =
+    elim (in_cases u us t m) [
+      | inl e ↦ let same = ap depth e in omega arith
+      | inr n ↦ let rest = most_of_kids us t n in omega arith
+    ]
+
+sum_of_kids : (ts : List Tree) (t : Tree) → Contains ts t → weight t ≤ sum_weight (kids_of ts)
+sum_of_kids [] t m = absurd (in_none t m)
+sum_of_kids (u ∷ us) t m =
+    elim (in_cases u us t m) [
+      | inl e ↦ let same = ap weight e in omega arith
+      | inr n ↦ let rest = sum_of_kids us t n in omega arith
+    ]
+
+-- a kid is less deep than its node
+pub kid_depth : (tag : Tag) (ts : List Tree) (t : Tree) → Contains ts t → depth t ≤ depth (node tag (kids_of ts))
+kid_depth tag ts t m = let most = most_of_kids ts t m in omega arith
+
+-- its canonical form is lighter than that of the node
+pub kid_weight : (tag : Tag) (ts : List Tree) (t : Tree) → Contains ts t → weight (canonical t) ≤ weight (canonical (node tag (kids_of ts)))
+kid_weight tag ts t m =
+    let start = set_start (row_of tag) in
+    let among = (arranged_holds start (map canonical ts) (canonical t)).1 (in_map canonical ts t m) in
+    let sum = sum_of_kids (arranged start (map canonical ts)) (canonical t) among in
+    let same = ap (λ us. sum_weight (kids_of (arranged start us))) (canonicals_kids_of ts) in
+    omega arith
+
+pub part_depth : (t u : Tree) → IsPartOf t u → depth t ≤ depth u
+part_depth _ _ (itself t) = omega arith
+part_depth _ _ (below t u tag us m p) = let first = part_depth t u p in let more = kid_depth tag us u m in omega arith
+
+pub part_weight : (t u : Tree) → IsPartOf t u → weight (canonical t) ≤ weight (canonical u)
+part_weight _ _ (itself t) = omega arith
+part_weight _ _ (below t u tag us m p) = let first = part_weight t u p in let more = kid_weight tag us u m in omega arith

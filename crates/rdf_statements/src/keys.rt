@@ -1,0 +1,67 @@
+//! The properties of keys.
+
+ghost use Rattle.std.specs.Prelude.{IfOk, IfSome, IsTrue};
+ghost use Rattle.rdf_roles.specs.Tables.{IsTableOf};
+ghost use Rattle.rdf_statements.specs.Forms.{AreKeyOperands, IsKeyAdded};
+
+use owl_characters::NoMemory;
+use owl_tree::Sort;
+use rdf_graph::Term;
+use rdf_nodes::{Operand, Source, is_nil};
+use std::alloc::AllocError;
+
+/// The properties of a key: those of objects and those of data, each in order.
+#[derive(Debug, Drop)]
+pub(crate) struct KeyOperands {
+    pub objects: Vec<Operand>,
+    pub data: Vec<Operand>,
+}
+
+/// The elements of the list, where each is an object property expression or else a
+/// data property. A list has no more cells than the graph has triples.
+pub(crate) fn keys_of(source: &Source, list: &Term) -> Result<Option<KeyOperands>, NoMemory>
+    requires { IsTableOf source.now.graph.now source.now.roles.now }
+    ensures { IfOk result (λ found. IfSome found (λ keys.
+        AreKeyOperands source.now.graph.now source.now.kinds.now source.now.roles.now list.now
+        keys.objects.items keys.data.items)) }
+{
+    let mut keys = KeyOperands {
+        objects: Vec::new(source.alloc),
+        data: Vec::new(source.alloc),
+    };
+    let mut rest = list;
+    for _cell in 0..source.graph.len() {
+        let Some((first, behind)) = source.cell(rest) else {
+            break;
+        };
+        if !add_key(source, &mut keys, first)? {
+            return Ok(None);
+        }
+        rest = behind;
+    }
+    if is_nil(rest) {
+        Ok(Some(keys))
+    } else {
+        Ok(None)
+    }
+}
+
+/// Adds the property, and tells whether it is one.
+fn add_key(source: &Source, keys: &mut KeyOperands, term: &Term) -> Result<bool, NoMemory>
+    requires { IsTableOf source.now.graph.now source.now.roles.now }
+    ensures { IfOk result (λ added. IsTrue added →
+        IsKeyAdded source.now.graph.now source.now.kinds.now source.now.roles.now term.now
+        keys.old.objects.items keys.old.data.items keys.new.objects.items keys.new.data.items) }
+{
+    if let Some(key) = source.operand(Sort::ObjectPropertyExpression, term)? {
+        keys.objects.push(key).map_err(AllocError::from)?;
+        return Ok(true);
+    }
+    match source.operand(Sort::DataPropertyExpression, term)? {
+        Some(key) => {
+            keys.data.push(key).map_err(AllocError::from)?;
+            Ok(true)
+        }
+        None => Ok(false),
+    }
+}

@@ -1,0 +1,167 @@
+//! The kids that a term gives.
+
+ghost use Rattle.std.specs.Prelude.{◌≡◌, ◌≤◌, ◌∷◌, ◌++◌, [], IfOk, IfSome, IsTrue, length, map};
+ghost use Rattle.rdf_meaning.specs.declared.row.Want.TheVariants.{Declared, Keys, Many, One, Whole};
+ghost use Rattle.rdf_roles.specs.Tables.{IsTableOf};
+ghost use Rattle.rdf_statements.specs.declared.form.Kid.TheVariants as kid;
+ghost use Rattle.rdf_statements.specs.Forms.{GivesKids};
+
+use crate::form::Kid;
+use crate::keys::{KeyOperands, keys_of};
+use owl_characters::NoMemory;
+use owl_tree::{Atom, Sort, Tag};
+use rdf_asked::is_declared;
+use rdf_graph::Term;
+use rdf_meaning::Want;
+use rdf_nodes::{Operand, Source};
+use rdf_rows::is_true;
+use std::alloc::{AllocError, Global};
+
+/// The kids that the term gives where this is wanted.
+pub(crate) fn kids_of_term(
+    source: &Source,
+    want: Want,
+    term: &Term,
+) -> Result<Option<Vec<Kid>>, NoMemory>
+    requires { IsTableOf source.now.graph.now source.now.roles.now }
+    ensures { IfOk result (λ found. IfSome found (λ kids.
+        GivesKids source.now.graph.now source.now.kinds.now source.now.roles.now term.now want
+        kids.items)) }
+{
+    match want {
+        Want::One(sort) => one(source, sort, term),
+        Want::Many(sort, least) => many(source, sort, least, term),
+        Want::Whole(tag, sort, least) => whole(source, tag, sort, least, term),
+        Want::Keys => keys(source, term),
+        Want::Declared(tag) => declared(source, tag, term),
+        Want::Mark => Ok(Some(Vec::new(source.alloc))),
+        Want::True if is_true(term) => Ok(Some(Vec::new(source.alloc))),
+        Want::True => Ok(None),
+    }
+}
+
+/// The kid where one tree of the sort is wanted.
+fn one(source: &Source, sort: Sort, term: &Term) -> Result<Option<Vec<Kid>>, NoMemory>
+    requires { IsTableOf source.now.graph.now source.now.roles.now }
+    ensures { IfOk result (λ found. IfSome found (λ kids.
+        GivesKids source.now.graph.now source.now.kinds.now source.now.roles.now term.now
+        (One sort) kids.items)) }
+{
+    match source.operand(sort, term)? {
+        Some(operand) => only(source.alloc, Kid::One(operand)),
+        None => Ok(None),
+    }
+}
+
+/// The kids where a list of so many is wanted.
+fn many(
+    source: &Source,
+    sort: Sort,
+    least: usize,
+    list: &Term,
+) -> Result<Option<Vec<Kid>>, NoMemory>
+    requires { IsTableOf source.now.graph.now source.now.roles.now }
+    ensures { IfOk result (λ found. IfSome found (λ kids.
+        GivesKids source.now.graph.now source.now.kinds.now source.now.roles.now list.now
+        (Many sort least) kids.items)) }
+{
+    match source.elements(sort, list)? {
+        Some(elements) if least <= elements.len() => Ok(Some(ones(source.alloc, elements)?)),
+        _ => Ok(None),
+    }
+}
+
+/// The kid where such a list is wanted as one kid with the tag.
+fn whole(
+    source: &Source,
+    tag: Tag,
+    sort: Sort,
+    least: usize,
+    list: &Term,
+) -> Result<Option<Vec<Kid>>, NoMemory>
+    requires { IsTableOf source.now.graph.now source.now.roles.now }
+    ensures { IfOk result (λ found. IfSome found (λ kids.
+        GivesKids source.now.graph.now source.now.kinds.now source.now.roles.now list.now
+        (Whole tag sort least) kids.items)) }
+{
+    match source.elements(sort, list)? {
+        Some(elements) if least <= elements.len() => {
+            only(source.alloc, Kid::Group(tag, elements))
+        }
+        _ => Ok(None),
+    }
+}
+
+/// The kids where a list of one or more properties that are a key is wanted.
+fn keys(source: &Source, list: &Term) -> Result<Option<Vec<Kid>>, NoMemory>
+    requires { IsTableOf source.now.graph.now source.now.roles.now }
+    ensures { IfOk result (λ found. IfSome found (λ kids.
+        GivesKids source.now.graph.now source.now.kinds.now source.now.roles.now list.now Keys
+        kids.items)) }
+{
+    match keys_of(source, list)? {
+        Some(keys) if has_key(&keys) => {
+            let KeyOperands { objects, data } = keys;
+            let objects = Kid::Group(Tag::ObjectKeys, objects);
+            both(source.alloc, objects, Kid::Group(Tag::DataKeys, data))
+        }
+        _ => Ok(None),
+    }
+}
+
+/// Whether there is a property.
+fn has_key(keys: &KeyOperands) -> bool
+    ensures { IsTrue result → 1 ≤ length (keys.now.objects.items ++ keys.now.data.items) }
+{
+    if keys.objects.is_empty() {
+        !keys.data.is_empty()
+    } else {
+        true
+    }
+}
+
+/// The kid where an entity that is declared is wanted.
+fn declared(source: &Source, tag: Tag, term: &Term) -> Result<Option<Vec<Kid>>, NoMemory>
+    ensures { IfOk result (λ found. IfSome found (λ kids.
+        GivesKids source.now.graph.now source.now.kinds.now source.now.roles.now term.now
+        (Declared tag) kids.items)) }
+{
+    match term {
+        Term::Iri(iri) if is_declared(source.kinds, tag, term) => {
+            let atom = Atom::Iri(iri.copy(source.alloc)?);
+            only(source.alloc, Kid::One(Operand::Leaf(tag, atom)))
+        }
+        Term::Iri(_) | Term::Blank(_) | Term::Literal(_) => Ok(None),
+    }
+}
+
+/// The kid alone.
+fn only(alloc: Global, kid: Kid) -> Result<Option<Vec<Kid>>, NoMemory>
+    ensures { IfOk result (λ found. IfSome found (λ kids. kids.items ≡ kid ∷ [])) }
+{
+    let mut kids = Vec::new(alloc);
+    kids.push(kid).map_err(AllocError::from)?;
+    Ok(Some(kids))
+}
+
+/// The two kids.
+fn both(alloc: Global, first: Kid, second: Kid) -> Result<Option<Vec<Kid>>, NoMemory>
+    ensures { IfOk result (λ found. IfSome found (λ kids. kids.items ≡ first ∷ second ∷ [])) }
+{
+    let mut kids = Vec::new(alloc);
+    kids.push(first).map_err(AllocError::from)?;
+    kids.push(second).map_err(AllocError::from)?;
+    Ok(Some(kids))
+}
+
+/// The operands as kids.
+fn ones(alloc: Global, operands: Vec<Operand>) -> Result<Vec<Kid>, NoMemory>
+    ensures { IfOk result (λ kids. kids.items ≡ map kid.One operands.items) }
+{
+    Ok(
+        operands
+            .into_iter()
+            .map(|operand| Kid::One(operand))
+            .collect(alloc)?,
+    )
+}

@@ -1,0 +1,105 @@
+//! The axioms that triples are, in a store.
+
+ghost use Rattle.std.specs.Prelude.{◌≡◌, ◌<◌, ◌∷◌, [], IfErr, IfOk, OnOk, Some, length, slice_get};
+ghost use Rattle.std.specs.List.{filter};
+ghost use Rattle.rdf_annotations.specs.Annotations.{IsFaultOfSome};
+ghost use Rattle.rdf_graph.specs.declared.triple.Triple.{Triple};
+ghost use Rattle.rdf_meaning.specs.Statements.{AreAxioms, IsAxiomOf, main_triples};
+ghost use Rattle.rdf_statements.specs.GraphTrees.{IsTreeOf};
+ghost use Rattle.rdf_statements.specs.Holding.{Adds, IsKnown, StandForSome, is_main_triple};
+ghost use Rattle.tree_stores.specs.Stores.{Keeps};
+
+use crate::forms::form_of_triple;
+use crate::hold_forms::hold_form;
+use crate::known::Known;
+use rdf_nodes::Source;
+use rdf_scans::{is_main, sort_of};
+use tree_stores::{TreeFault, TreeStore};
+
+/// Adds the axioms that triples of the graph are.
+pub(crate) fn add_triples<S: TreeStore>(
+    known: &Known<S::Number>,
+    store: &mut S,
+    axioms: &mut Vec<S::Number>,
+) -> Result<(), TreeFault>
+    requires { IsKnown (S.stands store.old) known.now }
+    ensures added { OnOk result (Adds (S.stands store.old) (S.stands store.new)
+        (AreAxioms known.now.annotated.reading.graph.now known.now.annotated.reading.kinds.now
+        (main_triples known.now.annotated.reading.graph.now
+        known.now.annotated.reading.kinds.now known.now.annotated.reading.header.now))
+        axioms.old.items axioms.new.items) }
+    ensures fault { IfErr result (IsFaultOfSome (IsTreeOf known.now.annotated.reading.graph.now
+        known.now.annotated.reading.kinds.now known.now.annotated.reading.header.now)) }
+    ensures kept { Keeps (S.stands store.old) (S.stands store.new) }
+{
+    for place in 0..known.annotated.reading.graph.len() {
+        match add_triple(known, store, place, axioms) {
+            Ok(()) => {}
+            Err(fault) => return Err(fault),
+        }
+    }
+    Ok(())
+}
+
+/// Adds the axioms that the triple at this place is, where it is one.
+fn add_triple<S: TreeStore>(
+    known: &Known<S::Number>,
+    store: &mut S,
+    place: usize,
+    axioms: &mut Vec<S::Number>,
+) -> Result<(), TreeFault>
+    requires known { IsKnown (S.stands store.old) known.now }
+    requires place { place < length known.now.annotated.reading.graph.now }
+    ensures added { (t : Triple) → slice_get known.now.annotated.reading.graph.now place ≡ Some t →
+        OnOk result (Adds (S.stands store.old) (S.stands store.new)
+        (AreAxioms known.now.annotated.reading.graph.now known.now.annotated.reading.kinds.now
+        (filter (is_main_triple known.now.annotated.reading.graph.now
+        known.now.annotated.reading.kinds.now known.now.annotated.reading.header.now) (t ∷ [])))
+        axioms.old.items axioms.new.items) }
+    ensures fault { IfErr result (IsFaultOfSome (IsTreeOf known.now.annotated.reading.graph.now
+        known.now.annotated.reading.kinds.now known.now.annotated.reading.header.now)) }
+    ensures kept { Keeps (S.stands store.old) (S.stands store.new) }
+{
+    let reading = &known.annotated.reading;
+    if !is_main(sort_of(reading, reading.graph.at(place))) {
+        return Ok(());
+    }
+    let mut more = match hold_triple(known, store, place) {
+        Ok(more) => more,
+        Err(fault) => return Err(fault),
+    };
+    axioms.append(&mut more)?;
+    Ok(())
+}
+
+/// The numbers of the axioms that the triple at this place is. One that is none
+/// does not occur.
+fn hold_triple<S: TreeStore>(
+    known: &Known<S::Number>,
+    store: &mut S,
+    place: usize,
+) -> Result<Vec<S::Number>, TreeFault>
+    requires known { IsKnown (S.stands store.old) known.now }
+    requires place { place < length known.now.annotated.reading.graph.now }
+    ensures held { (t : Triple) → slice_get known.now.annotated.reading.graph.now place ≡ Some t →
+        IfOk result (λ ns. StandForSome (S.stands store.new)
+        (AreAxioms known.now.annotated.reading.graph.now known.now.annotated.reading.kinds.now
+        (t ∷ [])) ns.items) }
+    ensures fault { (t : Triple) → slice_get known.now.annotated.reading.graph.now place ≡ Some t →
+        IfErr result (IsFaultOfSome (IsAxiomOf known.now.annotated.reading.graph.now
+        known.now.annotated.reading.kinds.now t)) }
+    ensures kept { Keeps (S.stands store.old) (S.stands store.new) }
+{
+    let sets = known.annotated.variants(store, known.sets, place)?;
+    let reading = known.annotated.reading;
+    let source = Source {
+        alloc: known.annotated.alloc,
+        graph: reading.graph,
+        roles: reading.roles,
+        kinds: reading.kinds,
+    };
+    let Some(form) = form_of_triple(&source, reading.graph.at(place))? else {
+        return Err(TreeFault::Memory);
+    };
+    hold_form(&source, store, known.ids, &form, &sets)
+}
