@@ -1,0 +1,3 @@
+mod Assembling
+mod Finding
+mod Limiting

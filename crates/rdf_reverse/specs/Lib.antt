@@ -1,0 +1,5 @@
+pub mod Reverse
+pub mod ReverseLaws
+pub mod Faults
+pub mod Clear
+pub mod Limits

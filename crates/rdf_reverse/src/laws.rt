@@ -1,0 +1,24 @@
+//! Laws of what graphs say, as functions that do nothing.
+
+ghost use Rattle.std.specs.Prelude.{◌≡◌, List};
+ghost use Rattle.owl_kind.specs.Kinds.{Entity};
+ghost use Rattle.owl_tree.specs.Ontologies.{IsSameOntology, Ontology};
+ghost use Rattle.rdf_graph.specs.declared.triple.Triple.{Triple};
+ghost use Rattle.rdf_meaning.specs.Statements.{Says};
+ghost use Rattle.rdf_reverse.specs.Reverse.{IsLimitFault, IsSaid, IsUnsaid};
+ghost use Rattle.rdf_reverse.specs.declared.fault.ReverseFault.{ReverseFault};
+
+/// Laws: what a graph says within the limits is one ontology, up to structural
+/// equivalence (Structural Specification, section 2.1), and why it says none is
+/// one fault, and never both. A graph that says an ontology is refused for a limit
+/// alone.
+pub fn graphs_are_read_one_way()
+    ensures ontology { (g : List Triple) (k : List Entity) (o p : Ontology) → IsSaid g k o
+        → IsSaid g k p → IsSameOntology o p }
+    ensures fault { (g : List Triple) (k : List Entity) (e f : ReverseFault) → IsUnsaid g k e
+        → IsUnsaid g k f → e ≡ f }
+    ensures apart { (g : List Triple) (k : List Entity) (o : Ontology) (f : ReverseFault)
+        → IsSaid g k o → IsUnsaid g k f → ⊥ }
+    ensures limit { (g : List Triple) (k : List Entity) (o : Ontology) (f : ReverseFault)
+        → Says g k o → IsUnsaid g k f → IsLimitFault f }
+{}

@@ -1,0 +1,14 @@
+//! An RDF graph as an ontology (Mapping to RDF Graphs, section 3).
+#![tactic(auto)]
+
+mod fault;
+mod laws;
+mod mapping;
+mod scans;
+mod trees;
+
+pub use fault::ReverseFault;
+pub use laws::graphs_are_read_one_way;
+pub use mapping::reverse;
+pub use rdf_nodes::{DenoteFault, NodeFault, Nodes, Role, Roles, denote};
+pub use rdf_scans::{OutlineFault, outline};

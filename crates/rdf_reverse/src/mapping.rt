@@ -1,0 +1,83 @@
+//! The mapping back.
+
+ghost use Rattle.std.specs.Prelude.{◌≡◌, IfErr, IfOk};
+ghost use Rattle.owl_doc.specs.Documents.{ontology_of};
+ghost use Rattle.rdf_scans.specs.Outlines.{IsHeadAt};
+ghost use Rattle.rdf_reverse.specs.Clear.{IsClear};
+ghost use Rattle.rdf_reverse.specs.Reverse.{IsFoundBy, IsReverseFault, IsSaid, limits};
+
+use crate::fault::ReverseFault;
+use crate::scans::{check_kinds, check_reading};
+use crate::trees::read_statements;
+use owl_arena::Arena;
+use owl_assembly::assemble;
+use owl_atom::Prefixes;
+use owl_doc::{Doc, Head};
+use owl_kind::Kinds;
+use rdf_graph::Graph;
+use rdf_roles::Roles;
+use rdf_scans::{Reading, head_of, only_header};
+use std::alloc::Global;
+
+/// The ontology that a graph says of which nothing is wrong but perhaps its size.
+fn read_clear(
+    alloc: Global,
+    reading: &Reading,
+    prefixes: Prefixes,
+    head: Head,
+) -> Result<Doc, ReverseFault>
+    requires clear { IsClear reading.now }
+    requires head { IsHeadAt reading.now.graph.now reading.now.header.now head }
+    ensures said { IfOk result (λ doc.
+        IsSaid reading.now.graph.now reading.now.kinds.now (ontology_of doc)) }
+    ensures prefixes { IfOk result (λ doc. doc.prefixes ≡ prefixes) }
+    ensures fault { IfErr result (
+        IsFoundBy reading.now.graph.now reading.now.kinds.now limits) }
+{
+    let mut arena = Arena::new(alloc);
+    let said = read_statements(alloc, reading, &mut arena)?;
+    Ok(assemble(
+        alloc,
+        prefixes,
+        head,
+        arena,
+        &said.annotations,
+        &said.axioms,
+    )?)
+}
+
+/// The ontology that the graph says under these kinds, with these prefixes
+/// (Mapping to RDF Graphs, section 3).
+///
+/// In this order, each with the first such IRI, node or triple: `TwoKinds` where an
+/// IRI has kinds that no IRI may share; `NoHeader`, `TwoHeaders`, `BadHeader`;
+/// `Mixed`, `BadList`, `Cycle`, `BadNode`; `MainMissing` where a reification is of
+/// nothing; `Reserved` where a triple takes a reserved IRI for what it isn't;
+/// `Orphan` where no axiom reaches a node; `Untyped` where a triple names what it may
+/// not, those of nodes before the others; `NumberTooLarge` where a cardinality is
+/// 2^64 or more; `TooDeep` where an expression, an annotation or an axiom is more
+/// than 128 levels deep; `TooHeavy` where one has more than 2^24 nodes and leaves,
+/// or the ontology has.
+pub fn reverse(
+    alloc: Global,
+    graph: &Graph,
+    prefixes: Prefixes,
+    kinds: &Kinds,
+) -> Result<Doc, ReverseFault>
+    ensures said { IfOk result (λ doc. IsSaid graph.now kinds.now (ontology_of doc)) }
+    ensures prefixes { IfOk result (λ doc. doc.prefixes ≡ prefixes) }
+    ensures fault { IfErr result (IsReverseFault graph.now kinds.now) }
+{
+    check_kinds(alloc, kinds)?;
+    let header = only_header(graph.triples())?;
+    let head = head_of(alloc, graph, header)?;
+    let roles = Roles::of(alloc, graph)?;
+    let reading = Reading {
+        graph,
+        roles: &roles,
+        kinds,
+        header,
+    };
+    check_reading(alloc, &reading)?;
+    read_clear(alloc, &reading, prefixes, head)
+}
