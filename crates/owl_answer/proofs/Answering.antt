@@ -1,28 +1,26 @@
 -- What is answered is what is asked.
 use Rattle.std.proofs.Common.{◌≡◌, ◌≢◌, ℕ, IsTrue, Some, List, [], slice_get, refl, sym, ap, ◌∙◌, subst}
 use Rattle.std.specs.List.{AllByRecursion}
-use Rattle.owl_reader.specs.declared.fault.ReadFault.TheVariants as read
 use Rattle.owl_command.specs.Commands.{IsAmong, Request, names_of}
-use Rattle.owl_documents.specs.Documents.{AreRead, Contents, IsFirstRefused, Said}
+use Rattle.owl_documents.specs.Documents.{AreRead, Contents, IsFirstRefused, Parsed}
 use Rattle.owl_documents.specs.OneWay.{NeverBoth, ReadOneWay, RefusedOneWay}
-use Rattle.owl_documents.specs.Reading.{IsStop, of_failure, of_no_memory, of_refusal}
+use Rattle.owl_documents.specs.Reading.{IsProperRefusal, IsStop, of_failure, of_no_memory, of_refusal}
 use Rattle.owl_documents.specs.Shelves.{IsFaulty, IsFirstFaulty, Rises, Shelves}
 use Rattle.owl_documents.specs.declared.trouble.Refusal.{Refusal}
-use Rattle.owl_documents.specs.declared.trouble.Refusal.TheVariants.{Unreadable}
 use Rattle.owl_documents.specs.declared.trouble.Stop.{Stop}
 use Rattle.owl_documents.specs.declared.trouble.Trouble.TheVariants.{ReadFailed, Memory}
 use Rattle.owl_answer.specs.Outcome.{Outcome, refusal_outcome}
 use Rattle.owl_answer.specs.Runs.{Becomes, Concludes, all_read, not_read, of_read_fault}
 use Rattle.owl_answer.specs.Answers.{IsAnswered, IsConclusion, trouble_outcome}
-use Rattle.owl_answer.proofs.Concluding.{concludes_once}
+use Rattle.owl_answer.proofs.Concluding.{concluded_once}
 use Rattle.owl_answer.proofs.Lines.{at_among, concluded_told, refused_fails, refused_told}
 
 module _ (read_way : ReadOneWay) (refused_way : RefusedOneWay) (never : NeverBoth) (request : Request) where
-  read_only : (contents : Contents) (documents : List Said) (outcome other : Outcome) → AreRead contents (names_of request) documents → Concludes request documents outcome → Becomes contents request other → outcome ≡ other
+  read_only : (contents : Contents) (documents : List Parsed) (outcome other : Outcome) → AreRead contents (names_of request) documents → Concludes request documents outcome → Becomes contents request other → outcome ≡ other
   read_only contents documents outcome other r c (not_read name refusal f e) =
       absurd (never contents (names_of request) documents name refusal r f)
   read_only contents documents outcome other r c (all_read others s d) =
-      concludes_once request documents others (read_way contents (names_of request) documents others r s) outcome other c d
+      concluded_once request documents others (read_way contents (names_of request) documents others r s) outcome other c d
 
   refused_only : (contents : Contents) (name : List ℕ) (refusal : Refusal) (other : Outcome) → IsFirstRefused contents (names_of request) name refusal → Becomes contents request other → refusal_outcome name refusal ≡ other
   refused_only contents name refusal other f (not_read there another g e) =
@@ -33,7 +31,7 @@ module _ (read_way : ReadOneWay) (refused_way : RefusedOneWay) (never : NeverBot
 
   module _ (s : Shelves) where
     -- the documents are read
-    pub answered_read : (documents : List Said) (outcome : Outcome) → (IsTrue s.tells → AreRead s.old (names_of request) documents) → (IsTrue s.tells → AllByRecursion (λ name. s.new name ≡ Some []) (names_of request)) → IsConclusion request documents outcome → IsAnswered request s outcome
+    pub answered_read : (documents : List Parsed) (outcome : Outcome) → (IsTrue s.tells → AreRead s.old (names_of request) documents) → (IsTrue s.tells → AllByRecursion (λ name. s.new name ≡ Some []) (names_of request)) → IsConclusion request documents outcome → IsAnswered request s outcome
     answered_read documents outcome r ended c =
         let told = concluded_told request documents outcome c.concludes in
         record {
@@ -45,7 +43,7 @@ module _ (read_way : ReadOneWay) (refused_way : RefusedOneWay) (never : NeverBot
           ended = λ tells _. ended tells;
         }
 
-    refused_answered : (name : List ℕ) (refusal : Refusal) → IsAmong (names_of request) name → refusal ≢ Unreadable read.Memory → (IsTrue s.tells → IsFirstRefused s.old (names_of request) name refusal) → IsAnswered request s (refusal_outcome name refusal)
+    refused_answered : (name : List ℕ) (refusal : Refusal) → IsAmong (names_of request) name → IsProperRefusal refusal → (IsTrue s.tells → IsFirstRefused s.old (names_of request) name refusal) → IsAnswered request s (refusal_outcome name refusal)
     refused_answered name refusal among n f =
         let told = refused_told request name refusal among n in
         record {

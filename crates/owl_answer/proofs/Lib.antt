@@ -1,13 +1,16 @@
+pub mod Agreement
 pub mod Answering
 pub mod Closures
 pub mod Concluding
 pub mod Heads
 pub mod KindsAt
 pub mod Lines
+pub mod Same
 pub mod Sayings
 pub mod TurtleOnce
 pub mod Turtles
 pub mod Typings
+pub mod UnderKinds
 pub mod Unreached
 pub mod Wanting
 pub mod WorkedRefusals

@@ -6,14 +6,20 @@ use Rattle.owl_kind.specs.Kinds.{Entity}
 use Rattle.owl_command.specs.declared.command.Target.{Target}
 use Rattle.owl_command.specs.declared.command.Target.TheVariants.{Fss, Ttl}
 use Rattle.owl_command.specs.declared.status.Status.TheVariants.{Done}
-use Rattle.owl_documents.specs.Documents.{Said}
+use Rattle.owl_documents.specs.Documents.{Parsed, Said, a_graph, an_ontology}
 use Rattle.owl_documents.specs.declared.trouble.Refusal.{Refusal}
-use Rattle.owl_documents.specs.declared.trouble.Refusal.TheVariants.{DocumentBytes, AllBytes, Unreadable}
-use Rattle.owl_answer.specs.Outcome.{IsComparison, IsLimited, IsSuccess, Outcome, agree, differ, done_line, fits, missing_import, passes, refusal_outcome, shown, too_long_output, translation}
+use Rattle.owl_documents.specs.declared.trouble.Refusal.TheVariants.{DocumentBytes, AllBytes, Unreadable, Headless}
+use Rattle.owl_answer.specs.Outcome.{IsComparison, IsLimited, IsSuccess, Outcome, agree, agreement, differ, difference, done_line, fits, missing_import, passes, refusal_outcome, shown, too_long_output, translation, unsaid_outcome}
 use Rattle.owl_answer.specs.Refusals.{two_kinds, undeclared, unsayable}
-use Rattle.owl_answer.specs.Runs.{AnswersWith, AsksTurtle, Concludes, IsTurtleRefusal, LineFor, has_imports, misses_import, of_bytes, of_import, of_output, of_refusal, of_success, of_triples, of_turtle, of_two_kinds, of_undeclared, of_unsayable, of_weight}
-use Rattle.owl_answer.specs.TurtleOutcome.{IsFormTold, IsGraphTold, IsTold as IsOfTurtle, canonical_said, clashes, few, graph_translation, heavy, light, many, ready, too_heavy_output, too_many_triples, unsaid, untyped}
+use Rattle.owl_answer.specs.Runs.{AnswersWith, AsksTranslation, AsksTurtle, Concludes, IsIllTyped, IsTranslation, IsTurtleRefusal, LineFor, SuccessLine, all_say, misses_import, of_bytes, of_graph, of_import, of_output, of_refusal, of_success, of_triples, of_turtle, of_two_kinds, of_typing, of_undeclared, of_unsayable, of_weight, says_nothing}
+use Rattle.owl_answer.specs.TurtleOutcome.{IsFormTold, IsGraphTold, IsTold as IsOfTurtle, IsTypingRefusal, canonical_said, clashes, few, graph_translation, heavy, ill_typed, light, many, not_typed, ready, too_heavy_output, too_many_triples, unsaid, untyped, well_typed}
 use Rattle.owl_answer.specs.Answers.{IsProper}
+use Rattle.owl_documents.specs.Reading.{IsProperRefusal}
+use Rattle.owl_tree.specs.Ontologies.{Ontology}
+use Rattle.rdf_reverse.specs.declared.fault.ReverseFault.{ReverseFault}
+use Rattle.rdf_reverse.specs.declared.fault.ReverseFault.TheVariants as reverse
+use Rattle.rdf_scans.specs.declared.fault.OutlineFault.TheVariants as outline
+use Rattle.owl_answer.proofs.Same.{never_memory}
 
 pub at_among : (names : List (List ℕ)) (place : ℕ) (name : List ℕ) → slice_get names place ≡ Some name → IsAmong names name
 at_among [] place name e = absurd (cc)
@@ -25,16 +31,26 @@ pub record IsTold (request : Request) (outcome : Outcome) : Type 1 where
   pub proper : IsProper outcome
   pub line : (IsCause : List ℕ → Type 0) → LineFor request IsCause outcome.status outcome.line
 
--- a refusal of a translation to Turtle
+-- a refusal of a translation
+ill_typed_told : (request : Request) → AsksTranslation request → (refusal : Outcome) → IsIllTyped refusal → IsTold request refusal
+ill_typed_told request asks refusal h = record { proper = proper refusal h; line = λ IsCause. of_typing asks refusal h refl refl }
+  where
+    proper : (refusal : Outcome) → IsIllTyped refusal → IsProper refusal
+    proper _ (of_two_kinds iri) = record { found = tt; no_text = refl }
+    proper _ (of_undeclared part e) = record { found = tt; no_text = refl }
+
 turtle_refused : (request : Request) → AsksTurtle request → (refusal : Outcome) → IsTurtleRefusal refusal → IsTold request refusal
 turtle_refused request asks refusal h = record { proper = proper refusal h; line = λ IsCause. of_turtle asks refusal h refl refl }
   where
     proper : (refusal : Outcome) → IsTurtleRefusal refusal → IsProper refusal
-    proper _ (of_two_kinds iri) = record { found = tt; no_text = refl }
-    proper _ (of_undeclared part e) = record { found = tt; no_text = refl }
     proper _ (of_unsayable part why) = record { found = tt; no_text = refl }
     proper _ of_weight = record { found = tt; no_text = refl }
     proper _ of_triples = record { found = tt; no_text = refl }
+
+typing_told : (request : Request) → AsksTranslation request → (kinds : List Entity) (o : Ontology) (outcome : Outcome) → IsTypingRefusal kinds o outcome → IsTold request outcome
+typing_told request asks kinds o outcome (clashes iri h e) = subst (IsTold request) (sym e) (ill_typed_told request asks (two_kinds iri) (of_two_kinds iri))
+typing_told request asks kinds o outcome (untyped apart part x h e) =
+    subst (IsTold request) (sym e) (ill_typed_told request asks (undeclared part x) (of_undeclared part x))
 
 too_long_told : (request : Request) → IsTold request too_long_output
 too_long_told request = record { proper = record { found = tt; no_text = refl }; line = λ IsCause. of_output refl refl }
@@ -62,33 +78,36 @@ module _ (partial : Bool) (names : List (List ℕ)) where
   graph_told main outcome (light l w) = form_told _ _ outcome w
 
   turtle_told : (kinds : List Entity) (main : Said) (outcome : Outcome) → IsOfTurtle kinds main outcome → IsTold (translates Ttl partial names) outcome
-  turtle_told kinds main outcome (clashes iri h e) =
-      subst (IsTold (translates Ttl partial names)) (sym e) (turtle_refused (translates Ttl partial names) tt (two_kinds iri) (of_two_kinds iri))
-  turtle_told kinds main outcome (untyped apart part x h e) =
-      subst (IsTold (translates Ttl partial names)) (sym e) (turtle_refused (translates Ttl partial names) tt (undeclared part x) (of_undeclared part x))
+  turtle_told kinds main outcome (not_typed h) = typing_told (translates Ttl partial names) tt kinds main.ontology outcome h
   turtle_told kinds main outcome (unsaid t part why h e) =
       subst (IsTold (translates Ttl partial names)) (sym e) (turtle_refused (translates Ttl partial names) tt (unsayable part why) (of_unsayable part why))
   turtle_told kinds main outcome (ready r w) = graph_told main outcome w
 
-answers_told : (request : Request) (documents : List Said) (outcome : Outcome) → AnswersWith request documents outcome → IsTold request outcome
-answers_told (translates target partial names) [] outcome w = absurd w
-answers_told (translates Fss partial names) (d ∷ ds) outcome w =
-    limited_told (translates Fss partial names) (λ o. o ≡ translation d) (λ o e. subst (IsTold (translates Fss partial names)) (sym e) (translated_told Fss partial names _ _ _)) outcome w
-answers_told (translates Ttl partial names) (d ∷ ds) outcome w = turtle_told partial names w.kinds (canonical_said d) outcome w.translation
-answers_told (shows partial names) [] outcome w = absurd w
-answers_told (shows partial names) (d ∷ ds) outcome w =
-    limited_told (shows partial names) (λ o. o ≡ shown d) (λ o e. subst (IsTold (shows partial names)) (sym e) (record { proper = record { found = tt; no_text = tt }; line = λ IsCause. of_success refl })) outcome w
-answers_told (compares first second) [] outcome w = absurd w
-answers_told (compares first second) (d ∷ []) outcome w = absurd w
-answers_told (compares first second) (d ∷ x ∷ y ∷ ds) outcome w = absurd w
-answers_told (compares first second) (d ∷ x ∷ []) outcome w =
-    limited_told (compares first second) (IsComparison d x) (λ o h. compared o h) outcome w
-  where
-    compared : (o : Outcome) → IsComparison d x o → IsTold (compares first second) o
-    compared o (agree h e) =
-        subst (IsTold (compares first second)) (sym e) (record { proper = record { found = tt; no_text = tt }; line = λ IsCause. of_success refl })
-    compared o (differ h e) =
-        subst (IsTold (compares first second)) (sym e) (record { proper = record { found = tt; no_text = tt }; line = λ IsCause. of_success refl })
+  written_told : (main : Said) (outcome : Outcome) → IsLimited (λ (o : Outcome). o ≡ translation main) outcome → IsTold (translates Fss partial names) outcome
+  written_told main outcome w =
+      limited_told (translates Fss partial names) (λ o. o ≡ translation main) (λ o e. subst (IsTold (translates Fss partial names)) (sym e) (translated_told Fss partial names _ _ _)) outcome w
+
+  translation_told : (target : Target) (parsed : Parsed) (kinds : List Entity) (main : Said) (outcome : Outcome) → IsTranslation target parsed kinds main outcome → IsTold (translates target partial names) outcome
+  translation_told Fss (an_ontology said) kinds main outcome w = written_told main outcome w
+  translation_told Fss (a_graph read) kinds main outcome (ill_typed h) = typing_told (translates Fss partial names) tt kinds main.ontology outcome h
+  translation_told Fss (a_graph read) kinds main outcome (well_typed t w) = written_told main outcome w
+  translation_told Ttl parsed kinds main outcome w = turtle_told kinds (canonical_said main) outcome w
+
+-- the text and the line of a success
+done_told : (request : Request) (wanted : Outcome) → IsProper wanted → SuccessLine request wanted.status wanted.line → (outcome : Outcome) → outcome ≡ wanted → IsTold request outcome
+done_told request wanted proper line outcome e = subst (IsTold request) (sym e) (record { proper = proper; line = λ IsCause. of_success line })
+
+compared_told : (first second : List ℕ) (a b : Said) (outcome : Outcome) → IsComparison a b outcome → IsTold (compares first second) outcome
+compared_told first second a b outcome (agree h e) = done_told (compares first second) agreement (record { found = tt; no_text = tt }) refl outcome e
+compared_told first second a b outcome (differ h e) = done_told (compares first second) difference (record { found = tt; no_text = tt }) refl outcome e
+
+answers_told : (request : Request) (documents : List Parsed) (outcome : Outcome) → AnswersWith request documents outcome → IsTold request outcome
+answers_told (translates target partial names) documents outcome w =
+    translation_told partial names target w.main.parsed w.main.kinds w.said outcome w.holds
+answers_told (shows partial names) documents outcome w =
+    limited_told (shows partial names) (λ o. o ≡ shown w.said) (done_told (shows partial names) (shown w.said) (record { found = tt; no_text = tt }) refl) outcome w.holds
+answers_told (compares first second) documents outcome w =
+    limited_told (compares first second) (IsComparison w.first w.second) (compared_told first second w.first w.second) outcome w.holds
 
 missing_told : (request : Request) (name iri : List ℕ) → IsAmong (names_of request) name → IsTold request (missing_import name iri)
 missing_told request name iri among = record {
@@ -96,13 +115,40 @@ missing_told request name iri among = record {
   line = λ IsCause. of_refusal name among (of_import iri refl refl);
 }
 
-pub concluded_told : (request : Request) (documents : List Said) (outcome : Outcome) → Concludes request documents outcome → IsTold request outcome
+-- a graph that says nothing
+unsaid_proper : (name : List ℕ) (fault : ReverseFault) → fault ≢ reverse.Memory → IsProper (unsaid_outcome name fault)
+unsaid_proper name (reverse.TwoKinds iri) n = record { found = tt; no_text = refl }
+unsaid_proper name reverse.NoHeader n = record { found = tt; no_text = refl }
+unsaid_proper name reverse.TwoHeaders n = record { found = tt; no_text = refl }
+unsaid_proper name (reverse.BadHeader node) n = record { found = tt; no_text = refl }
+unsaid_proper name (reverse.Mixed label) n = record { found = tt; no_text = refl }
+unsaid_proper name (reverse.BadList label) n = record { found = tt; no_text = refl }
+unsaid_proper name (reverse.Cycle label) n = record { found = tt; no_text = refl }
+unsaid_proper name (reverse.BadNode label) n = record { found = tt; no_text = refl }
+unsaid_proper name (reverse.MainMissing label) n = record { found = tt; no_text = refl }
+unsaid_proper name (reverse.Reserved triple) n = record { found = tt; no_text = refl }
+unsaid_proper name (reverse.Orphan label) n = record { found = tt; no_text = refl }
+unsaid_proper name (reverse.Untyped triple) n = record { found = tt; no_text = refl }
+unsaid_proper name reverse.NumberTooLarge n = record { found = tt; no_text = refl }
+unsaid_proper name reverse.TooDeep n = record { found = tt; no_text = refl }
+unsaid_proper name reverse.TooHeavy n = record { found = tt; no_text = refl }
+unsaid_proper name reverse.Memory n = absurd (n refl)
+
+unsaid_told : (request : Request) (name : List ℕ) (fault : ReverseFault) → IsAmong (names_of request) name → fault ≢ reverse.Memory → IsTold request (unsaid_outcome name fault)
+unsaid_told request name fault among n = record {
+  proper = unsaid_proper name fault n;
+  line = λ IsCause. of_refusal name among (of_graph fault n refl refl);
+}
+
+pub concluded_told : (request : Request) (documents : List Parsed) (outcome : Outcome) → Concludes request documents outcome → IsTold request outcome
 concluded_told request documents outcome (misses_import asked place iri name m at e) =
     subst (IsTold request) (sym e) (missing_told request name iri (at_among (names_of request) place name at))
-concluded_told request documents outcome (has_imports h w) = answers_told request documents outcome w
+concluded_told request documents outcome (says_nothing h place fault name u at e) =
+    subst (IsTold request) (sym e) (unsaid_told request name fault (at_among (names_of request) place name at) (never_memory u.unsaid.kinds u.unsaid.parsed fault u.unsaid.unsaid))
+concluded_told request documents outcome (all_say h all w) = answers_told request documents outcome w
 
 -- a refusal is told as one
-refused_proper : (name : List ℕ) (refusal : Refusal) → refusal ≢ Unreadable read.Memory → IsProper (refusal_outcome name refusal)
+refused_proper : (name : List ℕ) (refusal : Refusal) → IsProperRefusal refusal → IsProper (refusal_outcome name refusal)
 refused_proper name DocumentBytes n = record { found = tt; no_text = refl }
 refused_proper name AllBytes n = record { found = tt; no_text = refl }
 refused_proper name (Unreadable (read.Refused item at reason)) n = record { found = tt; no_text = refl }
@@ -112,8 +158,12 @@ refused_proper name (Unreadable read.TooHeavy) n = record { found = tt; no_text 
 refused_proper name (Unreadable read.NumberTooLarge) n = record { found = tt; no_text = refl }
 refused_proper name (Unreadable read.TooMany) n = record { found = tt; no_text = refl }
 refused_proper name (Unreadable read.Memory) n = absurd (n refl)
+refused_proper name (Headless outline.NoHeader) n = record { found = tt; no_text = refl }
+refused_proper name (Headless outline.TwoHeaders) n = record { found = tt; no_text = refl }
+refused_proper name (Headless (outline.BadHeader node)) n = record { found = tt; no_text = refl }
+refused_proper name (Headless outline.Memory) n = absurd (n refl)
 
-pub refused_told : (request : Request) (name : List ℕ) (refusal : Refusal) → IsAmong (names_of request) name → refusal ≢ Unreadable read.Memory → IsTold request (refusal_outcome name refusal)
+pub refused_told : (request : Request) (name : List ℕ) (refusal : Refusal) → IsAmong (names_of request) name → IsProperRefusal refusal → IsTold request (refusal_outcome name refusal)
 refused_told request name refusal among n = record {
   proper = refused_proper name refusal n;
   line = λ IsCause. of_refusal name among (of_bytes refusal n refl refl);
@@ -129,3 +179,25 @@ refused_fails name (Unreadable read.TooHeavy) h = h
 refused_fails name (Unreadable read.NumberTooLarge) h = h
 refused_fails name (Unreadable read.TooMany) h = h
 refused_fails name (Unreadable read.Memory) h = h
+refused_fails name (Headless outline.NoHeader) h = h
+refused_fails name (Headless outline.TwoHeaders) h = h
+refused_fails name (Headless (outline.BadHeader node)) h = h
+refused_fails name (Headless outline.Memory) h = h
+
+pub unsaid_fails : (name : List ℕ) (fault : ReverseFault) → IsSuccess (unsaid_outcome name fault).status → ⊥
+unsaid_fails name (reverse.TwoKinds iri) h = h
+unsaid_fails name reverse.NoHeader h = h
+unsaid_fails name reverse.TwoHeaders h = h
+unsaid_fails name (reverse.BadHeader node) h = h
+unsaid_fails name (reverse.Mixed label) h = h
+unsaid_fails name (reverse.BadList label) h = h
+unsaid_fails name (reverse.Cycle label) h = h
+unsaid_fails name (reverse.BadNode label) h = h
+unsaid_fails name (reverse.MainMissing label) h = h
+unsaid_fails name (reverse.Reserved triple) h = h
+unsaid_fails name (reverse.Orphan label) h = h
+unsaid_fails name (reverse.Untyped triple) h = h
+unsaid_fails name reverse.NumberTooLarge h = h
+unsaid_fails name reverse.TooDeep h = h
+unsaid_fails name reverse.TooHeavy h = h
+unsaid_fails name reverse.Memory h = h

@@ -4,8 +4,8 @@ use Rattle.std.specs.Str.{encode_utf8_all}
 use Rattle.owl_characters.specs.Limit.{most_bytes}
 use Rattle.owl_arena.specs.Shared.{heaviest}
 use Rattle.owl_atom.specs.declared.prefixes.Prefix.{Prefix}
-use Rattle.owl_kind.specs.Kinds.{Entity, IsFirstClash}
-use Rattle.owl_tree.specs.Ontologies.{canonical_ontology, ontology_weight}
+use Rattle.owl_kind.specs.Kinds.{Entity}
+use Rattle.owl_tree.specs.Ontologies.{Ontology, canonical_ontology, ontology_weight}
 use Rattle.owl_doc.specs.Documents.{Document, ontology_of}
 use Rattle.owl_documents.specs.Documents.{Said, said_of}
 use Rattle.rdf_graph.specs.Graphs.{IsGraph, most_triples}
@@ -17,10 +17,14 @@ use Rattle.rdf_normal.specs.NormalForms.{absorbed_count, normal_form}
 use Rattle.rdf_mapping.specs.Graphs.{graph_of}
 use Rattle.ttl_write.specs.Text.{turtle_text}
 use Rattle.owl_answer.specs.Outcome.{IsLimited, IsSuccess, Outcome, too_long_output}
-use Rattle.owl_answer.specs.Refusals.{two_kinds, undeclared, unsayable}
-use Rattle.owl_answer.specs.Typing.{IsFirstUntyped}
-use Rattle.owl_answer.specs.TurtleOutcome.{HasNoClash, IsFormTold, IsGraphTold, IsToldBack, IsTold, IsTurtleTranslation, IsTyped, ReadsGraph, canonical_said, clashes, few, graph_translation, heavy, light, many, ready, too_heavy_output, too_many_triples, turtle_form, unsaid, untyped}
+use Rattle.owl_answer.specs.Refusals.{unsayable}
+use Rattle.owl_answer.specs.TurtleOutcome.{IsFormTold, IsGraphTold, IsToldBack, IsTold, IsTurtleTranslation, IsTyped, IsTypingRefusal, ReadsGraph, canonical_said, clashes, few, graph_translation, heavy, light, many, not_typed, ready, too_heavy_output, too_many_triples, turtle_form, unsaid, untyped}
 use Rattle.owl_answer.proofs.Wanting.{passed}
+
+-- a refusal is no success
+pub typing_fails : (kinds : List Entity) (o : Ontology) (outcome : Outcome) → IsTypingRefusal kinds o outcome → IsSuccess outcome.status → ⊥
+typing_fails kinds o outcome (clashes iri h e) s = subst (λ (x : Outcome). IsSuccess x.status) e s
+typing_fails kinds o outcome (untyped apart part entity h e) s = subst (λ (x : Outcome). IsSuccess x.status) e s
 
 -- what is refused isn't read back
 unread : (wanted outcome : Outcome) (form : Said) → outcome ≡ wanted → (IsSuccess wanted.status → ⊥) → IsSuccess outcome.status → ReadsGraph outcome.text form
@@ -54,11 +58,8 @@ module _ (kinds : List Entity) (main : Said) (form : canonical_ontology main.ont
   in_form : IsToldBack (IsTold kinds main) (turtle_form main) outcome → IsToldBack (IsTurtleTranslation kinds main) (turtle_form (canonical_said main)) outcome
   in_form h = subst (λ (said : Said). IsToldBack (IsTold kinds said) (turtle_form said) outcome) (λ i. record { prefixes = main.prefixes; ontology = sym form i }) h
 
-  pub clash_told : (iri : List ℕ) → IsFirstClash kinds iri → outcome ≡ two_kinds iri → IsToldBack (IsTurtleTranslation kinds main) (turtle_form (canonical_said main)) outcome
-  clash_told iri h e = in_form (record { is = clashes iri h e; back = unread (two_kinds iri) outcome (turtle_form main) e (λ s. s) })
-
-  pub untyped_told : HasNoClash kinds → (part : Part) (entity : Entity) → IsFirstUntyped kinds main.ontology part entity → outcome ≡ undeclared part entity → IsToldBack (IsTurtleTranslation kinds main) (turtle_form (canonical_said main)) outcome
-  untyped_told apart part entity h e = in_form (record { is = untyped apart part entity h e; back = unread (undeclared part entity) outcome (turtle_form main) e (λ s. s) })
+  pub not_typed_told : IsTypingRefusal kinds main.ontology outcome → IsToldBack (IsTurtleTranslation kinds main) (turtle_form (canonical_said main)) outcome
+  not_typed_told h = in_form (record { is = not_typed h; back = λ s. absurd (typing_fails kinds main.ontology outcome h s) })
 
   pub unsaid_told : IsTyped kinds main.ontology → (part : Part) (why : Objection) → IsFirstUnsayable main.ontology part why → outcome ≡ unsayable part why → IsToldBack (IsTurtleTranslation kinds main) (turtle_form (canonical_said main)) outcome
   unsaid_told typed part why h e = in_form (record { is = unsaid typed part why h e; back = unread (unsayable part why) outcome (turtle_form main) e (λ s. s) })

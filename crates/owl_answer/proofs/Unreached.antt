@@ -1,52 +1,46 @@
 -- What a document says that the main one does not reach changes nothing.
-use Rattle.std.proofs.Common.{ℕ, zero, suc, List, [], ◌∷◌, ◌∙◌}
-use Rattle.owl_close.specs.Imports.{main}
-use Rattle.owl_kind.specs.Kinds.{Entity}
-use Rattle.owl_close.specs.UnreachedLaws.{DifferUnreached, first_missing_unreached, none_missing_unreached, unreached_back}
+use Rattle.std.proofs.Common.{ℕ, List, subst}
+use Rattle.owl_close.specs.Imports.{Reaches}
+use Rattle.owl_close.specs.UnreachedLaws.{DifferUnreached, first_missing_unreached, none_missing_unreached, reaches_unreached, unreached_back}
 use Rattle.owl_command.specs.Commands.{Request, compares, shows, translates}
-use Rattle.owl_command.specs.declared.command.Target.TheVariants.{Fss, Ttl}
-use Rattle.owl_documents.specs.Documents.{IsSame, Said}
-use Rattle.owl_answer.specs.Outcome.{Outcome, heads_in}
+use Rattle.owl_documents.specs.Documents.{Parsed}
+use Rattle.owl_kind.specs.Kinds.{Entity}
 use Rattle.owl_answer.specs.KindsAt.{AreClosureKinds}
-use Rattle.owl_answer.specs.Runs.{AnswersWith, IsTranslatedAmong, has_imports, misses_import}
-use Rattle.owl_answer.specs.Unreached.{AreSameBut, IsOfMain, IsReachedAt, UnreachedChangeNothing}
-use Rattle.owl_answer.proofs.Closures.{but_back, closure_but}
-use Rattle.owl_answer.proofs.Concluding.{shown_same, translation_same}
-use Rattle.owl_answer.proofs.Heads.{alike_but}
-use Rattle.owl_answer.proofs.TurtleOnce.{translation_alike}
-use Rattle.owl_answer.proofs.Wanting.{limited_more}
+use Rattle.owl_answer.specs.Outcome.{heads_in}
+use Rattle.owl_answer.specs.UnderKinds.{HasKinds, IsOfMain}
+use Rattle.owl_answer.specs.Unreached.{AreSameBut, UnreachedChangeNothing}
+use Rattle.owl_answer.proofs.Agreement.{Agree, concludes_there}
+use Rattle.owl_answer.proofs.Closures.{found_but, kinds_but}
+use Rattle.owl_answer.proofs.Heads.{alike_but, but_back}
 
--- the main document is reached, so it is the same
-module _ (place : ℕ) (ds es : List Said) (u : DifferUnreached place (heads_in ds) (heads_in es)) (s : AreSameBut place ds es) where
-  kinds_but : (kinds : List Entity) → AreClosureKinds ds kinds → AreClosureKinds es kinds
-  kinds_but kinds k kind iri = (
-    λ h. closure_but place ds es s u kind iri ((k kind iri).0 h),
-    λ h. (k kind iri).1 (closure_but place es ds (but_back place ds es s) (unreached_back place (heads_in ds) (heads_in es) u) kind iri h),
-  )
+-- of a main document those are read that it reaches
+pub closure_of : (request : Request) → IsOfMain request → (documents : List Parsed) (place : ℕ) (parsed : Parsed) (kinds : List Entity) → HasKinds request documents place parsed kinds → Reaches (heads_in documents) place × AreClosureKinds documents kinds
+closure_of (translates target partial names) m documents place parsed kinds h = h
+closure_of (shows partial names) m documents place parsed kinds h = h
+closure_of (compares first second) m documents place parsed kinds h = absurd m
 
-  among_but : (d e : Said) → IsSame d e → (outcome : Outcome) → IsTranslatedAmong ds d outcome → IsTranslatedAmong es e outcome
-  among_but d e same outcome w = record {
-    kinds = w.kinds;
-    are = kinds_but w.kinds w.are;
-    translation = translation_alike w.kinds w.kinds d e outcome (λ kind iri. (λ h. h, λ h. h)) same w.translation;
-  }
+pub kinds_of_closure : (request : Request) → IsOfMain request → (documents : List Parsed) (place : ℕ) (parsed : Parsed) (kinds : List Entity) → Reaches (heads_in documents) place → AreClosureKinds documents kinds → HasKinds request documents place parsed kinds
+kinds_of_closure (translates target partial names) m documents place parsed kinds r k = (r, k)
+kinds_of_closure (shows partial names) m documents place parsed kinds r k = (r, k)
+kinds_of_closure (compares first second) m documents place parsed kinds r k = absurd m
 
-answers_but : (request : Request) (place : ℕ) (ds es : List Said) → DifferUnreached place (heads_in ds) (heads_in es) → IsOfMain request → AreSameBut place ds es → (outcome : Outcome) → AnswersWith request ds outcome → AnswersWith request es outcome
-answers_but request place [] es u m s outcome w = absurd s
-answers_but request place (d ∷ ds) [] u m s outcome w = absurd s
-answers_but request zero (d ∷ ds) (e ∷ es) u m s outcome w = absurd (u.there main)
-answers_but (translates Fss partial names) (suc place) (d ∷ ds) (e ∷ es) u m s outcome w =
-    limited_more _ _ (λ o k. k ∙ translation_same d e s.0) outcome w
-answers_but (translates Ttl partial names) (suc place) (d ∷ ds) (e ∷ es) u m s outcome w =
-    among_but (suc place) (d ∷ ds) (e ∷ es) u s d e s.0 outcome w
-answers_but (shows partial names) (suc place) (d ∷ ds) (e ∷ es) u m s outcome w =
-    limited_more _ _ (λ o k. k ∙ shown_same d e s.0) outcome w
-answers_but (compares first second) (suc place) (d ∷ ds) (e ∷ es) u m s outcome w = absurd m
+but_agree : (request : Request) → IsOfMain request → (place : ℕ) (ds es : List Parsed) → AreSameBut place ds es → DifferUnreached place (heads_in ds) (heads_in es) → Agree request ds es
+but_agree request m place ds es s d = record {
+  missing = λ other iri h. first_missing_unreached place (heads_in ds) (heads_in es) d other iri h;
+  none = λ none. none_missing_unreached place (heads_in ds) (heads_in es) d none;
+  read = λ other parsed kinds r.
+      let h = closure_of request m ds other parsed kinds r.under in
+      let found = found_but place ds es s other (λ e. d.unreached (subst (Reaches (heads_in ds)) e h.0)) parsed r.there in
+      let reached = reaches_unreached place (heads_in ds) (heads_in es) d other h.0 in
+      record {
+        other = found.other;
+        read = record { there = found.there; under = kinds_of_closure request m es other found.other kinds reached (kinds_but place ds es s d kinds h.1) };
+        same = found.same;
+      };
+}
 
 pub change_nothing : UnreachedChangeNothing
-change_nothing request place ds es outcome m s here there (misses_import asked at iri name missing is told) =
+change_nothing request place ds es outcome m s here there h =
     let d : DifferUnreached place (heads_in ds) (heads_in es) = record { alike = alike_but place ds es s; unreached = here; there = there } in
-    misses_import asked at iri name (first_missing_unreached place (heads_in ds) (heads_in es) d at iri missing) is told
-change_nothing request place ds es outcome m s here there (has_imports h w) =
-    let d : DifferUnreached place (heads_in ds) (heads_in es) = record { alike = alike_but place ds es s; unreached = here; there = there } in
-    has_imports (λ asked. none_missing_unreached place (heads_in ds) (heads_in es) d (h asked)) (answers_but request place ds es d m s outcome w)
+    let back = unreached_back place (heads_in ds) (heads_in es) d in
+    concludes_there request ds es (but_agree request m place ds es s d) (but_agree request m place es ds (but_back place ds es s) back) outcome h

@@ -11,6 +11,12 @@ use Rattle.owl_tree.specs.Tags.{keyword_of, number_of}
 use Rattle.owl_tree.specs.Trees.{Tree, kids_of, leaf, node}
 use Rattle.rdf_sayable.specs.Parts.{of_axiom, of_header}
 use Rattle.rdf_sayable.specs.Reasons.{inverse_subject, reserved}
+use Rattle.rdf_graph.specs.declared.term.Term.TheVariants.{Iri, Blank, Literal}
+use Rattle.rdf_graph.specs.declared.triple.Triple.{Triple}
+use Rattle.rdf_reverse.specs.declared.fault.ReverseFault.TheVariants as reverse
+use Rattle.rdf_scans.specs.declared.fault.OutlineFault.TheVariants as outline
+use Rattle.rdf_terms.specs.Literals.{with_tag}
+use Rattle.owl_answer.specs.Outcome.{headless, unsaid_outcome}
 use Rattle.owl_answer.specs.Refusals.{two_kinds, undeclared, unsayable}
 use Rattle.owl_answer.specs.TurtleOutcome.{too_heavy_output, too_many_triples}
 
@@ -53,3 +59,27 @@ of_weight = refl
 
 of_triples : too_many_triples.line ≡ codes "limit: Triples: output\n"
 of_triples = refl
+
+-- of graphs that say nothing
+
+of_a_label : (unsaid_outcome (codes "a.ttl") (reverse.Orphan (codes "x"))).line ≡ codes "a.ttl: Orphan _:x\n"
+unfolding encode
+of_a_label = refl
+
+of_kinds : (unsaid_outcome (codes "a.ttl") (reverse.TwoKinds (codes "e:D"))).line ≡ codes "a.ttl: TwoKinds <e:D>\n"
+unfolding encode
+of_kinds = refl
+
+abbrev stated : Triple
+stated = record { subject = Blank (codes "x"); predicate = codes "e:p"; object = Literal (with_tag (codes "a b") (codes "en")) }
+
+of_a_triple : (unsaid_outcome (codes "a.ttl") (reverse.Untyped stated)).line ≡ codes "a.ttl: Untyped _:x <e:p> \"a b\"@en\n"
+unfolding encode
+of_a_triple = refl
+
+of_a_header : (headless (codes "a.ttl") (outline.BadHeader (Iri (codes "e:o")))).line ≡ codes "a.ttl: BadHeader <e:o>\n"
+unfolding encode
+of_a_header = refl
+
+of_depth : (unsaid_outcome (codes "a.ttl") reverse.TooDeep).line ≡ codes "limit: Depth: a.ttl\n"
+of_depth = refl

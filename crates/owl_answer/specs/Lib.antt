@@ -2,9 +2,11 @@ pub mod Answers
 pub mod KindsAt
 pub mod Outcome
 pub mod Runs
+pub mod Reading
 pub mod Refusals
 pub mod Summary
 pub mod TurtleOutcome
 pub mod Typing
 pub mod TypingLaws
+pub mod UnderKinds
 pub mod Unreached

@@ -1,8 +1,7 @@
 -- What is told where a main document can't be translated: it is not well typed, or the target can't say a part of it.
-use Rattle.std.specs.Prelude.{ℕ, List, ◌++◌, Option, None, Some, codes, if◌then◌else◌, length, nat_lt}
+use Rattle.std.specs.Prelude.{ℕ, List, ◌++◌, Option, None, Some, codes}
 use Rattle.std.specs.Str.{encode_utf8_all}
 use Rattle.fss_write.specs.Text.{axiom_text}
-use Rattle.owl_characters.specs.Limit.{most_bytes}
 use Rattle.owl_command.specs.declared.status.Status.TheVariants.{Target}
 use Rattle.owl_kind.specs.declared.kind.Kind.{Kind}
 use Rattle.owl_kind.specs.declared.kind.Kind.TheVariants.{Class, Datatype, ObjectProperty, DataProperty, AnnotationProperty, Individual}
@@ -12,16 +11,12 @@ use Rattle.owl_tree.specs.declared.tag.Tag.TheVariants as tag
 use Rattle.owl_tree.specs.Tags.{keyword_of}
 use Rattle.rdf_sayable.specs.Parts.{Part, of_axiom, of_header}
 use Rattle.rdf_sayable.specs.Reasons.{Objection, annotated_declaration, facet_name, inverse_assertion, inverse_subject, many_properties, reserved, two_inverses, undeclared_subject, unnamed_subject}
-use Rattle.owl_answer.specs.Outcome.{Outcome, refused}
-
--- A text stands in a line of the note, unless it is too long to be a document.
-abbrev pub noted : List ℕ → List ℕ
-noted text = if nat_lt most_bytes (length text) then codes "axiom" else text
+use Rattle.owl_answer.specs.Outcome.{Outcome, noted_as, refused}
 
 -- the part, as a line of the note has it: an axiom has its IRIs in full
 abbrev pub item_text : Part → List ℕ
 item_text (of_header annotations) = codes "header"
-item_text (of_axiom t) = noted (encode_utf8_all (axiom_text t))
+item_text (of_axiom t) = noted_as (codes "axiom") (encode_utf8_all (axiom_text t))
 
 -- the tag of the leaves that name an IRI as this kind
 abbrev pub tag_of_kind : Kind → Tag

@@ -1,9 +1,8 @@
 -- What a run answers, for its words and the contents of its documents.
-use Rattle.std.specs.Prelude.{◌≡◌, ◌≢◌, ℕ, Some, List, [], ◌∷◌, ◌++◌, slice_get, take, codes}
+use Rattle.std.specs.Prelude.{◌≡◌, ◌≢◌, ℕ, Some, List, ◌++◌, slice_get, take, codes}
 use Rattle.owl_kind.specs.Kinds.{Entity}
 use Rattle.owl_close.specs.Imports.{IsFirstMissing, MissesNone}
 use Rattle.fss_terms.specs.Functional.{ReadsFunctional}
-use Rattle.owl_reader.specs.declared.fault.ReadFault.TheVariants as read
 use Rattle.rdf_sayable.specs.Parts.{Part}
 use Rattle.rdf_sayable.specs.Reasons.{Objection}
 use Rattle.owl_command.specs.Commands.{AsksImports, Asks, HasNoCommand, IsAmong, Request, translates, shows, compares, names_of}
@@ -11,13 +10,15 @@ use Rattle.owl_command.specs.declared.command.Target.{Target as Syntax}
 use Rattle.owl_command.specs.declared.command.Target.TheVariants.{Fss, Ttl}
 use Rattle.owl_command.specs.declared.status.Status.{Status}
 use Rattle.owl_command.specs.declared.status.Status.TheVariants.{Done, No, Words, Document as NoDocument, Limit, ReadFailed, WriteFailed, Memory}
-use Rattle.owl_documents.specs.Documents.{AreRead, Contents, IsFirstRefused, Said}
+use Rattle.owl_documents.specs.Documents.{AreRead, Contents, IsFirstRefused, Parsed, Said, a_graph, an_ontology}
 use Rattle.owl_documents.specs.declared.trouble.Refusal.{Refusal}
-use Rattle.owl_documents.specs.declared.trouble.Refusal.TheVariants.{Unreadable}
-use Rattle.owl_answer.specs.KindsAt.{AreClosureKinds}
-use Rattle.owl_answer.specs.Outcome.{IsComparison, IsLimited, IsSettled, IsSuccess, IsTheOutcome, Outcome, done_line, functional_form, heads_in, missing_import, refusal_outcome, refused, shown, too_long_output, translation}
+use Rattle.owl_documents.specs.Reading.{IsProperRefusal}
+use Rattle.rdf_reverse.specs.declared.fault.ReverseFault.{ReverseFault}
+use Rattle.rdf_reverse.specs.declared.fault.ReverseFault.TheVariants as reverse
+use Rattle.owl_answer.specs.Outcome.{IsComparison, IsLimited, IsSettled, IsSuccess, IsTheOutcome, Outcome, done_line, functional_form, heads_in, missing_import, refusal_outcome, refused, shown, too_long_output, translation, unsaid_outcome}
 use Rattle.owl_answer.specs.Refusals.{two_kinds, undeclared, unsayable}
-use Rattle.owl_answer.specs.TurtleOutcome.{IsTurtleTranslation, ReadsSaid, canonical_said, too_heavy_output, too_many_triples, turtle_form}
+use Rattle.owl_answer.specs.UnderKinds.{AllSay, HoldsOfMain, HoldsOfTwo, IsFirstUnsaid}
+use Rattle.owl_answer.specs.TurtleOutcome.{IsFunctionalTranslation, IsTurtleTranslation, ReadsSaid, canonical_said, too_heavy_output, too_many_triples, turtle_form}
 
 -- The normal form that a syntax has for what a document says.
 abbrev pub normal_form : Syntax → Said → Said
@@ -25,36 +26,35 @@ normal_form Fss said = functional_form said
 normal_form Ttl said = turtle_form (canonical_said said)
 
 -- where each import has to be there, it is
-abbrev pub HasImports : Request → List Said → Type 0
+abbrev pub HasImports : Request → List Parsed → Type 0
 HasImports request documents = AsksImports request → MissesNone (heads_in documents)
 
--- The first document is translated to Turtle, under the kinds that the documents declare which it reaches.
-pub record IsTranslatedAmong (documents : List Said) (main : Said) (outcome : Outcome) : Type 0 where
-  pub kinds : List Entity
-  pub are : AreClosureKinds documents kinds
-  pub translation : IsTurtleTranslation kinds main outcome
+-- What becomes of the main document where it is translated, by what it says under these kinds. What is written in Functional-Style Syntax
+-- is translated to it as it is.
+abbrev pub IsTranslation : Syntax → Parsed → List Entity → Said → Outcome → Type 0
+IsTranslation Fss (an_ontology said) kinds main outcome = IsLimited (λ wanted. wanted ≡ translation main) outcome
+IsTranslation Fss (a_graph read) kinds main outcome = IsFunctionalTranslation kinds main outcome
+IsTranslation Ttl parsed kinds main outcome = IsTurtleTranslation kinds main outcome
 
--- what becomes of the first of the documents where it is translated
-abbrev pub IsTranslation : Syntax → List Said → Said → Outcome → Type 0
-IsTranslation Fss documents main outcome = IsLimited (λ wanted. wanted ≡ translation main) outcome
-IsTranslation Ttl documents main outcome = IsTranslatedAmong documents main outcome
-
--- What becomes of documents whose imports are there: of the first of them, or of two.
-abbrev pub AnswersWith : Request → List Said → Outcome → Type 0
-AnswersWith (translates target partial names) (main ∷ others) outcome = IsTranslation target (main ∷ others) main outcome
-AnswersWith (shows partial names) (main ∷ others) outcome = IsLimited (λ wanted. wanted ≡ shown main) outcome
-AnswersWith (compares first second) (a ∷ b ∷ []) outcome = IsLimited (IsComparison a b) outcome
-AnswersWith request documents outcome = ⊥
+-- What becomes of documents that all say something: of the main one, or of two.
+abbrev pub AnswersWith : Request → List Parsed → Outcome → Type 0
+AnswersWith (translates target partial names) documents outcome =
+    HoldsOfMain (translates target partial names) documents (λ parsed kinds main. IsTranslation target parsed kinds main outcome)
+AnswersWith (shows partial names) documents outcome =
+    HoldsOfMain (shows partial names) documents (λ parsed kinds main. IsLimited (λ wanted. wanted ≡ shown main) outcome)
+AnswersWith (compares first second) documents outcome =
+    HoldsOfTwo (compares first second) documents (λ a b. IsLimited (IsComparison a b) outcome)
 
 -- What becomes of documents that are read: the first condition that fails, or what is answered.
-pub data Concludes (request : Request) (documents : List Said) (outcome : Outcome) : Type 0 where
+pub data Concludes (request : Request) (documents : List Parsed) (outcome : Outcome) : Type 0 where
   misses_import : AsksImports request → (place : ℕ) (iri name : List ℕ) → IsFirstMissing (heads_in documents) place iri → slice_get (names_of request) place ≡ Some name → outcome ≡ missing_import name iri → Concludes request documents outcome
-  has_imports : HasImports request documents → AnswersWith request documents outcome → Concludes request documents outcome
+  says_nothing : HasImports request documents → (place : ℕ) (fault : ReverseFault) (name : List ℕ) → IsFirstUnsaid request documents place fault → slice_get (names_of request) place ≡ Some name → outcome ≡ unsaid_outcome name fault → Concludes request documents outcome
+  all_say : HasImports request documents → AllSay request documents → AnswersWith request documents outcome → Concludes request documents outcome
 
 -- What becomes of what is asked for, with these contents. Each document is read before imports are looked at.
 pub data Becomes (contents : Contents) (request : Request) (outcome : Outcome) : Type 0 where
   not_read : (name : List ℕ) (refusal : Refusal) → IsFirstRefused contents (names_of request) name refusal → outcome ≡ refusal_outcome name refusal → Becomes contents request outcome
-  all_read : (documents : List Said) → AreRead contents (names_of request) documents → Concludes request documents outcome → Becomes contents request outcome
+  all_read : (documents : List Parsed) → AreRead contents (names_of request) documents → Concludes request documents outcome → Becomes contents request outcome
 
 -- What a run answers: the words have no command, or they ask for something and the contents have what is looked at.
 pub data IsOutcome (words : List (List ℕ)) (contents : Contents) (outcome : Outcome) : Type 0 where
@@ -71,16 +71,26 @@ SuccessLine request status line = ⊥
 
 -- The lines that one of the documents is refused with.
 pub data IsRefusalLine (name : List ℕ) (status : Status) (line : List ℕ) : Type 0 where
-  of_bytes : (refusal : Refusal) → refusal ≢ Unreadable read.Memory → status ≡ (refusal_outcome name refusal).status → line ≡ (refusal_outcome name refusal).line → IsRefusalLine name status line
+  of_bytes : (refusal : Refusal) → IsProperRefusal refusal → status ≡ (refusal_outcome name refusal).status → line ≡ (refusal_outcome name refusal).line → IsRefusalLine name status line
   of_import : (iri : List ℕ) → status ≡ NoDocument → line ≡ (missing_import name iri).line → IsRefusalLine name status line
+  of_graph : (fault : ReverseFault) → fault ≢ reverse.Memory → status ≡ (unsaid_outcome name fault).status → line ≡ (unsaid_outcome name fault).line → IsRefusalLine name status line
 
--- The ways in which a translation to Turtle is refused.
+-- The ways in which a translation is refused whose main document is not well typed.
+pub data IsIllTyped : Outcome → Type 0 where
+  of_two_kinds : (iri : List ℕ) → IsIllTyped (two_kinds iri)
+  of_undeclared : (part : Part) (e : Entity) → IsIllTyped (undeclared part e)
+
+-- The ways in which a translation to Turtle alone is refused.
 pub data IsTurtleRefusal : Outcome → Type 0 where
-  of_two_kinds : (iri : List ℕ) → IsTurtleRefusal (two_kinds iri)
-  of_undeclared : (part : Part) (e : Entity) → IsTurtleRefusal (undeclared part e)
   of_unsayable : (part : Part) (why : Objection) → IsTurtleRefusal (unsayable part why)
   of_weight : IsTurtleRefusal too_heavy_output
   of_triples : IsTurtleRefusal too_many_triples
+
+-- a translation
+abbrev pub AsksTranslation : Request → Type 0
+AsksTranslation (translates target partial names) = Unit {0}
+AsksTranslation (shows partial names) = ⊥
+AsksTranslation (compares first second) = ⊥
 
 -- a translation to Turtle
 abbrev pub AsksTurtle : Request → Type 0
@@ -93,6 +103,7 @@ AsksTurtle (compares first second) = ⊥
 pub data LineFor (request : Request) (IsCause : List ℕ → Type 0) (status : Status) (line : List ℕ) : Type 0 where
   of_success : SuccessLine request status line → LineFor request IsCause status line
   of_refusal : (name : List ℕ) → IsAmong (names_of request) name → IsRefusalLine name status line → LineFor request IsCause status line
+  of_typing : AsksTranslation request → (refusal : Outcome) → IsIllTyped refusal → status ≡ refusal.status → line ≡ refusal.line → LineFor request IsCause status line
   of_turtle : AsksTurtle request → (refusal : Outcome) → IsTurtleRefusal refusal → status ≡ refusal.status → line ≡ refusal.line → LineFor request IsCause status line
   of_output : status ≡ Limit → line ≡ too_long_output.line → LineFor request IsCause status line
   of_read_fault : (name : List ℕ) → IsCause name → status ≡ ReadFailed → line ≡ codes "read: " ++ (name ++ codes "\n") → LineFor request IsCause status line
@@ -110,16 +121,16 @@ abbrev pub ReadsIn : Syntax → List ℕ → Said → Type 0
 ReadsIn Fss text said = ReadsFunctional text said.prefixes said.ontology
 ReadsIn Ttl text said = ReadsSaid text said
 
--- the text of a translation reads back to the normal form of the main document
-abbrev pub IsBack : Request → List Said → List ℕ → Type 0
-IsBack (translates target partial names) (main ∷ others) text = ReadsIn target text (normal_form target main)
-IsBack (translates target partial names) [] text = ⊥
+-- the text of a translation reads back to the normal form of what the main document says
+abbrev pub IsBack : Request → List Parsed → List ℕ → Type 0
+IsBack (translates target partial names) documents text =
+    HoldsOfMain (translates target partial names) documents (λ parsed kinds main. ReadsIn target text (normal_form target main))
 IsBack (shows partial names) documents text = Unit {0}
 IsBack (compares first second) documents text = Unit {0}
 
 -- The documents are read, and the text of a translation reads back to the main one's normal form.
 pub record IsReadBack (contents : Contents) (request : Request) (text : List ℕ) : Type 0 where
-  pub documents : List Said
+  pub documents : List Parsed
   pub read : AreRead contents (names_of request) documents
   pub back : IsBack request documents text
 

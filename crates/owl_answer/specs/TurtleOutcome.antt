@@ -18,7 +18,7 @@ use Rattle.ttl_grammar.specs.Documents.{ReadsTurtle}
 use Rattle.ttl_write.specs.Text.{turtle_text}
 use Rattle.owl_command.specs.declared.status.Status.TheVariants.{Done}
 use Rattle.owl_documents.specs.Documents.{Said}
-use Rattle.owl_answer.specs.Outcome.{IsLimited, IsSuccess, Outcome, done_line, passed_limit}
+use Rattle.owl_answer.specs.Outcome.{IsLimited, IsSuccess, Outcome, done_line, passed_limit, translation}
 use Rattle.owl_answer.specs.Refusals.{two_kinds, undeclared, unsayable}
 use Rattle.owl_answer.specs.Typing.{AllAreWellTyped, IsFirstUntyped}
 
@@ -80,10 +80,19 @@ pub data IsGraphTold (main : Said) (outcome : Outcome) : Type 0 where
   heavy : heaviest < ontology_weight (normal_form main.ontology) → outcome ≡ too_heavy_output → IsGraphTold main outcome
   light : ontology_weight (normal_form main.ontology) ≤ heaviest → IsFormTold (turtle_form main) (absorbed_count main.ontology) outcome → IsGraphTold main outcome
 
+-- How an ontology is refused that is not well typed: the first IRI with a clash, or the first part with an entity that is not declared.
+pub data IsTypingRefusal (kinds : List Entity) (o : Ontology) (outcome : Outcome) : Type 0 where
+  clashes : (iri : List ℕ) → IsFirstClash kinds iri → outcome ≡ two_kinds iri → IsTypingRefusal kinds o outcome
+  untyped : HasNoClash kinds → (part : Part) (e : Entity) → IsFirstUntyped kinds o part e → outcome ≡ undeclared part e → IsTypingRefusal kinds o outcome
+
+-- What becomes of a document that a graph says, where it is translated to Functional-Style Syntax.
+pub data IsFunctionalTranslation (kinds : List Entity) (main : Said) (outcome : Outcome) : Type 0 where
+  ill_typed : IsTypingRefusal kinds main.ontology outcome → IsFunctionalTranslation kinds main outcome
+  well_typed : IsTyped kinds main.ontology → IsLimited (λ wanted. wanted ≡ translation main) outcome → IsFunctionalTranslation kinds main outcome
+
 -- What becomes of a document in canonical form: the first condition that fails, or what becomes of its graph.
 pub data IsTold (kinds : List Entity) (main : Said) (outcome : Outcome) : Type 0 where
-  clashes : (iri : List ℕ) → IsFirstClash kinds iri → outcome ≡ two_kinds iri → IsTold kinds main outcome
-  untyped : HasNoClash kinds → (part : Part) (e : Entity) → IsFirstUntyped kinds main.ontology part e → outcome ≡ undeclared part e → IsTold kinds main outcome
+  not_typed : IsTypingRefusal kinds main.ontology outcome → IsTold kinds main outcome
   unsaid : IsTyped kinds main.ontology → (part : Part) (why : Objection) → IsFirstUnsayable main.ontology part why → outcome ≡ unsayable part why → IsTold kinds main outcome
   ready : IsReady kinds main.ontology → IsGraphTold main outcome → IsTold kinds main outcome
 

@@ -1,132 +1,145 @@
 //! What is answered for documents that are read.
 
-ghost use Rattle.std.specs.Prelude.{◌≡◌, ◌<◌, IfOk, length, map};
-ghost use Rattle.std.specs.Str.{encode_utf8_all};
-ghost use Rattle.owl_doc.specs.Documents.{ontology_of};
+ghost use Rattle.std.specs.Prelude.{◌≡◌, ◌<◌, ◌∷◌, ℕ, IfOk, Some, length, map, slice_get};
 ghost use Rattle.owl_command.specs.Commands.{names_of, request_of};
-ghost use Rattle.owl_command.specs.declared.command.Target.TheVariants.{Fss};
-ghost use Rattle.owl_documents.specs.Documents.{said_of};
-ghost use Rattle.fss_write.specs.Text.{text_of};
-ghost use Rattle.owl_answer.specs.Outcome.{IsComparison, IsLimited, IsSuccess, functional_form, shown, translation};
-ghost use Rattle.owl_answer.specs.Runs.{ReadsIn};
-ghost use Rattle.owl_answer.specs.Answers.{IsAnswer, IsConclusion, IsFirstInTurtle, TranslatesFirst, outcome_of};
+ghost use Rattle.owl_documents.specs.Documents.{Parsed, parsed_of, said_of};
+ghost use Rattle.owl_documents.specs.declared.document.Document.TheVariants.{Graph};
+ghost use Rattle.owl_answer.specs.Answers.{IsClosure, IsConclusion, outcome_of};
+ghost use Rattle.owl_answer.specs.Runs.{HasImports};
+ghost use Rattle.owl_answer.specs.UnderKinds.{IsOfMain, SaysUnder};
 
-use crate::answer::{Answer, done_line, said, told, too_long_output};
-use crate::imports::first_missing;
+use crate::answer::Answer;
+use crate::comparison::compare_both;
+use crate::imports::{first_missing, reached};
 use crate::kinds::closure_kinds;
+use crate::reading::{first_unsaid, read_graph};
 use crate::refusal::refuse_import;
-use crate::summary::summary;
-use crate::turtle::translate_to_turtle;
-use fss_write::{WriteFault, write};
-use owl_characters::{MOST_BYTES, NoMemory, Text};
-use owl_command::{Command, Status, Target};
+use crate::telling::tell_main;
+use crate::unsaid::refuse_unsaid;
+use owl_characters::NoMemory;
+use owl_command::Command;
 use owl_doc::Doc;
+use owl_documents::{Document, GraphDocument};
+use owl_tree::Kinds;
 use std::alloc::Global;
 
-/// The answer with the text of a document.
-fn translated(alloc: Global, doc: &Doc, text: Text) -> Result<Answer, NoMemory>
-    requires { text ≡ text_of doc.now.prefixes (ontology_of doc.now) }
-    ensures outcome { IfOk result (λ answer. outcome_of answer ≡ translation (said_of doc.now)) }
-    ensures text { IfOk result (λ answer. answer.text ≡ text) }
-{
-    let line = done_line(alloc, doc.axioms().len() as u64, 0)?;
-    Ok(Answer {
-        status: Status::Done,
-        text,
-        line,
-    })
-}
-
-/// The translation of a document to Functional-Style Syntax.
-fn translate_to_functional(alloc: Global, doc: &Doc) -> Result<Answer, NoMemory>
-    ensures outcome { IfOk result (λ answer.
-        IsLimited (λ wanted. wanted ≡ translation (said_of doc.now)) (outcome_of answer)) }
-    ensures back { IfOk result (λ answer. IsSuccess answer.status →
-        ReadsIn Fss (encode_utf8_all answer.text) (functional_form (said_of doc.now))) }
-{
-    // What is known of every document.
-    doc.notes();
-    match write(alloc, doc) {
-        Ok(text) => translated(alloc, doc, text),
-        Err(WriteFault::TooLong) => too_long_output(alloc),
-        Err(WriteFault::Memory) => Err(NoMemory),
-    }
-}
-
-/// The translation of the first document to Turtle, under the kinds that the
-/// documents declare which it reaches.
-fn translate_first(alloc: Global, docs: &[Doc]) -> Result<Answer, NoMemory>
-    requires { 0 < length docs.now }
-    ensures { IfOk result (λ answer. IsFirstInTurtle (map said_of docs.now) (outcome_of answer)) }
-{
-    let kinds = closure_kinds(alloc, docs)?;
-    let main = &docs[0];
-    // What is known of every document.
-    main.notes();
-    translate_to_turtle(alloc, main, &kinds)
-}
-
-/// The translation of the first document.
-fn translate(alloc: Global, target: Target, docs: &[Doc]) -> Result<Answer, NoMemory>
-    requires { 0 < length docs.now }
-    ensures { IfOk result (λ answer.
-        TranslatesFirst target (map said_of docs.now) (outcome_of answer)) }
-{
-    match target {
-        Target::Fss => translate_to_functional(alloc, &docs[0]),
-        Target::Ttl => translate_first(alloc, docs),
-    }
-}
-
-/// What a document counts.
-fn show(alloc: Global, doc: &Doc) -> Result<Answer, NoMemory>
-    ensures { IfOk result (λ answer.
-        IsLimited (λ wanted. wanted ≡ shown (said_of doc.now)) (outcome_of answer)) }
-{
-    let text = summary(alloc, doc)?;
-    if MOST_BYTES < text.as_str().len() as u64 {
-        too_long_output(alloc)
-    } else {
-        told(alloc, Status::Done, text, "shown\n")
-    }
-}
-
-/// Whether two documents say the same.
-fn compare(alloc: Global, doc: &Doc, other: &Doc) -> Result<Answer, NoMemory>
-    ensures { IfOk result (λ answer.
-        IsLimited (IsComparison (said_of doc.now) (said_of other.now)) (outcome_of answer)) }
-{
-    if doc.same(other) {
-        said(alloc, Status::Done, "same\n")
-    } else {
-        said(alloc, Status::No, "different\n")
-    }
-}
-
-/// What is answered for documents whose imports are there.
-fn answer_wanted(alloc: Global, command: &Command, docs: &[Doc]) -> Result<Answer, NoMemory>
-    requires some { 0 < length docs.now }
-    requires each { length docs.now ≡ length (names_of (request_of command.now)) }
-    ensures { IfOk result (λ answer.
-        IsAnswer (request_of command.now) (map said_of docs.now) (outcome_of answer)) }
-{
-    match command {
-        Command::Translate { target, .. } => translate(alloc, *target, docs),
-        Command::Show { .. } => show(alloc, &docs[0]),
-        Command::Same { .. } => compare(alloc, &docs[0], &docs[1]),
-    }
-}
-
 /// What is answered for the documents that a command names, all of which are
-/// read.
-pub fn conclude(alloc: Global, command: &Command, docs: &[Doc]) -> Result<Answer, NoMemory>
+/// read: imports are looked at, then what documents say under their kinds, and
+/// then what is asked for.
+pub fn conclude(alloc: Global, command: &Command, docs: &[Document]) -> Result<Answer, NoMemory>
     requires some { 0 < length docs.now }
     requires each { length docs.now ≡ length (names_of (request_of command.now)) }
     ensures { IfOk result (λ answer.
-        IsConclusion (request_of command.now) (map said_of docs.now) (outcome_of answer)) }
+        IsConclusion (request_of command.now) (map parsed_of docs.now) (outcome_of answer)) }
 {
     match first_missing(alloc, command, docs)? {
         Some(missing) => refuse_import(alloc, command.name(missing.document), &missing.iri),
         None => answer_wanted(alloc, command, docs),
     }
+}
+
+/// What is answered for documents whose imports are there.
+fn answer_wanted(alloc: Global, command: &Command, docs: &[Document]) -> Result<Answer, NoMemory>
+    requires some { 0 < length docs.now }
+    requires each { length docs.now ≡ length (names_of (request_of command.now)) }
+    requires imports { HasImports (request_of command.now) (map parsed_of docs.now) }
+    ensures { IfOk result (λ answer.
+        IsConclusion (request_of command.now) (map parsed_of docs.now) (outcome_of answer)) }
+{
+    match command {
+        Command::Translate { .. } | Command::Show { .. } => answer_main(alloc, command, docs),
+        Command::Same { .. } => compare_both(alloc, command, docs),
+    }
+}
+
+/// What is answered of the main document and those that it reaches.
+fn answer_main(alloc: Global, command: &Command, docs: &[Document]) -> Result<Answer, NoMemory>
+    requires some { 0 < length docs.now }
+    requires each { length docs.now ≡ length (names_of (request_of command.now)) }
+    requires main { IsOfMain (request_of command.now) }
+    requires imports { HasImports (request_of command.now) (map parsed_of docs.now) }
+    ensures { IfOk result (λ answer.
+        IsConclusion (request_of command.now) (map parsed_of docs.now) (outcome_of answer)) }
+{
+    let places = reached(alloc, docs)?;
+    let kinds = closure_kinds(alloc, docs, &places)?;
+    answer_closure(alloc, command, docs, &places, &kinds)
+}
+
+/// What is answered of documents of which these places are reached, and declare
+/// these kinds.
+fn answer_closure(
+    alloc: Global,
+    command: &Command,
+    docs: &[Document],
+    places: &[usize],
+    kinds: &Kinds,
+) -> Result<Answer, NoMemory>
+    requires some { 0 < length docs.now }
+    requires each { length docs.now ≡ length (names_of (request_of command.now)) }
+    requires closure { IsClosure (request_of command.now) (map parsed_of docs.now)
+        places.now kinds.now }
+    ensures { IfOk result (λ answer.
+        IsConclusion (request_of command.now) (map parsed_of docs.now) (outcome_of answer)) }
+{
+    match &docs[0] {
+        Document::Ontology(main) => answer_said(alloc, command, docs, places, kinds, main),
+        Document::Graph(main) => answer_graph(alloc, command, docs, places, kinds, main),
+    }
+}
+
+/// What is answered where the main document is a graph.
+fn answer_graph(
+    alloc: Global,
+    command: &Command,
+    docs: &[Document],
+    places: &[usize],
+    kinds: &Kinds,
+    main: &GraphDocument,
+) -> Result<Answer, NoMemory>
+    requires some { 0 < length docs.now }
+    requires each { length docs.now ≡ length (names_of (request_of command.now)) }
+    requires closure { IsClosure (request_of command.now) (map parsed_of docs.now)
+        places.now kinds.now }
+    requires first { slice_get docs.now 0 ≡ Some (Graph main.now) }
+    ensures { IfOk result (λ answer.
+        IsConclusion (request_of command.now) (map parsed_of docs.now) (outcome_of answer)) }
+{
+    match read_graph(alloc, main, kinds) {
+        Ok(main) => answer_said(alloc, command, docs, places, kinds, &main),
+        Err(fault) => refuse_unsaid(alloc, command.name(0), &fault),
+    }
+}
+
+/// What is answered where this is what the main document says.
+fn answer_said(
+    alloc: Global,
+    command: &Command,
+    docs: &[Document],
+    places: &[usize],
+    kinds: &Kinds,
+    main: &Doc,
+) -> Result<Answer, NoMemory>
+    requires some { 0 < length docs.now }
+    requires each { length docs.now ≡ length (names_of (request_of command.now)) }
+    requires closure { IsClosure (request_of command.now) (map parsed_of docs.now)
+        places.now kinds.now }
+    requires says { (parsed : Parsed) × (slice_get (map parsed_of docs.now) 0 ≡ Some parsed)
+        × SaysUnder kinds.now parsed (said_of main.now) }
+    ensures { IfOk result (λ answer.
+        IsConclusion (request_of command.now) (map parsed_of docs.now) (outcome_of answer)) }
+{
+    let document = &docs[0];
+    match first_unsaid(alloc, docs, others(places), kinds) {
+        Some(unsaid) => refuse_unsaid(alloc, command.name(unsaid.document), &unsaid.fault),
+        None => tell_main(alloc, command, document, kinds, main),
+    }
+}
+
+/// The places behind the first.
+fn others(places: &[usize]) -> &[usize]
+    requires { 0 < length places.now }
+    ensures { (first : ℕ) × (places.now ≡ first ∷ result.now) }
+{
+    &places[1..]
 }

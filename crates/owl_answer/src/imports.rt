@@ -3,7 +3,8 @@
 ghost use Rattle.std.specs.Prelude.{◌≡◌, ◌<◌, IfOk, IfSome, IfNone, length, map};
 ghost use Rattle.owl_close.specs.Imports.{AreReached, heads_of};
 ghost use Rattle.owl_command.specs.Commands.{request_of};
-ghost use Rattle.owl_documents.specs.Documents.{said_of};
+ghost use Rattle.owl_doc.specs.Heads.{head_of};
+ghost use Rattle.owl_documents.specs.Documents.{head_in, parsed_of};
 ghost use Rattle.owl_answer.specs.Outcome.{heads_in};
 ghost use Rattle.owl_answer.specs.Runs.{HasImports};
 ghost use Rattle.owl_answer.specs.Answers.{IsMissingFor};
@@ -12,7 +13,8 @@ use owl_atom::Iri;
 use owl_characters::NoMemory;
 use owl_close::{CloseFault, closure};
 use owl_command::Command;
-use owl_doc::{Doc, Head};
+use owl_doc::Head;
+use owl_documents::Document;
 use std::alloc::{AllocError, Global};
 
 /// An import that names no document, and the place of the document that has it.
@@ -23,16 +25,26 @@ pub struct Missing {
 }
 
 /// The heads of the documents.
-fn heads(alloc: Global, docs: &[Doc]) -> Result<Vec<Head>, NoMemory>
-    ensures { IfOk result (λ heads. heads_of heads.items ≡ heads_in (map said_of docs.now)) }
+fn heads(alloc: Global, docs: &[Document]) -> Result<Vec<Head>, NoMemory>
+    ensures { IfOk result (λ heads. heads_of heads.items ≡ heads_in (map parsed_of docs.now)) }
 {
     let mut heads = Vec::with_capacity(alloc, docs.len())?;
     for doc in docs {
         heads
-            .push(doc.head().copy(alloc)?)
+            .push(document_head(doc).copy(alloc)?)
             .map_err(AllocError::from)?;
     }
     Ok(heads)
+}
+
+/// The head of a document.
+fn document_head(doc: &Document) -> &Head
+    ensures { head_of result.now ≡ head_in (parsed_of doc.now) }
+{
+    match doc {
+        Document::Ontology(doc) => doc.head(),
+        Document::Graph(graph) => &graph.head,
+    }
 }
 
 /// The first import that names no document, where the command asks for each to
@@ -40,13 +52,13 @@ fn heads(alloc: Global, docs: &[Doc]) -> Result<Vec<Head>, NoMemory>
 pub fn first_missing(
     alloc: Global,
     command: &Command,
-    docs: &[Doc],
+    docs: &[Document],
 ) -> Result<Option<Missing>, NoMemory>
     requires { 0 < length docs.now }
     ensures some { IfOk result (λ found. IfSome found
-        (IsMissingFor (request_of command.now) (heads_in (map said_of docs.now)))) }
+        (IsMissingFor (request_of command.now) (heads_in (map parsed_of docs.now)))) }
     ensures none { IfOk result (λ found. IfNone found
-        (HasImports (request_of command.now) (map said_of docs.now))) }
+        (HasImports (request_of command.now) (map parsed_of docs.now))) }
 {
     if !command.asks_imports() {
         return Ok(None);
@@ -61,9 +73,9 @@ pub fn first_missing(
 
 /// The places of the documents that the main one reaches (Structural
 /// Specification, section 3.4). Imports that name no document lead nowhere.
-pub fn reached(alloc: Global, docs: &[Doc]) -> Result<Vec<usize>, NoMemory>
+pub fn reached(alloc: Global, docs: &[Document]) -> Result<Vec<usize>, NoMemory>
     requires { 0 < length docs.now }
-    ensures { IfOk result (λ places. AreReached (heads_in (map said_of docs.now)) places.items) }
+    ensures { IfOk result (λ places. AreReached (heads_in (map parsed_of docs.now)) places.items) }
 {
     let heads = heads(alloc, docs)?;
     match closure(alloc, &heads, true) {

@@ -1,52 +1,93 @@
 //! What documents declare.
 
 ghost use Rattle.std.specs.Prelude.{◌<◌, [], IfOk, OnOk, length, map};
-ghost use Rattle.owl_documents.specs.Documents.{said_of};
-ghost use Rattle.owl_answer.specs.KindsAt.{AddsAt, AreClosureKinds, AreKindsAt};
+ghost use Rattle.owl_documents.specs.Documents.{parsed_of};
+ghost use Rattle.owl_close.specs.Imports.{AreReached};
+ghost use Rattle.owl_doc.specs.Entities.{AddsAll};
+ghost use Rattle.rdf_scans.specs.Outlines.{declarations};
+ghost use Rattle.owl_answer.specs.KindsAt.{AddsAt, AddsOf, AreClosureKinds, AreDeclaredAt, AreOwnKinds};
+ghost use Rattle.owl_answer.specs.Outcome.{heads_in};
 
-use crate::imports::reached;
 use owl_characters::NoMemory;
-use owl_doc::{Doc, declared};
+use owl_doc::declared;
+use owl_documents::{Document, GraphDocument};
 use owl_tree::Kinds;
+use rdf_reverse::outline;
 use std::alloc::Global;
 
-/// The kinds that the documents declare which the main one, the first,
-/// reaches (Structural Specification, sections 3.4 and 5.8).
-pub fn closure_kinds(alloc: Global, docs: &[Doc]) -> Result<Kinds, NoMemory>
-    requires { 0 < length docs.now }
-    ensures { IfOk result (AreClosureKinds (map said_of docs.now)) }
-{
-    let places = reached(alloc, docs)?;
-    kinds_of(alloc, docs, &places)
-}
-
-/// The kinds that the documents at these places declare (Structural
-/// Specification, section 5.8). A place where none stands declares nothing.
-fn kinds_of(alloc: Global, docs: &[Doc], places: &[usize]) -> Result<Kinds, NoMemory>
-    ensures { IfOk result (AreKindsAt (map said_of docs.now) places.now) }
+/// The kinds that the documents at these places declare, which are those that
+/// the main one, the first, reaches (Structural Specification, sections 3.4 and
+/// 5.8).
+pub fn closure_kinds(alloc: Global, docs: &[Document], places: &[usize]) -> Result<Kinds, NoMemory>
+    requires { AreReached (heads_in (map parsed_of docs.now)) places.now }
+    ensures { IfOk result (AreClosureKinds (map parsed_of docs.now)) }
 {
     let mut kinds = Kinds::new(alloc);
-    declare_all(docs, places, &mut kinds)?;
+    declare_all(alloc, docs, places, &mut kinds)?;
+    // What is declared stands in order.
+    kinds.is_empty();
+    Ok(kinds)
+}
+
+/// The kinds that the document itself declares.
+pub fn own_kinds(alloc: Global, doc: &Document) -> Result<Kinds, NoMemory>
+    ensures { IfOk result (AreOwnKinds (parsed_of doc.now)) }
+{
+    let mut kinds = Kinds::new(alloc);
+    declare(alloc, doc, &mut kinds)?;
+    // What is declared stands in order.
+    kinds.is_empty();
     Ok(kinds)
 }
 
 /// Declares what the documents at these places declare.
-fn declare_all(docs: &[Doc], places: &[usize], kinds: &mut Kinds) -> Result<(), NoMemory>
-    requires { AreKindsAt (map said_of docs.now) [] kinds.old }
-    ensures { OnOk result (AreKindsAt (map said_of docs.now) places.now kinds.new) }
+fn declare_all(
+    alloc: Global,
+    docs: &[Document],
+    places: &[usize],
+    kinds: &mut Kinds,
+) -> Result<(), NoMemory>
+    requires { AreDeclaredAt (map parsed_of docs.now) [] kinds.old }
+    ensures { OnOk result (AreDeclaredAt (map parsed_of docs.now) places.now kinds.new) }
 {
     for place in places {
-        declare_at(docs, *place, kinds)?;
+        declare_at(alloc, docs, *place, kinds)?;
     }
     Ok(())
 }
 
 /// Declares what the document at this place declares, besides what is declared.
-fn declare_at(docs: &[Doc], place: usize, kinds: &mut Kinds) -> Result<(), NoMemory>
-    ensures { OnOk result (AddsAt (map said_of docs.now) place kinds.old kinds.new) }
+/// A place where none stands declares nothing.
+fn declare_at(
+    alloc: Global,
+    docs: &[Document],
+    place: usize,
+    kinds: &mut Kinds,
+) -> Result<(), NoMemory>
+    ensures { OnOk result (AddsAt (map parsed_of docs.now) place kinds.old kinds.new) }
 {
     match docs.get(place) {
-        Some(doc) => declared(doc, kinds),
+        Some(doc) => declare(alloc, doc, kinds),
         None => Ok(()),
+    }
+}
+
+/// Declares what the document declares, besides what is declared.
+fn declare(alloc: Global, doc: &Document, kinds: &mut Kinds) -> Result<(), NoMemory>
+    ensures { OnOk result (AddsOf (parsed_of doc.now) kinds.old kinds.new) }
+{
+    match doc {
+        Document::Ontology(doc) => declared(doc, kinds),
+        Document::Graph(graph) => declare_graph(alloc, graph, kinds),
+    }
+}
+
+/// Declares what the graph declares, which has a head.
+fn declare_graph(alloc: Global, doc: &GraphDocument, kinds: &mut Kinds) -> Result<(), NoMemory>
+    ensures { OnOk result (AddsAll kinds.old (declarations doc.now.graph) kinds.new) }
+{
+    match outline(alloc, &doc.graph, kinds) {
+        Ok(_) => Ok(()),
+        Err(_) => Err(NoMemory),
     }
 }

@@ -2,16 +2,20 @@
 #![tactic(auto)]
 
 mod answer;
+mod comparison;
 mod conclusion;
 mod imports;
 mod kinds;
 mod laws;
+mod reading;
 mod refusal;
 mod refusals;
 mod request;
 mod summary;
+mod telling;
 mod turtle;
 mod typing;
+mod unsaid;
 
 pub use answer::Answer;
 pub use laws::{

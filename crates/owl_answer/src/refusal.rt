@@ -5,6 +5,7 @@ ghost use Rattle.owl_answer.specs.Outcome.{defect_outcome, missing_import, passe
 ghost use Rattle.owl_answer.specs.Answers.{outcome_of, trouble_outcome};
 
 use crate::answer::{Answer, refused};
+use crate::unsaid::refuse_headless;
 use fss_read::{ReadFault, Reason};
 use owl_atom::Iri;
 use owl_characters::NoMemory;
@@ -52,11 +53,18 @@ fn limit_line(alloc: Global, count: &str, name: &str) -> Result<String, AllocErr
     format!(in alloc; "limit: {count}: {name}\n")
 }
 
+/// What is answered where the document of this name passes this limit.
+pub fn refuse_limit(alloc: Global, count: &str, name: &str) -> Result<Answer, NoMemory>
+    ensures { IfOk result (λ answer. outcome_of answer ≡ passed_limit count.now name.now) }
+{
+    refused(alloc, Status::Limit, limit_line(alloc, count, name))
+}
+
 /// What is answered where what is to be written would pass this limit.
 pub fn refuse_output(alloc: Global, count: &str) -> Result<Answer, NoMemory>
     ensures { IfOk result (λ answer. outcome_of answer ≡ passed_limit count.now (codes "output")) }
 {
-    refused(alloc, Status::Limit, limit_line(alloc, count, "output"))
+    refuse_limit(alloc, count, "output")
 }
 
 /// What is answered where the document of this name has this defect.
@@ -83,24 +91,22 @@ fn refuse_defect(alloc: Global, name: &str, fault: ReadFault) -> Result<Answer, 
 }
 
 /// What is answered where the document of this name is refused.
-fn refuse(alloc: Global, name: &str, refusal: Refusal) -> Result<Answer, NoMemory>
-    ensures { IfOk result (λ answer. outcome_of answer ≡ refusal_outcome name.now refusal) }
+fn refuse(alloc: Global, name: &str, refusal: &Refusal) -> Result<Answer, NoMemory>
+    ensures { IfOk result (λ answer. outcome_of answer ≡ refusal_outcome name.now refusal.now) }
 {
     match refusal {
-        Refusal::DocumentBytes => refused(
-            alloc,
-            Status::Limit,
-            limit_line(alloc, "DocumentBytes", name),
-        ),
-        Refusal::AllBytes => refused(alloc, Status::Limit, limit_line(alloc, "AllBytes", name)),
-        Refusal::Unreadable(fault) => refuse_defect(alloc, name, fault),
+        Refusal::DocumentBytes => refuse_limit(alloc, "DocumentBytes", name),
+        Refusal::AllBytes => refuse_limit(alloc, "AllBytes", name),
+        Refusal::Unreadable(fault) => refuse_defect(alloc, name, *fault),
+        Refusal::Headless(fault) => refuse_headless(alloc, name, fault),
     }
 }
 
 /// What is answered where there is this trouble with the document of this name.
-pub fn answer_trouble(alloc: Global, name: &str, trouble: Trouble) -> Result<Answer, NoMemory>
-    ensures outcome { IfOk result (λ answer. outcome_of answer ≡ trouble_outcome name.now trouble) }
-    ensures memory { IfOk result (λ _. trouble ≢ Trouble.Memory) }
+pub fn answer_trouble(alloc: Global, name: &str, trouble: &Trouble) -> Result<Answer, NoMemory>
+    ensures outcome { IfOk result (λ answer.
+        outcome_of answer ≡ trouble_outcome name.now trouble.now) }
+    ensures memory { IfOk result (λ _. trouble.now ≢ Trouble.Memory) }
 {
     match trouble {
         Trouble::ReadFailed => refused(

@@ -14,8 +14,8 @@ use owl_documents::{documents_are_read_one_way, read_documents};
 use owl_port::Shelf;
 use std::alloc::Global;
 
-/// What is answered to a command: its documents are read, each to its end, and
-/// then its imports are looked at.
+/// What is answered to a command: its documents are read, each to its end; then
+/// its imports are looked at, and then what its documents say.
 pub fn answer_to<S: Shelf>(
     alloc: Global,
     command: &Command,
@@ -30,6 +30,6 @@ pub fn answer_to<S: Shelf>(
     documents_are_read_one_way();
     match read_documents(alloc, command, shelf) {
         Ok(docs) => conclude(alloc, command, &docs),
-        Err(stop) => answer_trouble(alloc, command.name(stop.document), stop.trouble),
+        Err(stop) => answer_trouble(alloc, command.name(stop.document), &stop.trouble),
     }
 }

@@ -1,20 +1,20 @@
 //! What is answered for a document that is translated to Turtle.
 
-ghost use Rattle.std.specs.Prelude.{◌≡◌, IfOk};
+ghost use Rattle.std.specs.Prelude.{◌≡◌, List, IfOk};
 ghost use Rattle.std.specs.Str.{encode_utf8_all};
 ghost use Rattle.owl_command.specs.declared.status.Status.TheVariants.{Done};
 ghost use Rattle.owl_doc.specs.Counts.{axiom_count};
 ghost use Rattle.owl_doc.specs.Documents.{ontology_of};
 ghost use Rattle.owl_documents.specs.Documents.{said_of};
+ghost use Rattle.owl_kind.specs.Kinds.{Entity};
 ghost use Rattle.rdf_mapping.specs.Graphs.{graph_of};
 ghost use Rattle.owl_answer.specs.Answers.{outcome_of};
 ghost use Rattle.owl_answer.specs.Outcome.{IsLimited, done_line};
-ghost use Rattle.owl_answer.specs.TurtleOutcome.{IsFormTold, IsGraphTold, IsToldBack, IsTurtleTranslation, canonical_said, graph_translation, turtle_form};
+ghost use Rattle.owl_answer.specs.TurtleOutcome.{IsFormTold, IsGraphTold, IsToldBack, IsTurtleTranslation, IsTyped, canonical_said, graph_translation, turtle_form};
 
 use crate::answer::{Answer, done_line, too_long_output};
 use crate::refusal::refuse_output;
-use crate::refusals::{refuse_kinds, refuse_undeclared, refuse_unsayable};
-use crate::typing::first_untyped;
+use crate::refusals::{refuse_unsayable, typing_refusal};
 use owl_characters::{NoMemory, Text};
 use owl_command::Status;
 use owl_doc::Doc;
@@ -82,6 +82,20 @@ fn translate_sayable(alloc: Global, doc: &Doc) -> Result<Answer, NoMemory>
     }
 }
 
+/// What is answered for a document that is well typed.
+fn translate_typed(alloc: Global, doc: &Doc) -> Result<Answer, NoMemory>
+    ensures { IfOk result (λ answer. (kinds : List Entity) → IsTyped kinds (ontology_of doc.now)
+        → IsToldBack (IsTurtleTranslation kinds (said_of doc.now))
+        (turtle_form (canonical_said (said_of doc.now))) (outcome_of answer)) }
+{
+    // A document is in canonical form.
+    doc.notes();
+    if let Some(cant) = can(doc) {
+        return refuse_unsayable(alloc, doc, &cant);
+    }
+    translate_sayable(alloc, doc)
+}
+
 /// What is answered for a document that is translated to Turtle, under the
 /// kinds of its imports closure: the first refusal that there is cause for, or
 /// the text of the graph of its normal form, which reads back to this graph.
@@ -91,14 +105,8 @@ pub fn translate_to_turtle(alloc: Global, doc: &Doc, kinds: &Kinds) -> Result<An
 {
     // A document is in canonical form.
     doc.notes();
-    if let Some(iri) = kinds.clash() {
-        return refuse_kinds(alloc, iri);
+    match typing_refusal(alloc, kinds, doc)? {
+        Some(refusal) => Ok(refusal),
+        None => translate_typed(alloc, doc),
     }
-    if let Some(untyped) = first_untyped(doc, kinds) {
-        return refuse_undeclared(alloc, doc, &untyped);
-    }
-    if let Some(cant) = can(doc) {
-        return refuse_unsayable(alloc, doc, &cant);
-    }
-    translate_sayable(alloc, doc)
 }

@@ -1,11 +1,15 @@
 -- What the line of a read fault tells.
-use Rattle.std.proofs.Common.{◌≡◌, ◌≢◌, ℕ, List, refl}
+use Rattle.std.proofs.Common.{◌≡◌, ℕ, List, refl}
 use Rattle.owl_reader.specs.declared.fault.ReadFault.TheVariants as read
 use Rattle.owl_documents.specs.declared.trouble.Refusal.{Refusal}
-use Rattle.owl_documents.specs.declared.trouble.Refusal.TheVariants.{DocumentBytes, AllBytes, Unreadable}
+use Rattle.owl_documents.specs.declared.trouble.Refusal.TheVariants.{DocumentBytes, AllBytes, Unreadable, Headless}
 use Rattle.owl_command.specs.Commands.{Request, translates, shows, compares}
-use Rattle.owl_answer.specs.Outcome.{Outcome, refusal_outcome}
-use Rattle.owl_answer.specs.Runs.{IsRefusalLine, IsTurtleRefusal, LineFor, SuccessLine, of_bytes, of_import, of_no_memory, of_output, of_read_fault, of_refusal, of_success, of_triples, of_turtle, of_two_kinds, of_undeclared, of_unsayable, of_weight, of_write_fault}
+use Rattle.owl_documents.specs.Reading.{IsProperRefusal}
+use Rattle.rdf_reverse.specs.declared.fault.ReverseFault.{ReverseFault}
+use Rattle.rdf_reverse.specs.declared.fault.ReverseFault.TheVariants as reverse
+use Rattle.rdf_scans.specs.declared.fault.OutlineFault.TheVariants as outline
+use Rattle.owl_answer.specs.Outcome.{Outcome, refusal_outcome, unsaid_outcome}
+use Rattle.owl_answer.specs.Runs.{IsIllTyped, IsRefusalLine, IsTurtleRefusal, LineFor, SuccessLine, of_bytes, of_graph, of_import, of_no_memory, of_output, of_read_fault, of_refusal, of_success, of_triples, of_turtle, of_two_kinds, of_typing, of_undeclared, of_unsayable, of_weight, of_write_fault}
 use Rattle.owl_command.specs.declared.status.Status.TheVariants.{ReadFailed}
 
 -- the line of a read fault names a document with its cause
@@ -14,7 +18,7 @@ no_success (translates target partial names) line s = s
 no_success (shows partial names) line s = s
 no_success (compares first second) line s = s
 
-no_refusal : (name : List ℕ) (refusal : Refusal) → refusal ≢ Unreadable read.Memory → ReadFailed ≡ (refusal_outcome name refusal).status → ⊥
+no_refusal : (name : List ℕ) (refusal : Refusal) → IsProperRefusal refusal → ReadFailed ≡ (refusal_outcome name refusal).status → ⊥
 no_refusal name DocumentBytes n e = cc
 no_refusal name AllBytes n e = cc
 no_refusal name (Unreadable (read.Refused item at reason)) n e = cc
@@ -24,14 +28,39 @@ no_refusal name (Unreadable read.TooHeavy) n e = cc
 no_refusal name (Unreadable read.NumberTooLarge) n e = cc
 no_refusal name (Unreadable read.TooMany) n e = cc
 no_refusal name (Unreadable read.Memory) n e = n refl
+no_refusal name (Headless outline.NoHeader) n e = cc
+no_refusal name (Headless outline.TwoHeaders) n e = cc
+no_refusal name (Headless (outline.BadHeader node)) n e = cc
+no_refusal name (Headless outline.Memory) n e = n refl
+
+no_unsaid : (name : List ℕ) (fault : ReverseFault) → ReadFailed ≡ (unsaid_outcome name fault).status → ⊥
+no_unsaid name (reverse.TwoKinds iri) e = cc
+no_unsaid name reverse.NoHeader e = cc
+no_unsaid name reverse.TwoHeaders e = cc
+no_unsaid name (reverse.BadHeader node) e = cc
+no_unsaid name (reverse.Mixed label) e = cc
+no_unsaid name (reverse.BadList label) e = cc
+no_unsaid name (reverse.Cycle label) e = cc
+no_unsaid name (reverse.BadNode label) e = cc
+no_unsaid name (reverse.MainMissing label) e = cc
+no_unsaid name (reverse.Reserved triple) e = cc
+no_unsaid name (reverse.Orphan label) e = cc
+no_unsaid name (reverse.Untyped triple) e = cc
+no_unsaid name reverse.NumberTooLarge e = cc
+no_unsaid name reverse.TooDeep e = cc
+no_unsaid name reverse.TooHeavy e = cc
+no_unsaid name reverse.Memory e = cc
 
 no_refusal_line : (name : List ℕ) (line : List ℕ) → IsRefusalLine name ReadFailed line → ⊥
 no_refusal_line name line (of_bytes refusal n e l) = no_refusal name refusal n e
 no_refusal_line name line (of_import iri e l) = cc
+no_refusal_line name line (of_graph fault n e l) = no_unsaid name fault e
+
+no_typing : (refusal : Outcome) → IsIllTyped refusal → ReadFailed ≡ refusal.status → ⊥
+no_typing _ (of_two_kinds iri) e = cc
+no_typing _ (of_undeclared part entity) e = cc
 
 no_turtle : (refusal : Outcome) → IsTurtleRefusal refusal → ReadFailed ≡ refusal.status → ⊥
-no_turtle _ (of_two_kinds iri) e = cc
-no_turtle _ (of_undeclared part entity) e = cc
 no_turtle _ (of_unsayable part why) e = cc
 no_turtle _ of_weight e = cc
 no_turtle _ of_triples e = cc
@@ -39,6 +68,7 @@ no_turtle _ of_triples e = cc
 pub fault_in : (request : Request) (IsCause : List ℕ → Type 0) (line : List ℕ) → LineFor request IsCause ReadFailed line → (name : List ℕ) × IsCause name
 fault_in request IsCause line (of_success s) = absurd (no_success request line s)
 fault_in request IsCause line (of_refusal name among r) = absurd (no_refusal_line name line r)
+fault_in request IsCause line (of_typing asks refusal h e l) = absurd (no_typing refusal h e)
 fault_in request IsCause line (of_turtle asks refusal h e l) = absurd (no_turtle refusal h e)
 fault_in request IsCause line (of_output e l) = absurd (cc)
 fault_in request IsCause line (of_read_fault name h e l) = (name, h)

@@ -1,9 +1,9 @@
 use Rattle.std.proofs.Common.{Option, IfSome, IfNone, map, subst}
 use Rattle.std.proofs.lemmas.Result.{IfOk-weaker}
 use Rattle.owl_command.specs.Commands.{request_of}
-use Rattle.owl_documents.specs.Documents.{said_of}
+use Rattle.owl_documents.specs.Documents.{parsed_of}
 use Rattle.owl_answer.specs.Outcome.{heads_in}
-use Rattle.owl_answer.specs.Runs.{HasImports, has_imports}
+use Rattle.owl_answer.specs.Runs.{HasImports}
 use Rattle.owl_answer.specs.Answers.{IsMissingFor, outcome_of}
 use Rattle.owl_answer.specs.declared.imports.Missing.{Missing}
 use Rattle.owl_answer.specs.declared.answer.Answer.{Answer}
@@ -12,8 +12,8 @@ use Rattle.owl_answer.proofs.conclusion.conclude.Goals as goal
 
 pub returns-in-Some : goal.returns-in-Some
 returns-in-Some c =
-    IfOk-weaker c.refuse_import.result _ _ (λ (a : Answer) e. import_conclusion (request_of c.args.command.now) (map said_of c.args.docs.now) c.in-Some.missing c.name.result.now (outcome_of a) (subst (λ (found : Option Missing). IfSome found (IsMissingFor (request_of c.args.command.now) (heads_in (map said_of c.args.docs.now)))) c.in-Some.is c.in_ok-missing.ensures.some) c.name.ensures e) c.refuse_import.ensures
+    IfOk-weaker c.refuse_import.result _ _ (λ (a : Answer) e. import_conclusion (request_of c.args.command.now) (map parsed_of c.args.docs.now) c.in-Some.missing c.name.result.now (outcome_of a) (subst (λ (found : Option Missing). IfSome found (IsMissingFor (request_of c.args.command.now) (heads_in (map parsed_of c.args.docs.now)))) c.in-Some.is c.in_ok-missing.ensures.some) c.name.ensures e) c.refuse_import.ensures
 
-pub returns-in-None : goal.returns-in-None
-returns-in-None c =
-    IfOk-weaker c.answer_wanted.result _ _ (λ (a : Answer) w. record { concludes = has_imports (subst (λ (found : Option Missing). IfNone found (HasImports (request_of c.args.command.now) (map said_of c.args.docs.now))) c.in-None.is c.in_ok-missing.ensures.none) w.answers; back = w.back }) c.answer_wanted.ensures
+pub answer_wanted-requires-clause-imports : goal.answer_wanted-requires-clause-imports
+answer_wanted-requires-clause-imports c =
+    subst (λ (found : Option Missing). IfNone found (HasImports (request_of c.args.command.now) (map parsed_of c.args.docs.now))) c.in-None.is c.in_ok-missing.ensures.none

@@ -1,13 +1,11 @@
-use Rattle.std.proofs.Common.{map, List, ℕ, subst}
-use Rattle.std.proofs.lemmas.Result.{IfOk-weaker}
-use Rattle.owl_kind.specs.Kinds.{Entity}
-use Rattle.owl_documents.specs.Documents.{said_of}
-use Rattle.owl_answer.specs.KindsAt.{AreKindsAt}
-use Rattle.owl_answer.proofs.KindsAt.{closure_at}
+use Rattle.std.proofs.Common.{map}
+use Rattle.owl_documents.specs.Documents.{parsed_of}
+use Rattle.owl_answer.proofs.KindsAt.{closure_at, none_yet}
 use Rattle.owl_answer.proofs.kinds.closure_kinds.Goals as goal
+
+pub declare_all-requires : goal.declare_all-requires
+declare_all-requires c = none_yet (map parsed_of c.args.docs.now) c.new-kinds.result c.new-kinds.ensures
 
 pub returns : goal.returns
 returns c =
-    let documents = map said_of c.args.docs.now in
-    let places = c.in_ok-places.places.items in
-    IfOk-weaker c.kinds_of.result _ _ (λ (kinds : List Entity) k. closure_at documents places kinds c.in_ok-places.ensures (subst (λ (ps : List ℕ). AreKindsAt documents ps kinds) c.deref.ensures.value k)) c.kinds_of.ensures
+    closure_at (map parsed_of c.args.docs.now) c.args.places.now c.declare_all.new.kinds c.requires c.in_ok-declare_all.ensures c.is_empty.ensures.ordered

@@ -6,7 +6,7 @@ use Rattle.owl_answer.specs.Outcome.{translation}
 use Rattle.owl_answer.specs.Answers.{outcome_of}
 use Rattle.owl_answer.specs.declared.answer.Answer.{Answer}
 use Rattle.owl_answer.proofs.Wanting.{passed, translation_text}
-use Rattle.owl_answer.proofs.conclusion.translate_to_functional.Goals as goal
+use Rattle.owl_answer.proofs.telling.translate_to_functional.Goals as goal
 
 pub returns-in-Err-TooLong-clause-outcome : goal.returns-in-Err-TooLong-clause-outcome
 returns-in-Err-TooLong-clause-outcome c =

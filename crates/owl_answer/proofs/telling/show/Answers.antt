@@ -6,7 +6,7 @@ use Rattle.owl_answer.specs.Outcome.{shown}
 use Rattle.owl_answer.specs.Answers.{outcome_of}
 use Rattle.owl_answer.specs.declared.answer.Answer.{Answer}
 use Rattle.owl_answer.proofs.Wanting.{passed}
-use Rattle.owl_answer.proofs.conclusion.show.Goals as goal
+use Rattle.owl_answer.proofs.telling.show.Goals as goal
 
 pub returns-then-as_str-gt-MOST_BYTES : goal.returns-then-as_str-gt-MOST_BYTES
 returns-then-as_str-gt-MOST_BYTES c =

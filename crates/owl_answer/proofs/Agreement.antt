@@ -1,0 +1,210 @@
+-- What is concluded depends on the documents that are read under kinds, and is one.
+use Rattle.std.proofs.Common.{◌≡◌, ℕ, Some, List, slice_get, sym, ap, ◌∙◌, subst, arith}
+use Rattle.std.proofs.lemmas.Option.{same_Some}
+use Rattle.owl_close.specs.Imports.{IsFirstMissing, MissesNone}
+use Rattle.owl_close.specs.ImportsLaws.{missing_once}
+use Rattle.owl_command.specs.Commands.{Request, compares, names_of, shows, translates}
+use Rattle.owl_command.specs.declared.command.Target.{Target as Syntax}
+use Rattle.owl_command.specs.declared.command.Target.TheVariants.{Fss, Ttl}
+use Rattle.owl_documents.specs.Documents.{IsSame, Parsed, Said, a_graph, an_ontology}
+use Rattle.owl_documents.specs.OneWay.{IsSameParsed}
+use Rattle.owl_kind.specs.Kinds.{Entity}
+use Rattle.owl_tree.specs.OntologyLaws.{same_ontology_sym, same_ontology_trans}
+use Rattle.rdf_reverse.specs.declared.fault.ReverseFault.{ReverseFault}
+use Rattle.owl_answer.specs.Outcome.{IsComparison, Outcome, agree, differ, heads_in, missing_import, shown, translation, unsaid_outcome}
+use Rattle.owl_answer.specs.Runs.{AnswersWith, Concludes, IsTranslation, all_say, misses_import, says_nothing}
+use Rattle.owl_answer.specs.UnderKinds.{AllSay, HasKinds, HoldsOfMain, HoldsOfTwo, IsFirstUnsaid, IsReadUnder, IsUnsaidAt, IsUnsaidUnder, SaysAt, SaysUnder}
+use Rattle.owl_answer.proofs.Closures.{closure_once, own_once}
+use Rattle.owl_answer.proofs.Same.{never_says_both, parsed_back, parsed_refl, says_once, says_same, unsaid_once, unsaid_same}
+use Rattle.owl_answer.proofs.TurtleOnce.{functional_once, functional_same, shown_same, translation_alike, translation_once, translation_same}
+use Rattle.owl_answer.proofs.Wanting.{limited_more, limited_once}
+
+-- a document that is read as the same stands at this place, and is read under these kinds
+pub record IsReadAlike (request : Request) (others : List Parsed) (place : ℕ) (parsed : Parsed) (kinds : List Entity) : Type 0 where
+  pub other : Parsed
+  pub read : IsReadUnder request others place other kinds
+  pub same : IsSameParsed parsed other
+
+-- the others miss what these miss, and what is read of these is read of them
+pub record Agree (request : Request) (ds es : List Parsed) : Type 0 where
+  pub missing : (place : ℕ) (iri : List ℕ) → IsFirstMissing (heads_in ds) place iri → IsFirstMissing (heads_in es) place iri
+  pub none : MissesNone (heads_in ds) → MissesNone (heads_in es)
+  pub read : (place : ℕ) (parsed : Parsed) (kinds : List Entity) → IsReadUnder request ds place parsed kinds → IsReadAlike request es place parsed kinds
+
+-- what is told of the same is the same
+
+told_same : (target : Syntax) (p q : Parsed) (kinds : List Entity) (a b : Said) (outcome : Outcome) → IsSameParsed p q → IsSame a b → IsTranslation target p kinds a outcome → IsTranslation target q kinds b outcome
+told_same Fss (an_ontology x) (an_ontology y) kinds a b outcome s t h = limited_more _ _ (λ o k. k ∙ translation_same a b t) outcome h
+told_same Fss (an_ontology x) (a_graph y) kinds a b outcome s t h = absurd s
+told_same Fss (a_graph x) (an_ontology y) kinds a b outcome s t h = absurd s
+told_same Fss (a_graph x) (a_graph y) kinds a b outcome s t h = functional_same kinds a b outcome t h
+told_same Ttl p q kinds a b outcome s t h = translation_alike kinds kinds a b outcome (λ kind iri. (λ k. k, λ k. k)) t h
+
+comparison_same : (a b c d : Said) → IsSame a c → IsSame b d → (outcome : Outcome) → IsComparison a b outcome → IsComparison c d outcome
+comparison_same a b c d s t outcome (agree h e) =
+    agree (same_ontology_trans c.ontology a.ontology d.ontology (same_ontology_sym a.ontology c.ontology s.ontology) (same_ontology_trans a.ontology b.ontology d.ontology h t.ontology)) e
+comparison_same a b c d s t outcome (differ h e) =
+    differ (λ k. h (same_ontology_trans a.ontology c.ontology b.ontology s.ontology (same_ontology_trans c.ontology d.ontology b.ontology k (same_ontology_sym b.ontology d.ontology t.ontology)))) e
+
+comparison_once : (a b : Said) (one other : Outcome) → IsComparison a b one → IsComparison a b other → one ≡ other
+comparison_once a b one other (agree h e) (agree k f) = e ∙ sym f
+comparison_once a b one other (agree h e) (differ k f) = absurd (k h)
+comparison_once a b one other (differ h e) (agree k f) = absurd (h k)
+comparison_once a b one other (differ h e) (differ k f) = e ∙ sym f
+
+translation_told_once : (target : Syntax) (p : Parsed) (kinds : List Entity) (main : Said) (a b : Outcome) → IsTranslation target p kinds main a → IsTranslation target p kinds main b → a ≡ b
+translation_told_once Fss (an_ontology x) kinds main a b h k =
+    limited_once (λ o. o ≡ translation main) (λ o. o ≡ translation main) (λ x y p q. p ∙ sym q) a b h k
+translation_told_once Fss (a_graph x) kinds main a b h k = functional_once kinds main a b h k
+translation_told_once Ttl p kinds main a b h k = translation_once kinds main a b h k
+
+-- what is concluded of some documents is concluded of others that agree
+
+module _ (request : Request) (ds es : List Parsed) (there : Agree request ds es) where
+  unsaid_there : (place : ℕ) (fault : ReverseFault) → IsUnsaidAt request ds place fault → IsUnsaidAt request es place fault
+  unsaid_there place fault u =
+      let alike = there.read place u.parsed u.kinds u.read in
+      record { parsed = alike.other; kinds = u.kinds; read = alike.read; unsaid = unsaid_same u.kinds u.parsed alike.other alike.same fault u.unsaid }
+
+  main_there : (V W : Parsed → List Entity → Said → Type 0) → ((p q : Parsed) (kinds : List Entity) (a b : Said) → IsSameParsed p q → IsSame a b → V p kinds a → W q kinds b) → HoldsOfMain request ds V → HoldsOfMain request es W
+  main_there V W f h =
+      let alike = there.read 0 h.main.parsed h.main.kinds h.main.read in
+      let own = says_same h.main.kinds h.main.parsed alike.other alike.same h.said h.main.says in
+      record {
+        said = own.other;
+        main = record { parsed = alike.other; kinds = h.main.kinds; read = alike.read; says = own.says };
+        holds = f h.main.parsed alike.other h.main.kinds h.said own.other alike.same own.same h.holds;
+      }
+
+  two_there : (V : Said → Said → Type 0) → ((a b c d : Said) → IsSame a c → IsSame b d → V a b → V c d) → HoldsOfTwo request ds V → HoldsOfTwo request es V
+  two_there V f h =
+      let alike = there.read 0 h.says_first.parsed h.says_first.kinds h.says_first.read in
+      let own = says_same h.says_first.kinds h.says_first.parsed alike.other alike.same h.first h.says_first.says in
+      let beside = there.read 1 h.says_second.parsed h.says_second.kinds h.says_second.read in
+      let theirs = says_same h.says_second.kinds h.says_second.parsed beside.other beside.same h.second h.says_second.says in
+      record {
+        first = own.other;
+        second = theirs.other;
+        says_first = record { parsed = alike.other; kinds = h.says_first.kinds; read = alike.read; says = own.says };
+        says_second = record { parsed = beside.other; kinds = h.says_second.kinds; read = beside.read; says = theirs.says };
+        holds = f h.first h.second own.other theirs.other own.same theirs.same h.holds;
+      }
+
+answers_there : (request : Request) (ds es : List Parsed) → Agree request ds es → (outcome : Outcome) → AnswersWith request ds outcome → AnswersWith request es outcome
+answers_there (translates target partial names) ds es there outcome h =
+    main_there (translates target partial names) ds es there _ _ (λ p q kinds a b s t w. told_same target p q kinds a b outcome s t w) h
+answers_there (shows partial names) ds es there outcome h =
+    main_there (shows partial names) ds es there _ _ (λ p q kinds a b s t w. limited_more _ _ (λ o k. k ∙ shown_same a b t) outcome w) h
+answers_there (compares first second) ds es there outcome h =
+    two_there (compares first second) ds es there _ (λ a b c d s t w. limited_more _ _ (λ o k. comparison_same a b c d s t o k) outcome w) h
+
+module _ (request : Request) (ds es : List Parsed) (there : Agree request ds es) (back : Agree request es ds) where
+  first_there : (place : ℕ) (fault : ReverseFault) → IsFirstUnsaid request ds place fault → IsFirstUnsaid request es place fault
+  first_there place fault h = record {
+    unsaid = unsaid_there request ds es there place fault h.unsaid;
+    first = λ other theirs u. h.first other theirs (unsaid_there request es ds back other theirs u);
+  }
+
+  all_there : AllSay request ds → AllSay request es
+  all_there all place parsed kinds read =
+      let alike = back.read place parsed kinds read in
+      let said = all place alike.other kinds alike.read in
+      let own = says_same kinds alike.other parsed (parsed_back parsed alike.other alike.same) said.0 said.1 in
+      (own.other, own.says)
+
+  pub concludes_there : (outcome : Outcome) → Concludes request ds outcome → Concludes request es outcome
+  concludes_there outcome (misses_import asked place iri name m at e) =
+      misses_import asked place iri name (there.missing place iri m) at e
+  concludes_there outcome (says_nothing imports place fault name u at e) =
+      says_nothing (λ asked. there.none (imports asked)) place fault name (first_there place fault u) at e
+  concludes_there outcome (all_say imports all w) =
+      all_say (λ asked. there.none (imports asked)) (all_there all) (answers_there request ds es there outcome w)
+
+-- what is concluded of documents is one
+
+kinds_once : (request : Request) (documents : List Parsed) (place : ℕ) (parsed : Parsed) (k l : List Entity) → HasKinds request documents place parsed k → HasKinds request documents place parsed l → k ≡ l
+kinds_once (translates target partial names) documents place parsed k l h i = closure_once documents k l h.1 i.1
+kinds_once (shows partial names) documents place parsed k l h i = closure_once documents k l h.1 i.1
+kinds_once (compares first second) documents place parsed k l h i = own_once parsed k l h i
+
+-- a document is read in one way
+pub record IsOneReading (p q : Parsed) (k l : List Entity) : Type 0 where
+  pub parsed : p ≡ q
+  pub kinds : k ≡ l
+
+module _ (request : Request) (documents : List Parsed) where
+  pub read_once : (place : ℕ) (p q : Parsed) (k l : List Entity) → IsReadUnder request documents place p k → IsReadUnder request documents place q l → IsOneReading p q k l
+  read_once place p q k l h i =
+      let same : p ≡ q = same_Some p q (sym h.there ∙ i.there) in
+      record {
+        parsed = same;
+        kinds = kinds_once request documents place q k l (subst (λ (x : Parsed). HasKinds request documents place x k) same h.under) i.under;
+      }
+
+  -- what is said at a place is one
+  said_at_once : (place : ℕ) (a b : Said) (h : SaysAt request documents place a) (k : SaysAt request documents place b) → IsSame a b
+  said_at_once place a b h k =
+      let one = read_once place h.parsed k.parsed h.kinds k.kinds h.read k.read in
+      says_once k.kinds k.parsed a b (subst (λ (p : Parsed). SaysUnder k.kinds p a) one.parsed (subst (λ (l : List Entity). SaysUnder l h.parsed a) one.kinds h.says)) k.says
+
+  pub says_or_not : (place : ℕ) (a : Said) (fault : ReverseFault) → SaysAt request documents place a → IsUnsaidAt request documents place fault → ⊥
+  says_or_not place a fault h u =
+      let one = read_once place h.parsed u.parsed h.kinds u.kinds h.read u.read in
+      never_says_both u.kinds u.parsed a fault (subst (λ (p : Parsed). SaysUnder u.kinds p a) one.parsed (subst (λ (l : List Entity). SaysUnder l h.parsed a) one.kinds h.says)) u.unsaid
+
+  fault_at_once : (place other : ℕ) (e f : ReverseFault) → place ≡ other → IsUnsaidAt request documents place e → IsUnsaidAt request documents other f → e ≡ f
+  fault_at_once place other e f same here there =
+      let h = subst (λ (p : ℕ). IsUnsaidAt request documents p e) same here in
+      let one = read_once other h.parsed there.parsed h.kinds there.kinds h.read there.read in
+      unsaid_once there.kinds there.parsed e f (subst (λ (p : Parsed). IsUnsaidUnder there.kinds p e) one.parsed (subst (λ (l : List Entity). IsUnsaidUnder l h.parsed e) one.kinds h.unsaid)) there.unsaid
+
+  first_once : (place other : ℕ) (e f : ReverseFault) → IsFirstUnsaid request documents place e → IsFirstUnsaid request documents other f → place ≡ other
+  first_once place other e f h k =
+      let lower = h.first other f k.unsaid in
+      let upper = k.first place e h.unsaid in
+      omega arith
+
+  all_or_not : AllSay request documents → (place : ℕ) (fault : ReverseFault) → IsUnsaidAt request documents place fault → ⊥
+  all_or_not all place fault u =
+      let said = all place u.parsed u.kinds u.read in
+      never_says_both u.kinds u.parsed said.0 fault said.1 u.unsaid
+
+  main_once : (V W : Parsed → List Entity → Said → Type 0) (a b : Outcome) → ((p : Parsed) (kinds : List Entity) (s t : Said) → IsSame s t → V p kinds s → W p kinds t → a ≡ b) → HoldsOfMain request documents V → HoldsOfMain request documents W → a ≡ b
+  main_once V W a b once h k =
+      let one = read_once 0 h.main.parsed k.main.parsed h.main.kinds k.main.kinds h.main.read k.main.read in
+      once k.main.parsed k.main.kinds h.said k.said (said_at_once 0 h.said k.said h.main k.main)
+      (subst (λ (p : Parsed). V p k.main.kinds h.said) one.parsed (subst (λ (l : List Entity). V h.main.parsed l h.said) one.kinds h.holds)) k.holds
+
+  two_once : (V W : Said → Said → Type 0) (a b : Outcome) → ((s t u v : Said) → IsSame s u → IsSame t v → V s t → W u v → a ≡ b) → HoldsOfTwo request documents V → HoldsOfTwo request documents W → a ≡ b
+  two_once V W a b once h k =
+      once h.first h.second k.first k.second (said_at_once 0 h.first k.first h.says_first k.says_first) (said_at_once 1 h.second k.second h.says_second k.says_second) h.holds k.holds
+
+answers_once : (request : Request) (documents : List Parsed) (a b : Outcome) → AnswersWith request documents a → AnswersWith request documents b → a ≡ b
+answers_once (translates target partial names) documents a b v w =
+    main_once (translates target partial names) documents _ _ a b (λ p kinds s t same h k. translation_told_once target p kinds t a b (told_same target p p kinds s t a (parsed_refl p) same h) k) v w
+answers_once (shows partial names) documents a b v w =
+    main_once (shows partial names) documents _ _ a b (λ p kinds s t same h k. limited_once (λ o. o ≡ shown s) (λ o. o ≡ shown t) (λ x y e f. e ∙ shown_same s t same ∙ sym f) a b h k) v w
+answers_once (compares first second) documents a b v w =
+    two_once (compares first second) documents _ _ a b (λ s t u x e f h k. limited_once (IsComparison s t) (IsComparison u x) (λ y z i j. comparison_once u x y z (comparison_same s t u x e f y i) j) a b h k) v w
+
+named : (names : List (List ℕ)) (p q : ℕ) (x y : List ℕ) → p ≡ q → slice_get names p ≡ Some x → slice_get names q ≡ Some y → x ≡ y
+named names p q x y e f g = cc
+
+pub concludes_once : (request : Request) (documents : List Parsed) (a b : Outcome) → Concludes request documents a → Concludes request documents b → a ≡ b
+concludes_once request documents a b (misses_import asked place iri name m at e) (misses_import again other theirs name2 n at2 f) =
+    let one = missing_once (heads_in documents) place other iri theirs m n in
+    let same : name ≡ name2 = named (names_of request) place other name name2 one.0 at at2 in
+    e ∙ ap (λ (x : List ℕ). missing_import x iri) same ∙ ap (missing_import name2) one.1 ∙ sym f
+concludes_once request documents a b (misses_import asked place iri name m at e) (says_nothing h other fault name2 u at2 f) =
+    absurd (h asked place iri m.missing)
+concludes_once request documents a b (misses_import asked place iri name m at e) (all_say h all w) = absurd (h asked place iri m.missing)
+concludes_once request documents a b (says_nothing h place fault name u at e) (misses_import asked other iri name2 m at2 f) =
+    absurd (h asked other iri m.missing)
+concludes_once request documents a b (says_nothing h place fault name u at e) (says_nothing k other another name2 v at2 f) =
+    let one = first_once request documents place other fault another u v in
+    let same : name ≡ name2 = named (names_of request) place other name name2 one at at2 in
+    e ∙ ap (λ (x : List ℕ). unsaid_outcome x fault) same ∙ ap (unsaid_outcome name2) (fault_at_once request documents place other fault another one u.unsaid v.unsaid) ∙ sym f
+concludes_once request documents a b (says_nothing h place fault name u at e) (all_say k all w) = absurd (all_or_not request documents all place fault u.unsaid)
+concludes_once request documents a b (all_say h all v) (misses_import asked place iri name m at e) = absurd (h asked place iri m.missing)
+concludes_once request documents a b (all_say h all v) (says_nothing k place fault name u at e) = absurd (all_or_not request documents all place fault u.unsaid)
+concludes_once request documents a b (all_say h all v) (all_say k every w) = answers_once request documents a b v w

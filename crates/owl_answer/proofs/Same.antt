@@ -1,0 +1,134 @@
+-- Documents that are read as the same have the same head, declare the same, and say the same.
+use Rattle.std.proofs.Common.{◌≡◌, ◌≢◌, ℕ, Option, List, [], ◌∷◌, inl, inr, refl, sym, ◌∙◌, subst}
+use Rattle.std.specs.List.{filter, flat_map}
+use Rattle.std.specs.Prelude.{not}
+use Rattle.owl_doc.specs.Entities.{Declares, declarations}
+use Rattle.owl_doc.specs.Heads.{iri_in}
+use Rattle.owl_documents.specs.Documents.{DeclaresAs, IsSame, Parsed, Said, a_graph, an_ontology, head_in}
+use Rattle.owl_documents.specs.OneWay.{IsSameParsed}
+use Rattle.owl_kind.specs.declared.kind.Kind.{Kind}
+use Rattle.owl_kind.specs.Kinds.{Entity, IsDeclared}
+use Rattle.owl_tree.specs.Ontologies.{Head, IsSameHead, IsSameOntology, Ontology, OntologyName, canonical_list}
+use Rattle.owl_tree.specs.OntologyLaws.{same_ontology_is_equal_form, same_ontology_refl, same_ontology_sym}
+use Rattle.owl_tree.specs.Trees.{Tree}
+use Rattle.rdf_graph.specs.declared.triple.Triple.{Triple}
+use Rattle.rdf_normal.specs.DeclaredLaws.{declares_same}
+use Rattle.rdf_normal.specs.NormalForms.{is_about, normal_form, settled, spread}
+use Rattle.rdf_reverse.specs.Reverse.{Finds, FindsFirst, IsHeaderFault, IsSaid, IsUnsaid, Step, bad_header, no_header, of_depths, of_header, of_kinds, of_names, of_nodes, of_numbers, of_parts, of_reach, of_reifications, of_statements, of_weights, steps, two_headers}
+use Rattle.rdf_reverse.specs.ReverseLaws.{never_both, said_one_way, unsaid_one_way}
+use Rattle.rdf_reverse.specs.declared.fault.ReverseFault.{ReverseFault}
+use Rattle.rdf_reverse.specs.declared.fault.ReverseFault.TheVariants.{Memory}
+use Rattle.rdf_scans.specs.Outlines.{declarations as declared_by}
+use Rattle.owl_answer.specs.UnderKinds.{IsUnsaidUnder, SaysUnder}
+
+-- the normal form of an ontology depends on its canonical form, and declares the same
+same_declare : (a b : Ontology) → IsSameOntology a b → (kind : Kind) (iri : List ℕ) → Declares a kind iri → Declares b kind iri
+same_declare a b s kind iri h =
+    let forms = (same_ontology_is_equal_form a b).0 s in
+    let same : (normal_form a).axioms ≡ (normal_form b).axioms = λ i. axioms_of (s.head.name i) (forms i).axioms in
+    (declares_same b kind iri).0 (subst (λ (ts : List Tree). IsDeclared (declarations ts) kind iri) same ((declares_same a kind iri).1 h))
+  where
+    axioms_of : Option OntologyName → List Tree → List Tree
+    axioms_of name ts = settled (filter (λ t. not (is_about (iri_in name) t)) (canonical_list (flat_map spread ts)))
+
+pub head_back : (a b : Head) → IsSameHead a b → IsSameHead b a
+head_back a b s = record { name = sym s.name; imports = λ x. ((s.imports x).1, (s.imports x).0) }
+
+pub said_refl : (a : Said) → IsSame a a
+said_refl a = record { prefixes = λ i. a.prefixes; ontology = same_ontology_refl a.ontology }
+
+said_back : (a b : Said) → IsSame a b → IsSame b a
+said_back a b s = record { prefixes = sym s.prefixes; ontology = same_ontology_sym a.ontology b.ontology s.ontology }
+
+pub parsed_refl : (a : Parsed) → IsSameParsed a a
+parsed_refl (an_ontology a) = said_refl a
+parsed_refl (a_graph a) = record {
+  prefixes = λ i. a.prefixes;
+  triples = λ i. a.triples;
+  head = record { name = λ i. a.head.name; imports = λ x. (λ h. h, λ h. h) };
+}
+
+pub parsed_back : (a b : Parsed) → IsSameParsed a b → IsSameParsed b a
+parsed_back (an_ontology a) (an_ontology b) s = said_back a b s
+parsed_back (an_ontology a) (a_graph b) s = absurd s
+parsed_back (a_graph a) (an_ontology b) s = absurd s
+parsed_back (a_graph a) (a_graph b) s =
+    record { prefixes = sym s.prefixes; triples = sym s.triples; head = head_back a.head b.head s.head }
+
+pub same_head : (a b : Parsed) → IsSameParsed a b → IsSameHead (head_in a) (head_in b)
+same_head (an_ontology a) (an_ontology b) s = s.ontology.head
+same_head (an_ontology a) (a_graph b) s = absurd s
+same_head (a_graph a) (an_ontology b) s = absurd s
+same_head (a_graph a) (a_graph b) s = s.head
+
+pub declares_same_as : (a b : Parsed) → IsSameParsed a b → (kind : Kind) (iri : List ℕ) → DeclaresAs a kind iri → DeclaresAs b kind iri
+declares_same_as (an_ontology a) (an_ontology b) s kind iri h = same_declare a.ontology b.ontology s.ontology kind iri h
+declares_same_as (an_ontology a) (a_graph b) s kind iri h = absurd s
+declares_same_as (a_graph a) (an_ontology b) s kind iri h = absurd s
+declares_same_as (a_graph a) (a_graph b) s kind iri h =
+    subst (λ (ts : List Triple). IsDeclared (declared_by ts) kind iri) s.triples h
+
+-- what the one says the other says, up to structural equivalence
+pub record SaysSameAs (kinds : List Entity) (parsed : Parsed) (said : Said) : Type 0 where
+  pub other : Said
+  pub says : SaysUnder kinds parsed other
+  pub same : IsSame said other
+
+pub says_same : (kinds : List Entity) (a b : Parsed) → IsSameParsed a b → (said : Said) → SaysUnder kinds a said → SaysSameAs kinds b said
+says_same kinds (an_ontology a) (an_ontology b) s said h =
+    record { other = b; says = λ i. b; same = subst (λ (x : Said). IsSame x b) (sym h) s }
+says_same kinds (an_ontology a) (a_graph b) s said h = absurd s
+says_same kinds (a_graph a) (an_ontology b) s said h = absurd s
+says_same kinds (a_graph a) (a_graph b) s said h = record {
+  other = said;
+  says = (h.0 ∙ s.prefixes, subst (λ (ts : List Triple). IsSaid ts kinds said.ontology) s.triples h.1);
+  same = said_refl said;
+}
+
+pub unsaid_same : (kinds : List Entity) (a b : Parsed) → IsSameParsed a b → (fault : ReverseFault) → IsUnsaidUnder kinds a fault → IsUnsaidUnder kinds b fault
+unsaid_same kinds (an_ontology a) (an_ontology b) s fault h = absurd h
+unsaid_same kinds (an_ontology a) (a_graph b) s fault h = absurd s
+unsaid_same kinds (a_graph a) (an_ontology b) s fault h = absurd s
+unsaid_same kinds (a_graph a) (a_graph b) s fault h = subst (λ (ts : List Triple). IsUnsaid ts kinds fault) s.triples h
+
+-- a document says one thing under kinds, or there is one reason why not, and never both
+pub says_once : (kinds : List Entity) (parsed : Parsed) (a b : Said) → SaysUnder kinds parsed a → SaysUnder kinds parsed b → IsSame a b
+says_once kinds (an_ontology said) a b h k = subst (λ (x : Said). IsSame a x) (h ∙ sym k) (said_refl a)
+says_once kinds (a_graph read) a b h k =
+    record { prefixes = h.0 ∙ sym k.0; ontology = said_one_way read.triples kinds a.ontology b.ontology h.1 k.1 }
+
+pub unsaid_once : (kinds : List Entity) (parsed : Parsed) (e f : ReverseFault) → IsUnsaidUnder kinds parsed e → IsUnsaidUnder kinds parsed f → e ≡ f
+unsaid_once kinds (an_ontology said) e f h k = absurd h
+unsaid_once kinds (a_graph read) e f h k = unsaid_one_way read.triples kinds e f h k
+
+pub never_says_both : (kinds : List Entity) (parsed : Parsed) (said : Said) (fault : ReverseFault) → SaysUnder kinds parsed said → IsUnsaidUnder kinds parsed fault → ⊥
+never_says_both kinds (an_ontology other) said fault h k = k
+never_says_both kinds (a_graph read) said fault h k = never_both read.triples kinds said.ontology fault h.1 k
+
+-- want of memory is no fault of a graph
+no_header_fault : (g : List Triple) (f : ReverseFault) → IsHeaderFault g f → f ≡ Memory → ⊥
+no_header_fault g _ (no_header h) e = cc
+no_header_fault g _ (two_headers h) e = cc
+no_header_fault g _ (bad_header x h) e = cc
+
+never_found : (g : List Triple) (k : List Entity) (step : Step) → Finds g k step Memory → ⊥
+never_found g k of_kinds h = let e = h.1 in cc
+never_found g k of_header h = no_header_fault g Memory h refl
+never_found g k of_nodes h = h
+never_found g k of_reifications h = let e = h.3 in cc
+never_found g k of_names h = let e = h.3 in cc
+never_found g k of_reach h = let e = h.3 in cc
+never_found g k of_parts h = let e = h.1 in cc
+never_found g k of_statements h = let e = h.3 in cc
+never_found g k of_numbers h = let e = h.0 in cc
+never_found g k of_depths h = let e = h.2 in cc
+never_found g k of_weights h = let e = h.2 in cc
+
+never_first : (g : List Triple) (k : List Entity) (all : List Step) → FindsFirst g k all Memory → ⊥
+never_first g k [] h = h
+never_first g k (step ∷ more) (inl h) = never_found g k step h
+never_first g k (step ∷ more) (inr h) = never_first g k more h.1
+
+pub never_memory : (kinds : List Entity) (parsed : Parsed) (fault : ReverseFault) → IsUnsaidUnder kinds parsed fault → fault ≢ Memory
+never_memory kinds (an_ontology said) fault h = absurd h
+never_memory kinds (a_graph read) fault h = λ e. never_first read.triples kinds steps (subst (λ (f : ReverseFault). IsUnsaid read.triples kinds f) e h)

@@ -1,0 +1,14 @@
+use Rattle.std.proofs.Common.{subst, sym}
+use Rattle.std.proofs.lemmas.Result.{on_ok_weaker}
+use Rattle.owl_documents.specs.Documents.{parsed_of}
+use Rattle.owl_documents.specs.declared.document.Document.{Document}
+use Rattle.owl_answer.specs.KindsAt.{AddsOf}
+use Rattle.owl_answer.proofs.kinds.declare.Goals as goal
+
+pub returns-in-Ontology : goal.returns-in-Ontology
+returns-in-Ontology c =
+    on_ok_weaker c.declared.result (λ h. subst (λ (d : Document). AddsOf (parsed_of d) c.args.kinds.now c.declared.new.kinds) (sym c.in-Ontology.is) h) c.declared.ensures.ok
+
+pub returns-in-Graph : goal.returns-in-Graph
+returns-in-Graph c =
+    on_ok_weaker c.declare_graph.result (λ h. subst (λ (d : Document). AddsOf (parsed_of d) c.args.kinds.now c.declare_graph.new.kinds) (sym c.in-Graph.is) h) c.declare_graph.ensures

@@ -1,0 +1,11 @@
+use Rattle.std.proofs.lemmas.Result.{IfOk-weaker}
+use Rattle.owl_documents.specs.Documents.{said_of}
+use Rattle.owl_answer.specs.Answers.{outcome_of}
+use Rattle.owl_answer.specs.declared.answer.Answer.{Answer}
+use Rattle.owl_answer.proofs.Sayings.{in_turtle}
+use Rattle.owl_answer.proofs.telling.translate_in_turtle.Goals as goal
+
+pub returns : goal.returns
+returns c =
+    let is = c.notes.ensures.document in
+    IfOk-weaker c.translate_to_turtle.result _ _ (λ (a : Answer) h. in_turtle c.args.kinds.now (said_of c.args.main.now) (outcome_of a) is.ontology is.canonical h) c.translate_to_turtle.ensures

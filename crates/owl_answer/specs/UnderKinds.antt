@@ -1,0 +1,79 @@
+-- What documents say once the kinds of IRIs are known (Mapping to RDF Graphs, section 3).
+use Rattle.std.specs.Prelude.{◌≡◌, ◌≤◌, ℕ, List, Some, slice_get}
+use Rattle.owl_close.specs.Imports.{Reaches}
+use Rattle.owl_command.specs.Commands.{Request, compares, shows, translates}
+use Rattle.owl_documents.specs.Documents.{Parsed, Said, a_graph, an_ontology}
+use Rattle.owl_kind.specs.Kinds.{Entity}
+use Rattle.rdf_reverse.specs.Reverse.{IsSaid, IsUnsaid}
+use Rattle.rdf_reverse.specs.declared.fault.ReverseFault.{ReverseFault}
+use Rattle.owl_answer.specs.KindsAt.{AreClosureKinds, AreOwnKinds}
+use Rattle.owl_answer.specs.Outcome.{heads_in}
+
+-- what the document says under these kinds
+abbrev pub SaysUnder : List Entity → Parsed → Said → Type 0
+SaysUnder kinds (an_ontology said) other = other ≡ said
+SaysUnder kinds (a_graph read) other = (other.prefixes ≡ read.prefixes) × IsSaid read.triples kinds other.ontology
+
+-- why it says nothing under them
+abbrev pub IsUnsaidUnder : List Entity → Parsed → ReverseFault → Type 0
+IsUnsaidUnder kinds (an_ontology said) fault = ⊥
+IsUnsaidUnder kinds (a_graph read) fault = IsUnsaid read.triples kinds fault
+
+-- the document says something under these kinds
+abbrev pub SaysSome : List Entity → Parsed → Type 0
+SaysSome kinds parsed = (said : Said) × SaysUnder kinds parsed said
+
+-- what is asked for is of a main document
+abbrev pub IsOfMain : Request → Type 0
+IsOfMain (translates target partial names) = Unit {0}
+IsOfMain (shows partial names) = Unit {0}
+IsOfMain (compares first second) = ⊥
+
+-- The document at this place is read, under these kinds: each that the main one reaches under those of its closure, and each of two that are
+-- compared under its own.
+abbrev pub HasKinds : Request → List Parsed → ℕ → Parsed → List Entity → Type 0
+HasKinds (translates target partial names) documents place parsed kinds = Reaches (heads_in documents) place × AreClosureKinds documents kinds
+HasKinds (shows partial names) documents place parsed kinds = Reaches (heads_in documents) place × AreClosureKinds documents kinds
+HasKinds (compares first second) documents place parsed kinds = AreOwnKinds parsed kinds
+
+-- this document stands at this place, and is read under these kinds
+pub record IsReadUnder (request : Request) (documents : List Parsed) (place : ℕ) (parsed : Parsed) (kinds : List Entity) : Type 0 where
+  pub there : slice_get documents place ≡ Some parsed
+  pub under : HasKinds request documents place parsed kinds
+
+-- what the document at this place says under its kinds
+pub record SaysAt (request : Request) (documents : List Parsed) (place : ℕ) (said : Said) : Type 0 where
+  pub parsed : Parsed
+  pub kinds : List Entity
+  pub read : IsReadUnder request documents place parsed kinds
+  pub says : SaysUnder kinds parsed said
+
+-- why it says nothing under them
+pub record IsUnsaidAt (request : Request) (documents : List Parsed) (place : ℕ) (fault : ReverseFault) : Type 0 where
+  pub parsed : Parsed
+  pub kinds : List Entity
+  pub read : IsReadUnder request documents place parsed kinds
+  pub unsaid : IsUnsaidUnder kinds parsed fault
+
+-- the first document, in the order of their names, that says nothing, and why
+pub record IsFirstUnsaid (request : Request) (documents : List Parsed) (place : ℕ) (fault : ReverseFault) : Type 0 where
+  pub unsaid : IsUnsaidAt request documents place fault
+  pub first : (other : ℕ) (theirs : ReverseFault) → IsUnsaidAt request documents other theirs → place ≤ other
+
+-- each document that is read says something
+abbrev pub AllSay : Request → List Parsed → Type 0
+AllSay request documents = (place : ℕ) (parsed : Parsed) (kinds : List Entity) → IsReadUnder request documents place parsed kinds → SaysSome kinds parsed
+
+-- this holds of the main document, of the kinds that it is read under, and of what it says under them
+pub record HoldsOfMain (request : Request) (documents : List Parsed) (Holds : Parsed → List Entity → Said → Type 0) : Type 0 where
+  pub said : Said
+  pub main : SaysAt request documents 0 said
+  pub holds : Holds main.parsed main.kinds said
+
+-- this holds of what the first two documents say
+pub record HoldsOfTwo (request : Request) (documents : List Parsed) (Holds : Said → Said → Type 0) : Type 0 where
+  pub first : Said
+  pub second : Said
+  pub says_first : SaysAt request documents 0 first
+  pub says_second : SaysAt request documents 1 second
+  pub holds : Holds first second

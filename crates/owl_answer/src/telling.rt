@@ -1,0 +1,144 @@
+//! What is told of documents by what they say.
+
+ghost use Rattle.std.specs.Prelude.{◌≡◌, IfOk};
+ghost use Rattle.std.specs.Str.{encode_utf8_all};
+ghost use Rattle.fss_write.specs.Text.{text_of};
+ghost use Rattle.owl_command.specs.Commands.{request_of};
+ghost use Rattle.owl_command.specs.declared.command.Target.TheVariants.{Fss};
+ghost use Rattle.owl_doc.specs.Documents.{ontology_of};
+ghost use Rattle.owl_documents.specs.Documents.{parsed_of, said_of};
+ghost use Rattle.owl_answer.specs.Answers.{IsInTurtle, IsToldOfMain, IsTranslated, outcome_of};
+ghost use Rattle.owl_answer.specs.Outcome.{IsLimited, IsSuccess, functional_form, shown, translation};
+ghost use Rattle.owl_answer.specs.Runs.{ReadsIn};
+ghost use Rattle.owl_answer.specs.TurtleOutcome.{IsFunctionalTranslation};
+
+use crate::answer::{Answer, done_line, told, too_long_output};
+use crate::refusals::typing_refusal;
+use crate::summary::summary;
+use crate::turtle::translate_to_turtle;
+use fss_write::{WriteFault, write};
+use owl_characters::{MOST_BYTES, NoMemory, Text};
+use owl_command::{Command, Status, Target};
+use owl_doc::Doc;
+use owl_documents::Document;
+use owl_tree::Kinds;
+use std::alloc::Global;
+
+/// What is told of the main document, which says this under these kinds.
+pub fn tell_main(
+    alloc: Global,
+    command: &Command,
+    document: &Document,
+    kinds: &Kinds,
+    main: &Doc,
+) -> Result<Answer, NoMemory>
+    ensures { IfOk result (λ answer. IsToldOfMain (request_of command.now)
+        (parsed_of document.now) kinds.now (said_of main.now) (outcome_of answer)) }
+{
+    match command {
+        Command::Translate { target, .. } => translate(alloc, *target, document, kinds, main),
+        Command::Show { .. } => show(alloc, main),
+        // Two documents have no main one.
+        Command::Same { .. } => Err(NoMemory),
+    }
+}
+
+/// The translation of the main document.
+fn translate(
+    alloc: Global,
+    target: Target,
+    document: &Document,
+    kinds: &Kinds,
+    main: &Doc,
+) -> Result<Answer, NoMemory>
+    ensures { IfOk result (λ answer. IsTranslated target (parsed_of document.now) kinds.now
+        (said_of main.now) (outcome_of answer)) }
+{
+    match target {
+        Target::Fss => translate_in_functional(alloc, document, kinds, main),
+        Target::Ttl => translate_in_turtle(alloc, kinds, main),
+    }
+}
+
+/// The translation of the main document to Functional-Style Syntax, which says of
+/// what is written in it no more than was written.
+fn translate_in_functional(
+    alloc: Global,
+    document: &Document,
+    kinds: &Kinds,
+    main: &Doc,
+) -> Result<Answer, NoMemory>
+    ensures { IfOk result (λ answer. IsTranslated Fss (parsed_of document.now) kinds.now
+        (said_of main.now) (outcome_of answer)) }
+{
+    match document {
+        Document::Ontology(_) => translate_to_functional(alloc, main),
+        Document::Graph(_) => translate_typed(alloc, kinds, main),
+    }
+}
+
+/// The translation of what a graph says to Functional-Style Syntax.
+fn translate_typed(alloc: Global, kinds: &Kinds, main: &Doc) -> Result<Answer, NoMemory>
+    ensures outcome { IfOk result (λ answer.
+        IsFunctionalTranslation kinds.now (said_of main.now) (outcome_of answer)) }
+    ensures back { IfOk result (λ answer. IsSuccess answer.status →
+        ReadsIn Fss (encode_utf8_all answer.text) (functional_form (said_of main.now))) }
+{
+    match typing_refusal(alloc, kinds, main)? {
+        Some(refusal) => Ok(refusal),
+        None => translate_to_functional(alloc, main),
+    }
+}
+
+/// The answer with the text of a document.
+fn translated(alloc: Global, doc: &Doc, text: Text) -> Result<Answer, NoMemory>
+    requires { text ≡ text_of doc.now.prefixes (ontology_of doc.now) }
+    ensures outcome { IfOk result (λ answer. outcome_of answer ≡ translation (said_of doc.now)) }
+    ensures text { IfOk result (λ answer. answer.text ≡ text) }
+{
+    let line = done_line(alloc, doc.axioms().len() as u64, 0)?;
+    Ok(Answer {
+        status: Status::Done,
+        text,
+        line,
+    })
+}
+
+/// The translation of a document to Functional-Style Syntax.
+fn translate_to_functional(alloc: Global, doc: &Doc) -> Result<Answer, NoMemory>
+    ensures outcome { IfOk result (λ answer.
+        IsLimited (λ wanted. wanted ≡ translation (said_of doc.now)) (outcome_of answer)) }
+    ensures back { IfOk result (λ answer. IsSuccess answer.status →
+        ReadsIn Fss (encode_utf8_all answer.text) (functional_form (said_of doc.now))) }
+{
+    // What is known of every document.
+    doc.notes();
+    match write(alloc, doc) {
+        Ok(text) => translated(alloc, doc, text),
+        Err(WriteFault::TooLong) => too_long_output(alloc),
+        Err(WriteFault::Memory) => Err(NoMemory),
+    }
+}
+
+/// The translation of a document to Turtle.
+fn translate_in_turtle(alloc: Global, kinds: &Kinds, main: &Doc) -> Result<Answer, NoMemory>
+    ensures { IfOk result (λ answer.
+        IsInTurtle kinds.now (said_of main.now) (outcome_of answer)) }
+{
+    // What is known of every document.
+    main.notes();
+    translate_to_turtle(alloc, main, kinds)
+}
+
+/// What a document counts.
+fn show(alloc: Global, doc: &Doc) -> Result<Answer, NoMemory>
+    ensures { IfOk result (λ answer.
+        IsLimited (λ wanted. wanted ≡ shown (said_of doc.now)) (outcome_of answer)) }
+{
+    let text = summary(alloc, doc)?;
+    if MOST_BYTES < text.as_str().len() as u64 {
+        too_long_output(alloc)
+    } else {
+        told(alloc, Status::Done, text, "shown\n")
+    }
+}
