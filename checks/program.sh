@@ -103,6 +103,11 @@ printf 'Prefix(:=<http://e/>) Ontology(<http://e/o> <http://e/v> SubClassOf(:B :
 printf 'Ontology(Declaration(Class(owl:Class)))' >reserved.ofn
 printf 'Ontology(<http://e/o> SubClassOf(<http://e/A>))' >wrong.ofn
 printf 'Ontology(\377)' >bytes.ofn
+printf '@prefix : <http://e/> . @prefix owl: <http://www.w3.org/2002/07/owl#> . :o a owl:Ontology . :A a owl:Class . ' >graph.ttl
+{ cat graph.ttl && printf '_:x a owl:Class ; owl:complementOf :A .'; } >orphan.ttl
+{ cat graph.ttl && printf '_:x a owl:Class ; owl:complementOf :A . _:x :p "1" .'; } >untyped.ttl
+printf 'Prefix(:=<http://e/>) Ontology(<http://e/o> Declaration(Class(:A)))' >graph.ofn
+printf '<http://e/A> <http://e/p> <http://e/B> .' >headless.ttl
 printf 'Ontology(Import(<http://e/i>))' >import.ofn
 printf 'Ontology(<http://e/i>)' >imported.ofn
 printf 'Ontology(<http://e/f> Import(<http://e/j>) Import(<http://e/i>))' >far.ofn
@@ -209,6 +214,21 @@ call 'a class is not declared' 4 '' 'typing: Undeclared Class <http://e/B>: SubC
 ' translate --to ttl a.ofn
 call 'a name is reserved' 4 '' 'target: Reserved <http://www.w3.org/2002/07/owl#Class>: Declaration(Class(<http://www.w3.org/2002/07/owl#Class>))
 ' translate --to ttl reserved.ofn
+call 'a graph is translated' 0 "Prefix(:=<http://e/>)
+${four}Ontology(<http://e/o>
+Declaration(Class(:A))
+)
+" 'translated; axioms 1; absorbed 0
+' translate --to fss graph.ttl
+call 'a graph says the same as a text' 0 'same
+' 'same
+' same graph.ttl graph.ofn
+call 'a node is of no axiom' 3 '' 'orphan.ttl: Orphan _:x
+' translate --to fss orphan.ttl
+call 'a triple names what it may not' 3 '' 'untyped.ttl: Untyped _:x <http://e/p> "1"
+' translate --to ttl untyped.ttl
+call 'a graph without a header' 3 '' 'headless.ttl: NoHeader
+' show headless.ttl
 call '129 levels' 5 '' 'limit: Depth: deep.ofn
 ' translate --to fss deep.ofn
 call 'a cardinality of 2^64' 5 '' 'limit: Cardinality: large.ofn
