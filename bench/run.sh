@@ -3,13 +3,15 @@
 # peak of memory: bench/run.sh [PROGRAM], bin/owl if left out. RUNS is how often
 # each document is translated, of which the best counts; 3 if it is not set. A
 # document that takes more than LIMIT seconds is told so; 120 if it is not set.
-# TARGETS are the syntaxes that each is translated to; "fss ttl" if it is not set.
+# SOURCES are the suffixes of the documents, and TARGETS the syntaxes that each is
+# translated to; "ofn ttl" and "fss ttl" if they are not set.
 #
 # The times are those of /usr/bin/time, and K, M are thousands and millions.
 set -uo pipefail
 
 runs=${RUNS:-3}
 limit=${LIMIT:-120}
+sources=${SOURCES:-ofn ttl}
 targets=${TARGETS:-fss ttl}
 top=$(dirname -- "$(dirname -- "$(readlink -f -- "${BASH_SOURCE[0]}")")")
 room=$(mktemp -d)
@@ -99,11 +101,11 @@ write_strings() {
         for (i = 0; i < count; i++) printf \"AnnotationAssertion(rdfs:comment :A%d \\\"%s%010d\\\")\n\", i, filled, differ * i" -v count="$2" -v differ="$3"
 }
 
-# The seconds and kilobytes of the best of the runs to a target.
+# The seconds and kilobytes of the best of the runs from a source to a target.
 measure() {
     local best='' least='' seconds kilobytes
     for ((run = 0; run < runs; run++)); do
-        /usr/bin/time -f '%e %M' -o "$room/time" timeout "$limit" "$program" translate --to "$2" "$room/$1.ofn" >"$room/out" 2>"$room/note"
+        /usr/bin/time -f '%e %M' -o "$room/time" timeout "$limit" "$program" translate --to "$3" "$room/$1.$2" >"$room/out" 2>"$room/note"
         case $? in
         0) ;;
         124) return ;;
@@ -118,26 +120,31 @@ measure() {
     echo "$best $least"
 }
 
-# A line for a document and each target, with the growth since another document, if it is named.
+# A line for a document, each source and each target, with the growth since another document, if it is named.
 show() {
-    local target
-    for target in $targets; do
-        show_target "$1" "$target" "${2:-none}"
+    local source target
+    for source in $sources; do
+        if [[ $source == ttl ]]; then
+            "$program" translate --to ttl "$room/$1.ofn" >"$room/$1.ttl" 2>"$room/note" || fail "$1: $(<"$room/note")"
+        fi
+        for target in $targets; do
+            show_target "$1" "$source" "$target" "${2:-none}"
+        done
     done
-    rm -f -- "$room/$1.ofn"
+    rm -f -- "$room/$1.ofn" "$room/$1.ttl"
 }
 
 show_target() {
-    local name=$1 target=$2 before=$3 seconds kilobytes
-    read -r seconds kilobytes <<<"$(measure "$name" "$target")"
+    local name=$1 source=$2 target=$3 before=$4 seconds kilobytes
+    read -r seconds kilobytes <<<"$(measure "$name" "$source" "$target")"
     if [[ -z $seconds ]]; then
-        printf '%-26s %s not within %d s\n' "$name" "$target" "$limit"
+        printf '%-26s %s %s not within %d s\n' "$name" "$source" "$target" "$limit"
         return
     fi
-    results[$name $target]="$seconds $kilobytes"
-    awk -v name="$name" -v target="$target" -v bytes="$(stat -c %s "$room/$name.ofn")" -v now="$seconds $kilobytes" -v before="${results[$before $target]:-}" 'BEGIN {
+    results[$name $source $target]="$seconds $kilobytes"
+    awk -v name="$name" -v way="$source $target" -v bytes="$(stat -c %s "$room/$name.$source")" -v now="$seconds $kilobytes" -v before="${results[$before $source $target]:-}" 'BEGIN {
         split(now, n)
-        printf "%-26s %s %8.1f MB %8.2f s %8.1f MB", name, target, bytes / 1000000, n[1], n[2] / 1000
+        printf "%-26s %s %8.1f MB %8.2f s %8.1f MB", name, way, bytes / 1000000, n[1], n[2] / 1000
         if (split(before, b) && 0 < b[1]) printf "   %6.1f times %6.1f times", n[1] / b[1], n[2] / b[2]
         print ""
     }'
@@ -147,7 +154,7 @@ show_target() {
 program=$(readlink -f -- "${1:-$top/bin/owl}") && [[ -x $program ]] || fail "there is no program ${1:-bin/owl}"
 
 declare -A results=()
-printf '%-30s %11s %10s %11s   %12s %12s\n' document size time memory 'time grows' 'memory grows'
+printf '%-34s %11s %10s %11s   %12s %12s\n' document size time memory 'time grows' 'memory grows'
 write_classes 'classes 1K' 1000 && show 'classes 1K'
 write_classes 'classes 20K' 20000 && show 'classes 20K' 'classes 1K'
 write_classes 'classes 200K' 200000 && show 'classes 200K' 'classes 20K'
