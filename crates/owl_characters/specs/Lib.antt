@@ -14,3 +14,4 @@ pub mod IriLaws
 pub mod NameLaws
 pub mod LanguageTagLaws
 pub mod NameCharacterLaws
+pub mod ResultLaws

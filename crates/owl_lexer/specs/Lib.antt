@@ -33,4 +33,3 @@ pub mod GapTests
 pub mod GapTestLaws
 pub mod PatternLaws
 pub mod StopLaws
-pub mod ResultLaws

@@ -1,3 +1,4 @@
 pub mod Ascending
 pub mod AscendingLaws
 pub mod ArrangedLaws
+pub mod FilterLaws

@@ -1,5 +1,4 @@
 mod Numbering
-mod Passed
 mod Placing
 mod Reifying
 mod Saying

@@ -15,7 +15,7 @@ use Rattle.rdf_meaning.specs.declared.role.Role.{Role}
 use Rattle.rdf_meaning.specs.declared.role.Role.TheVariants as role
 use Rattle.rdf_meaning.specs.declared.word.Word.TheVariants as word
 use Rattle.rdf_meaning.specs.Kinds.{has_kind}
-use Rattle.rdf_meaning.specs.ListLaws.{from_filter, in_filter}
+use Rattle.owl_list.specs.FilterLaws.{from_filter, in_filter}
 use Rattle.rdf_meaning.specs.Nodes.{carries, carries_some, first_role, is_mixed, is_same, is_structural, marked_roles, marks_role, of_subject, role_of, roles_of, subjects_of}
 use Rattle.rdf_meaning.specs.NodeLaws.{from_subject, marked_subject, same_term}
 use Rattle.rdf_meaning.specs.Statements.{header_notes, header_words, headers, is_annotation_triple, is_axiom_predicate, notes_of}
@@ -63,7 +63,7 @@ unfolding roles_of marks_role
 header_marked g x e =
     in_filter (λ r. list_any (marks_role r) (of_subject g x)) marked_roles role.Header (7, omega arith, refl) (header_passes g x e)
 
-noted_or : (r : Role) → is_noted r ≡ true → (r ≡ role.Main) ⊎ (r ≡ role.Note)
+pub noted_or : (r : Role) → is_noted r ≡ true → (r ≡ role.Main) ⊎ (r ≡ role.Note)
 noted_or role.Main e = inl refl
 noted_or role.Note e = inr refl
 noted_or role.List e = cc

@@ -20,7 +20,8 @@ use Rattle.rdf_meaning.specs.declared.row.Site.TheVariants.{LinkedBy}
 use Rattle.rdf_meaning.specs.declared.row.Want.{Want}
 use Rattle.rdf_meaning.specs.declared.row.Want.TheVariants.{One, Many, Whole, Keys, Declared}
 use Rattle.rdf_meaning.specs.declared.word.Word.{Word}
-use Rattle.rdf_meaning.specs.ListLaws.{from_filter, only_one}
+use Rattle.owl_list.specs.FilterLaws.{from_filter}
+use Rattle.rdf_meaning.specs.ListLaws.{only_one}
 use Rattle.rdf_meaning.specs.Rows.{Row, axiom_rows}
 use Rattle.rdf_meaning.specs.RowShapes.{ways_behind, ways_of_rows}
 use Rattle.rdf_normal.specs.OneTriple.{lists_members}

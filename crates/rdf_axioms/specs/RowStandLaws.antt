@@ -17,7 +17,8 @@ use Rattle.rdf_meaning.specs.declared.row.Want.{Want}
 use Rattle.rdf_meaning.specs.declared.row.Want.TheVariants.{One, Keys}
 use Rattle.rdf_meaning.specs.declared.word.Word.{Word}
 use Rattle.rdf_meaning.specs.declared.word.Word.TheVariants as word
-use Rattle.rdf_meaning.specs.ListLaws.{in_filter, only_one, passes}
+use Rattle.owl_list.specs.FilterLaws.{in_filter}
+use Rattle.rdf_meaning.specs.ListLaws.{only_one, passes}
 use Rattle.rdf_meaning.specs.Rows.{Row, axiom_rows}
 use Rattle.rdf_meaning.specs.Words.{word_number}
 use Rattle.rdf_meaning.specs.Denotation.{axiom_predicates, axiom_types}

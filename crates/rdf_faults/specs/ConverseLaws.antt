@@ -10,7 +10,7 @@ use Rattle.owl_tree.specs.Trees.{Tree}
 use Rattle.rdf_graph.specs.declared.term.Term.{Term}
 use Rattle.rdf_graph.specs.declared.term.Term.TheVariants.{Iri, Blank, Literal}
 use Rattle.rdf_graph.specs.declared.triple.Triple.{Triple}
-use Rattle.rdf_meaning.specs.ListLaws.{from_filter}
+use Rattle.owl_list.specs.FilterLaws.{from_filter}
 use Rattle.rdf_meaning.specs.declared.role.Role.TheVariants as role
 use Rattle.rdf_meaning.specs.AxiomLaws.{nodes_have_axioms, triples_have_axioms, triples_have_notes}
 use Rattle.rdf_meaning.specs.Nodes.{is_mixed, is_same, is_structural, nodes_of, role_of}

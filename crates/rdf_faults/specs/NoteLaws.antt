@@ -8,7 +8,8 @@ use Rattle.owl_tree.specs.Ontologies.{Ontology}
 use Rattle.owl_tree.specs.Trees.{Tree}
 use Rattle.rdf_graph.specs.declared.term.Term.{Term}
 use Rattle.rdf_graph.specs.declared.triple.Triple.{Triple}
-use Rattle.rdf_meaning.specs.ListLaws.{in_filter, no_less, one_at_least}
+use Rattle.owl_list.specs.FilterLaws.{in_filter}
+use Rattle.rdf_meaning.specs.ListLaws.{no_less, one_at_least}
 use Rattle.rdf_meaning.specs.declared.role.Role.TheVariants as role
 use Rattle.rdf_meaning.specs.Nodes.{is_role, is_same, is_structural, nodes_of, of_subject, role_of}
 use Rattle.rdf_meaning.specs.NodeLaws.{in_subject, nodes_are, own_term, same_term}

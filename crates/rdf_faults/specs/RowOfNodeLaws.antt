@@ -8,7 +8,8 @@ use Rattle.owl_list.specs.AscendingLaws.{all_from, all_in, in_head}
 use Rattle.owl_kind.specs.Kinds.{Entity}
 use Rattle.rdf_graph.specs.declared.term.Term.{Term}
 use Rattle.rdf_graph.specs.declared.triple.Triple.{Triple}
-use Rattle.rdf_meaning.specs.ListLaws.{from_filter, only_one, passes, some_of, some_passes}
+use Rattle.owl_list.specs.FilterLaws.{from_filter}
+use Rattle.rdf_meaning.specs.ListLaws.{only_one, passes, some_of, some_passes}
 use Rattle.rdf_meaning.specs.declared.word.Word.{Word}
 use Rattle.rdf_meaning.specs.declared.word.Word.TheVariants as word
 use Rattle.rdf_meaning.specs.declared.row.Place.{Place}

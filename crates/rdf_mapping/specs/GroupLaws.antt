@@ -10,7 +10,7 @@ use Rattle.owl_list.specs.AscendingLaws.{ascending_holds, from_map, in_map}
 use Rattle.owl_tree.specs.Order.{tree_cmp}
 use Rattle.owl_tree.specs.OrderLaws.{only_equal_trees_tie, trees_total}
 use Rattle.owl_tree.specs.Trees.{Tree}
-use Rattle.rdf_meaning.specs.ListLaws.{from_filter, in_filter}
+use Rattle.owl_list.specs.FilterLaws.{from_filter, in_filter}
 use Rattle.rdf_mapping.specs.Notes.{Notes}
 use Rattle.rdf_mapping.specs.Graphs.{Group, axiom_notes, bare, bare_axioms, group_of, groups_of, sets_of}
 

@@ -14,7 +14,8 @@ use Rattle.rdf_graph.specs.Terms.{term_cmp}
 use Rattle.rdf_meaning.specs.declared.role.Role.TheVariants as role
 use Rattle.rdf_meaning.specs.declared.word.Word.TheVariants as word
 use Rattle.rdf_meaning.specs.Kinds.{has_kind}
-use Rattle.rdf_meaning.specs.ListLaws.{from_filter, in_filter, some_passes}
+use Rattle.owl_list.specs.FilterLaws.{from_filter, in_filter}
+use Rattle.rdf_meaning.specs.ListLaws.{some_passes}
 use Rattle.rdf_meaning.specs.NodeLaws.{from_subject, in_subject, own_term, same_term, subjects_are}
 use Rattle.rdf_meaning.specs.Nodes.{carries, carries_some, is_role, is_same, is_structural, of_subject, role_of, subjects_of}
 use Rattle.rdf_meaning.specs.RowLaws.{same_role}

@@ -8,7 +8,8 @@ use Rattle.rdf_graph.specs.declared.term.Term.{Term}
 use Rattle.rdf_graph.specs.declared.triple.Triple.{Triple}
 use Rattle.rdf_meaning.specs.declared.role.Role.{Role}
 use Rattle.rdf_meaning.specs.declared.role.Role.TheVariants as role
-use Rattle.rdf_meaning.specs.ListLaws.{from_filter, in_filter, passes, some_passes}
+use Rattle.owl_list.specs.FilterLaws.{from_filter, in_filter}
+use Rattle.rdf_meaning.specs.ListLaws.{passes, some_passes}
 use Rattle.rdf_meaning.specs.NodeLaws.{from_subject, in_subject}
 use Rattle.rdf_meaning.specs.Nodes.{carries, carries_some, is_own, is_structural, of_subject, role_of, words_of}
 use Rattle.rdf_meaning.specs.Statements.{notes_of}

@@ -9,7 +9,7 @@ use Rattle.rdf_graph.specs.declared.term.Term.{Term}
 use Rattle.rdf_graph.specs.declared.triple.Triple.{Triple}
 use Rattle.rdf_meaning.specs.declared.role.Role.TheVariants as role
 use Rattle.rdf_meaning.specs.declared.word.Word.TheVariants as word
-use Rattle.rdf_meaning.specs.ListLaws.{from_filter, in_filter}
+use Rattle.owl_list.specs.FilterLaws.{from_filter, in_filter}
 use Rattle.rdf_meaning.specs.NodeLaws.{nodes_are}
 use Rattle.rdf_meaning.specs.Nodes.{nodes_of, role_of}
 use Rattle.rdf_meaning.specs.Statements.{noters, notes_of, reifies}

@@ -13,7 +13,8 @@ use Rattle.rdf_meaning.specs.declared.role.Role.TheVariants as role
 use Rattle.rdf_meaning.specs.declared.word.Word.{Word}
 use Rattle.rdf_meaning.specs.declared.word.Word.TheVariants as word
 use Rattle.rdf_meaning.specs.Denotation.{facets_of}
-use Rattle.rdf_meaning.specs.ListLaws.{from_filter, in_filter, passes, some_passes}
+use Rattle.owl_list.specs.FilterLaws.{from_filter, in_filter}
+use Rattle.rdf_meaning.specs.ListLaws.{passes, some_passes}
 use Rattle.rdf_meaning.specs.NodeLaws.{from_subject, in_subject}
 use Rattle.rdf_meaning.specs.Nodes.{carries, chosen, first_role, is_facet, is_same, marked_roles, marks_role, of_subject, role_of, roles_of}
 use Rattle.rdf_meaning.specs.Words.{word_number}

@@ -18,7 +18,7 @@ use Rattle.rdf_meaning.specs.declared.row.Place.{Place}
 use Rattle.rdf_meaning.specs.declared.row.Place.TheVariants.{Subject}
 use Rattle.rdf_meaning.specs.declared.row.Want.{Want}
 use Rattle.rdf_meaning.specs.declared.row.Want.TheVariants.{One, Many, Whole, Keys, Declared, Mark, True}
-use Rattle.rdf_meaning.specs.ListLaws.{from_filter, in_filter}
+use Rattle.owl_list.specs.FilterLaws.{from_filter, in_filter}
 use Rattle.rdf_meaning.specs.RowShapes.{is_expression, kid_wants, ways, ways_behind, ways_of_rows}
 use Rattle.rdf_meaning.specs.Rows.{Row, node_rows}
 use Rattle.rdf_meaning.specs.ShapeLaws.{each_way_has_a_row}

@@ -23,9 +23,10 @@ use Rattle.rdf_meaning.specs.declared.row.Site.TheVariants.{Node, TypedBy, Other
 use Rattle.rdf_meaning.specs.declared.row.Want.{Want}
 use Rattle.rdf_meaning.specs.declared.word.Word.{Word}
 use Rattle.rdf_meaning.specs.declared.word.Word.TheVariants as word
-use Rattle.rdf_meaning.specs.Denotation.{Denotes, Fits, Holds, of_node, select, stands_at, times}
+use Rattle.rdf_meaning.specs.Denotation.{Fits, Holds, of_node, select, stands_at, times}
 use Rattle.rdf_meaning.specs.Denotation as denotation
-use Rattle.rdf_meaning.specs.ListLaws.{in_filter, passes}
+use Rattle.owl_list.specs.FilterLaws.{in_filter}
+use Rattle.rdf_meaning.specs.ListLaws.{passes}
 use Rattle.rdf_meaning.specs.NodeLaws.{one_word}
 use Rattle.rdf_meaning.specs.Nodes.{carries, chosen, first_role, is_facet, is_same, is_word, marked_roles, marks_role, role_of, says_type, type_iri, words_of}
 use Rattle.rdf_meaning.specs.RowLaws.{same_role}

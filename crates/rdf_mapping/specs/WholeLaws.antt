@@ -10,7 +10,8 @@ use Rattle.rdf_graph.specs.declared.term.Term.TheVariants.{Iri, Blank, Literal}
 use Rattle.rdf_graph.specs.declared.triple.Triple.{Triple}
 use Rattle.rdf_meaning.specs.declared.role.Role.{Role}
 use Rattle.rdf_meaning.specs.declared.role.Role.TheVariants as role
-use Rattle.rdf_meaning.specs.ListLaws.{from_filter, some_passes}
+use Rattle.owl_list.specs.FilterLaws.{from_filter}
+use Rattle.rdf_meaning.specs.ListLaws.{some_passes}
 use Rattle.rdf_meaning.specs.NodeLaws.{from_subject}
 use Rattle.rdf_meaning.specs.Nodes.{first_role, marked_roles, marks_role, of_subject, role_of, roles_of}
 use Rattle.rdf_mapping.specs.Forms.{Arcs, arc_nodes, blank, link, nodes, term_of}

@@ -15,7 +15,8 @@ use Rattle.rdf_meaning.specs.declared.row.Part.{Part}
 use Rattle.rdf_meaning.specs.declared.row.Place.{Place}
 use Rattle.rdf_meaning.specs.declared.row.Want.{Want}
 use Rattle.rdf_meaning.specs.declared.row.Want.TheVariants.{One, Many, Whole, Keys, Declared, Mark, True}
-use Rattle.rdf_meaning.specs.ListLaws.{from_filter, passes}
+use Rattle.owl_list.specs.FilterLaws.{from_filter}
+use Rattle.rdf_meaning.specs.ListLaws.{passes}
 use Rattle.rdf_meaning.specs.Rows.{Row, node_rows}
 use Rattle.rdf_mapping.specs.Drawing.{first_row, fit, kids_seen, row_for, singles, tags_of}
 use Rattle.rdf_mapping.specs.NodeDrawingLaws.{same_tag}

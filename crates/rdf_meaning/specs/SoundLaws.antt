@@ -14,7 +14,8 @@ use Rattle.owl_tree.specs.Trees.{Tree}
 use Rattle.rdf_graph.specs.declared.term.Term.{Term}
 use Rattle.rdf_graph.specs.declared.term.Term.TheVariants.{Iri, Blank, Literal}
 use Rattle.rdf_graph.specs.declared.triple.Triple.{Triple}
-use Rattle.rdf_meaning.specs.ListLaws.{Passing, from_filter, in_filter, one_at_least, only_one, passes, same_only, some_of, some_passes}
+use Rattle.owl_list.specs.FilterLaws.{from_filter, in_filter}
+use Rattle.rdf_meaning.specs.ListLaws.{Passing, one_at_least, only_one, passes, same_only, some_of, some_passes}
 use Rattle.rdf_meaning.specs.declared.role.Role.{Role}
 use Rattle.rdf_meaning.specs.declared.role.Role.TheVariants as role
 use Rattle.rdf_meaning.specs.declared.word.Word.{Word}

@@ -1,10 +1,11 @@
 -- The laws of what is needless.
-use Rattle.std.proofs.Common.{◌≡◌, ◌⊎◌, inl, inr, ℕ, zero, suc, Bool, true, false, ◌&&◌, ◌||◌, cond, not, List, [], ◌∷◌, filter, Contains, Option, None, Some, refl, ap, ◌∙◌, sym, subst}
+use Rattle.std.proofs.Common.{◌≡◌, ◌⊎◌, inl, inr, ℕ, zero, suc, Bool, true, false, ◌&&◌, ◌||◌, cond, not, List, [], ◌∷◌, filter, Contains, Option, None, Some, refl, ap, ◌∙◌}
 use Rattle.std.specs.declared.cmp.Ordering.{Ordering}
 use Rattle.std.specs.declared.cmp.Ordering.TheVariants.{Less, Equal, Greater}
 use Rattle.std.specs.List.{list_any}
 use Rattle.std.specs.Ordering.{eq_by_cmp, is_eq}
 use Rattle.std.proofs.lemmas.Cmp.{tied_itself}
+use Rattle.owl_list.specs.FilterLaws.{in_filter as passing_in, from_filter as passing_from}
 use Rattle.owl_list.specs.AscendingLaws.{in_cases, in_head, in_none, in_tail, nothing_ascends}
 use Rattle.owl_tree.specs.declared.tag.Tag.{Tag}
 use Rattle.owl_tree.specs.declared.tag.Tag.TheVariants as tag
@@ -105,33 +106,11 @@ any_if test (t ∷ ts) u m e =
     ]
 
 -- what passes a test
-in_by : (b : Bool) (t : Tree) (ts : List Tree) (u : Tree) → Contains ts u → Contains (cond b (t ∷ ts) ts) u
-in_by true t ts u m = in_tail t ts u m
-in_by false t ts u m = m
-
-head_by : (b : Bool) (t : Tree) (ts : List Tree) → b ≡ true → Contains (cond b (t ∷ ts) ts) t
-head_by true t ts e = in_head t ts
-head_by false t ts e = absurd (cc)
-
 pub in_filter : (test : Tree → Bool) (ts : List Tree) (u : Tree) → Contains ts u → test u ≡ true → Contains (filter test ts) u
-in_filter test [] u m e = absurd (in_none u m)
-in_filter test (t ∷ ts) u m e =
-    elim (in_cases t ts u m) [
-      | inl f ↦ subst (λ (v : Tree). Contains (filter test (t ∷ ts)) v) f (head_by (test t) t (filter test ts) (ap test f ∙ e))
-      | inr n ↦ in_by (test t) t (filter test ts) u (in_filter test ts u n e)
-    ]
-
-from_by : (b : Bool) (t : Tree) (ts : List Tree) (u : Tree) → Contains (cond b (t ∷ ts) ts) u → ((b ≡ true) × (t ≡ u)) ⊎ Contains ts u
-from_by true t ts u m = elim (in_cases t ts u m) [ inl e ↦ inl (refl, e) | inr n ↦ inr n ]
-from_by false t ts u m = inr m
+in_filter test ts u m e = passing_in test ts u m e
 
 pub from_filter : (test : Tree → Bool) (ts : List Tree) (u : Tree) → Contains (filter test ts) u → Contains ts u × (test u ≡ true)
-from_filter test [] u m = absurd (in_none u m)
-from_filter test (t ∷ ts) u m =
-    elim (from_by (test t) t (filter test ts) u m) [
-      | inl e ↦ (subst (λ (v : Tree). Contains (t ∷ ts) v) e.1 (in_head t ts), ap test (sym e.1) ∙ e.0)
-      | inr n ↦ let r = from_filter test ts u n in (in_tail t ts u r.0, r.1)
-    ]
+from_filter test ts u m = let kept = passing_from test ts u m in (kept.inside, kept.passes)
 
 pub not_true : (b : Bool) → not b ≡ true → b ≡ false
 not_true true e = cc

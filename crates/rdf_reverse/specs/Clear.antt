@@ -10,7 +10,7 @@ use Rattle.rdf_graph.specs.declared.triple.Triple.{Triple}
 use Rattle.rdf_meaning.specs.declared.role.Role.{Role}
 use Rattle.rdf_meaning.specs.declared.role.Role.TheVariants as role
 use Rattle.rdf_meaning.specs.Kinds.{HaveNoClash}
-use Rattle.rdf_meaning.specs.ListLaws.{from_filter}
+use Rattle.owl_list.specs.FilterLaws.{from_filter}
 use Rattle.rdf_meaning.specs.NodeLaws.{marked_subject, nodes_are, subjects_are}
 use Rattle.rdf_meaning.specs.Nodes.{is_blank, is_role, nodes_of, role_of, roles_of, subjects_of}
 use Rattle.rdf_meaning.specs.Statements.{InSteps, one_step, one_more, IsPartOfAxiom, Says, main_triples}

@@ -3,7 +3,6 @@ pub mod Down
 pub mod NodeNumbers
 pub mod CellTriples
 pub mod NotedUnder
-pub mod Passed
 pub mod CycleStops
 pub mod NodeForms
 pub mod ListLengths

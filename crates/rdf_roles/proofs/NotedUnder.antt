@@ -16,7 +16,8 @@ use Rattle.rdf_graph.specs.declared.term.Term.TheVariants.{Blank, Iri}
 use Rattle.rdf_graph.specs.declared.triple.Triple.{Triple}
 use Rattle.rdf_meaning.specs.declared.role.Role.TheVariants as role
 use Rattle.rdf_meaning.specs.declared.word.Word.TheVariants as word
-use Rattle.rdf_meaning.specs.ListLaws.{from_filter, in_filter, some_passes}
+use Rattle.owl_list.specs.FilterLaws.{from_filter, in_filter}
+use Rattle.rdf_meaning.specs.ListLaws.{some_passes}
 use Rattle.rdf_meaning.specs.Nodes.{chosen, is_own, is_same, is_structural, of_subject, role_of}
 use Rattle.rdf_meaning.specs.NodeLaws.{from_subject, same_term}
 use Rattle.rdf_meaning.specs.Statements.{IsDirectlyNotedUnder, notes_of, reifies}

@@ -12,7 +12,7 @@ use Rattle.rdf_meaning.specs.declared.role.Role.{Role}
 use Rattle.rdf_meaning.specs.declared.role.Role.TheVariants as role
 use Rattle.rdf_meaning.specs.Nodes.{is_blank, is_own, is_role, is_structural, nodes_of, role_of, subjects_of, words_of}
 use Rattle.rdf_meaning.specs.NodeLaws.{nodes_are}
-use Rattle.rdf_meaning.specs.ListLaws.{from_filter}
+use Rattle.owl_list.specs.FilterLaws.{from_filter}
 use Rattle.rdf_meaning.specs.Statements.{InSteps, IsDirectlyBelow, IsDirectlyNotedUnder}
 use Rattle.rdf_meaning.specs.Statements as ways
 use Rattle.rdf_faults.specs.Faults.{IsCyclic}

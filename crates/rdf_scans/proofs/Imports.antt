@@ -14,7 +14,7 @@ use Rattle.rdf_graph.specs.declared.term.Term.TheVariants.{Iri}
 use Rattle.rdf_graph.specs.declared.triple.Triple.{Triple}
 use Rattle.rdf_graph.specs.Terms.{term_cmp, triple_cmp}
 use Rattle.rdf_meaning.specs.declared.word.Word.TheVariants as word
-use Rattle.rdf_meaning.specs.ListLaws.{from_filter}
+use Rattle.owl_list.specs.FilterLaws.{from_filter}
 use Rattle.rdf_meaning.specs.NodeLaws.{from_subject}
 use Rattle.rdf_meaning.specs.Nodes.{carries, is_same, of_subject}
 use Rattle.rdf_meaning.specs.Words.{is_type, word_iri}

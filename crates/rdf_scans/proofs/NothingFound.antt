@@ -8,7 +8,8 @@ use Rattle.rdf_graph.specs.declared.term.Term.TheVariants.{Blank}
 use Rattle.rdf_graph.specs.declared.triple.Triple.{Triple}
 use Rattle.rdf_meaning.specs.declared.role.Role.{Role}
 use Rattle.rdf_meaning.specs.declared.role.Role.TheVariants as role
-use Rattle.rdf_meaning.specs.ListLaws.{from_filter, some_passes}
+use Rattle.owl_list.specs.FilterLaws.{from_filter}
+use Rattle.rdf_meaning.specs.ListLaws.{some_passes}
 use Rattle.rdf_meaning.specs.NodeLaws.{from_subject}
 use Rattle.rdf_meaning.specs.Nodes.{first_role, marked_roles, marks_role, of_subject, roles_of}
 use Rattle.rdf_scans.specs.declared.reading.Reading.{Reading}

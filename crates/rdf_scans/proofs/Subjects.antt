@@ -15,7 +15,8 @@ use Rattle.rdf_graph.specs.declared.triple.Triple.{Triple}
 use Rattle.rdf_graph.specs.TermLaws.{terms_total}
 use Rattle.rdf_graph.specs.Terms.{term_cmp, triple_cmp}
 use Rattle.rdf_meaning.specs.declared.word.Word.TheVariants as word
-use Rattle.rdf_meaning.specs.ListLaws.{from_filter, in_filter, some_passes}
+use Rattle.owl_list.specs.FilterLaws.{from_filter, in_filter}
+use Rattle.rdf_meaning.specs.ListLaws.{some_passes}
 use Rattle.rdf_meaning.specs.NodeLaws.{from_subject, in_subject, subjects_are, typed_object}
 use Rattle.rdf_meaning.specs.Nodes.{carries, is_same, of_subject, subjects_of, type_iri}
 use Rattle.rdf_meaning.specs.Statements.{headers}

@@ -4,7 +4,7 @@ use Rattle.std.proofs.Common.{refl}
 use Rattle.owl_kind.specs.Kinds.{Entity}
 use Rattle.rdf_graph.specs.declared.term.Term.{Term}
 use Rattle.rdf_graph.specs.declared.triple.Triple.{Triple}
-use Rattle.rdf_meaning.specs.ListLaws.{from_filter, in_filter}
+use Rattle.owl_list.specs.FilterLaws.{from_filter, in_filter}
 use Rattle.rdf_meaning.specs.Nodes.{is_structural}
 use Rattle.rdf_meaning.specs.Statements.{is_annotation_triple, is_header_triple, main_triples}
 use Rattle.rdf_scans.specs.declared.sorts.TripleSort.{TripleSort}

@@ -16,7 +16,7 @@ use Rattle.rdf_graph.specs.declared.term.Term.TheVariants.{Iri, Blank, Literal}
 use Rattle.rdf_graph.specs.declared.triple.Triple.{Triple}
 use Rattle.rdf_meaning.specs.declared.word.Word.{Word}
 use Rattle.rdf_meaning.specs.declared.word.Word.TheVariants as word
-use Rattle.rdf_meaning.specs.ListLaws.{from_filter, in_filter}
+use Rattle.owl_list.specs.FilterLaws.{from_filter, in_filter}
 use Rattle.rdf_meaning.specs.NodeLaws.{chosen_is, from_subject, in_chosen, in_subject}
 use Rattle.rdf_meaning.specs.Nodes.{carries, chosen, is_same, of_subject, type_iri}
 use Rattle.rdf_meaning.specs.Statements.{IsHeadOf, unnamed, named, header_notes, is_header_triple, only}

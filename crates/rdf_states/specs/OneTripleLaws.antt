@@ -15,7 +15,8 @@ use Rattle.rdf_meaning.specs.declared.row.Site.{Site}
 use Rattle.rdf_meaning.specs.declared.row.Site.TheVariants.{Node, TypedBy, OtherType, LinkedBy, OtherLink}
 use Rattle.rdf_meaning.specs.declared.row.Want.{Want}
 use Rattle.rdf_meaning.specs.declared.row.Want.TheVariants.{One, Many, Whole, Keys, Declared, Mark, True}
-use Rattle.rdf_meaning.specs.ListLaws.{from_filter, passes}
+use Rattle.owl_list.specs.FilterLaws.{from_filter}
+use Rattle.rdf_meaning.specs.ListLaws.{passes}
 use Rattle.rdf_meaning.specs.Rows.{Row, axiom_rows}
 use Rattle.rdf_normal.specs.OneTriple.{is_negative, is_one_triple, lists_members}
 use Rattle.rdf_mapping.specs.WrittenLaws.{first_in}

@@ -33,7 +33,8 @@ use Rattle.rdf_meaning.specs.Denotation.{Denotes, Holds, iri_leaf, of_triple, si
 use Rattle.rdf_meaning.specs.DenotationLaws.{IsOne, itself, with_row, one_is, parts_are, so}
 use Rattle.rdf_meaning.specs.Kinds.{HaveNoClash, has_kind}
 use Rattle.rdf_meaning.specs.KindLaws.{has_kind_is, no_shared}
-use Rattle.rdf_meaning.specs.ListLaws.{in_filter, same_only}
+use Rattle.owl_list.specs.FilterLaws.{in_filter}
+use Rattle.rdf_meaning.specs.ListLaws.{same_only}
 use Rattle.rdf_meaning.specs.RowLaws.{at_expression}
 use Rattle.rdf_meaning.specs.RowTests.{has_row_at}
 use Rattle.rdf_meaning.specs.Rows.{Row, axiom_rows}

@@ -18,7 +18,7 @@ use Rattle.owl_tree.specs.Trees.{Tree, Kids, leaf, node, no_kids, kid, kids_in, 
 use Rattle.rdf_graph.specs.declared.term.Term.TheVariants.{Blank}
 use Rattle.rdf_graph.specs.declared.triple.Triple.{Triple}
 use Rattle.rdf_meaning.specs.declared.role.Role.TheVariants as role
-use Rattle.rdf_meaning.specs.ListLaws.{from_filter, in_filter}
+use Rattle.owl_list.specs.FilterLaws.{from_filter, in_filter}
 use Rattle.rdf_meaning.specs.Nodes.{carries_some, role_of, words_of}
 use Rattle.rdf_meaning.specs.Statements.{notes_of}
 use Rattle.rdf_normal.specs.NeedlessLaws.{any_if, both_true, equal_trees, says_more_if, tree_is_itself}

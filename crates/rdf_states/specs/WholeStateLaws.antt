@@ -14,7 +14,7 @@ use Rattle.rdf_meaning.specs.declared.role.Role.TheVariants as role
 use Rattle.rdf_meaning.specs.Denotation.{of_node}
 use Rattle.rdf_meaning.specs.GroundLaws.{leads_grounded, no_cycle, sound_grounded}
 use Rattle.rdf_meaning.specs.Kinds.{has_kind}
-use Rattle.rdf_meaning.specs.ListLaws.{from_filter}
+use Rattle.owl_list.specs.FilterLaws.{from_filter}
 use Rattle.rdf_meaning.specs.NodeLaws.{from_subject, nodes_are}
 use Rattle.rdf_meaning.specs.Nodes.{carries_some, is_iri, is_own, is_role, is_same, is_structural, nodes_of, of_subject, role_of, words_of}
 use Rattle.rdf_meaning.specs.RowLaws.{own_role}

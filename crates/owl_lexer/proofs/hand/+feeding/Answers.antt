@@ -7,7 +7,7 @@ use Rattle.owl_characters.specs.Utf8Laws.{size_append}
 use Rattle.owl_lexer.specs.Giving.{Begun}
 use Rattle.owl_lexer.specs.Hands.{IsFrontOf, Takes, Refuses, begun_of}
 use Rattle.std.proofs.lemmas.Result.{IfErr-weaker, on_ok_weaker}
-use Rattle.owl_lexer.specs.ResultLaws.{passed}
+use Rattle.owl_characters.specs.ResultLaws.{passed}
 use Rattle.owl_lexer.proofs.Feeding.{all_front, gives_all, item_is, none_behind, parts_of, refuses_front, refuses_here, refuses_in, refuses_memory, room_left, takes_front, takes_held, takes_more, with_next}
 use Rattle.owl_lexer.proofs.hand.+feeding.Goals as goal
 

@@ -2,7 +2,7 @@
 use Rattle.std.proofs.Common.{rules, arith, ap, ◌∙◌, ◌≡◌, drop}
 use Rattle.owl_characters.specs.Utf8.{size}
 use Rattle.std.proofs.lemmas.Result.{IfErr-weaker}
-use Rattle.owl_lexer.specs.ResultLaws.{passed}
+use Rattle.owl_characters.specs.ResultLaws.{passed}
 use Rattle.owl_lexer.proofs.Feeding.{parts_of}
 use Rattle.owl_lexer.proofs.Finishing.{turns_bad, turns_finish, turns_memory, turns_more, turns_refused}
 use Rattle.owl_lexer.proofs.hand.finish.Goals as goal

@@ -2,7 +2,7 @@
 use Rattle.std.proofs.Common.{arith, refl}
 use Rattle.owl_lexer.specs.Sources.{begun_in}
 use Rattle.owl_lexer.proofs.Bytes.{ends_badly, ends_cut, ends_well, unfinished_of}
-use Rattle.owl_lexer.specs.ResultLaws.{passed}
+use Rattle.owl_characters.specs.ResultLaws.{passed}
 use Rattle.owl_lexer.proofs.Holds.{part_begins_none}
 use Rattle.owl_lexer.proofs.Tokens.{end_is, ends_pieces, ends_pieces_badly}
 use Rattle.owl_lexer.proofs.source.end.Goals as goal

@@ -2,7 +2,7 @@
 use Rattle.std.proofs.Common.{refl, sym, ◌∙◌}
 use Rattle.owl_lexer.proofs.Bytes.{fed_whole, refuses_bad, refuses_last, refuses_whole, takes_mark, takes_unfinished, takes_whole}
 use Rattle.std.proofs.lemmas.Result.{IfErr-weaker, on_ok_weaker}
-use Rattle.owl_lexer.specs.ResultLaws.{passed}
+use Rattle.owl_characters.specs.ResultLaws.{passed}
 use Rattle.owl_lexer.proofs.source.take.Goals as goal
 
 pub returns-then-passes-clause-ok : goal.returns-then-passes-clause-ok

@@ -3,7 +3,7 @@ use Rattle.std.proofs.Common.{rules, arith, ◌≡◌, ◌≤◌, ◌+◌, lengt
 use Rattle.std.proofs.lemmas.List.{length-take-le}
 use Rattle.owl_lexer.specs.Sources.{begun_in}
 use Rattle.owl_lexer.proofs.BytesFeeding.{refuses_in_bytes, takes_all_bytes, takes_more_bytes}
-use Rattle.owl_lexer.specs.ResultLaws.{passed}
+use Rattle.owl_characters.specs.ResultLaws.{passed}
 use Rattle.owl_lexer.proofs.Runs.{refuses_on, rest_length, takes_on}
 use Rattle.owl_lexer.proofs.Tokens.{end_is, refuses_piece, takes_piece}
 use Rattle.owl_lexer.proofs.source.take_all.Goals as goal

@@ -1,7 +1,7 @@
 use Rattle.std.proofs.Common.{refl, arith, ◌-◌}
 use Rattle.owl_characters.specs.Limit.{most_bytes}
 use Rattle.std.proofs.lemmas.Result.{IfErr-weaker}
-use Rattle.owl_lexer.specs.ResultLaws.{passed}
+use Rattle.owl_characters.specs.ResultLaws.{passed}
 use Rattle.owl_reader.proofs.Reporting.{first_always, front_fits, piece_fits, refuses_front}
 use Rattle.owl_reader.proofs.reader.read.Goals as goal
 

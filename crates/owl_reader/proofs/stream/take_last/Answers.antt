@@ -1,6 +1,6 @@
 use Rattle.std.proofs.Common.{rules}
 use Rattle.std.proofs.lemmas.Result.{IfErr-weaker, on_ok_weaker}
-use Rattle.owl_lexer.specs.ResultLaws.{passed}
+use Rattle.owl_characters.specs.ResultLaws.{passed}
 use Rattle.owl_reader.proofs.Streams.{all_taken, refused_last, stopped_last}
 use Rattle.owl_reader.proofs.stream.take_last.Goals as goal
 
