@@ -19,7 +19,8 @@ use Rattle.owl_answer.specs.Outcome.{Outcome, done_line, shown, translation}
 use Rattle.owl_answer.specs.Refusals.{two_kinds, undeclared, unsayable}
 use Rattle.owl_answer.specs.Summary.{count_line, name_lines}
 use Rattle.owl_answer.specs.Typing.{DeclareSame}
-use Rattle.owl_answer.specs.TypingLaws.{clash_once, not_all_typed, same_kinds_apart, same_kinds_clash, same_kinds_typed, same_kinds_untyped, same_ontology_typed, same_ontology_untyped, untyped_once}
+use Rattle.owl_kind.specs.OrderLaws.{clash_once}
+use Rattle.owl_answer.specs.TypingLaws.{not_all_typed, same_kinds_apart, same_kinds_clash, same_kinds_typed, same_kinds_untyped, same_ontology_typed, same_ontology_untyped, untyped_once}
 use Rattle.owl_answer.specs.TurtleOutcome.{IsFormTold, IsFunctionalTranslation, IsGraphTold, IsTold, IsTurtleTranslation, IsTyped, IsTypingRefusal, canonical_said, clashes, few, graph_translation, heavy, ill_typed, light, many, not_typed, ready, turtle_form, unsaid, untyped, well_typed}
 use Rattle.owl_answer.proofs.Wanting.{limited_more, limited_once}
 

@@ -1,11 +1,7 @@
 -- The laws of typing.
-use Rattle.std.proofs.Common.{◌∙◌, inl, inr, refl, subst, sym}
+use Rattle.std.proofs.Common.{◌∙◌, inl, inr, subst, sym}
 use Rattle.std.specs.Prelude.{◌≡◌, ℕ, List}
-use Rattle.std.specs.declared.cmp.Ordering.{Ordering}
-use Rattle.std.specs.declared.cmp.Ordering.TheVariants.{Less, Equal, Greater}
 use Rattle.std.specs.List.{AllByRecursion}
-use Rattle.owl_characters.specs.Order.{text_cmp}
-use Rattle.owl_characters.specs.OrderLaws.{same_texts, turned}
 use Rattle.owl_doc.specs.EntityLaws.{same_typing}
 use Rattle.owl_doc.specs.Entities.{IsFirstUndeclared}
 use Rattle.owl_kind.specs.declared.kind.Kind.{Kind}
@@ -93,12 +89,3 @@ same_kinds_clash kinds others iri same h =
 
 pub same_kinds_apart : (kinds others : List Entity) → DeclareSame kinds others → ((iri : List ℕ) → HasClash kinds iri → ⊥) → (iri : List ℕ) → HasClash others iri → ⊥
 same_kinds_apart kinds others same apart iri h = apart iri (clash_of_same others kinds (back kinds others same) iri h)
-
--- there is one first clash at most
-tied : (a b : List ℕ) (o : Ordering) → text_cmp a b ≡ o → (text_cmp a b ≡ Less → ⊥) → (text_cmp b a ≡ Less → ⊥) → a ≡ b
-tied a b Less e h k = absurd (h e)
-tied a b Equal e h k = same_texts a b e
-tied a b Greater e h k = absurd (k (turned a b e))
-
-pub clash_once : (kinds : List Entity) (iri other : List ℕ) → IsFirstClash kinds iri → IsFirstClash kinds other → iri ≡ other
-clash_once kinds iri other h k = tied iri other (text_cmp iri other) refl (k.first iri h.clash) (h.first other k.clash)

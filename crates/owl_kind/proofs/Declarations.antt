@@ -1,29 +1,30 @@
 -- What a table of marks declares.
 use Rattle.std.proofs.Common.{◌≡◌, ◌↔◌, ℕ, ◌⊎◌, inl, inr, true, cond, List, [], ◌∷◌, Option, Some, None, refl, sym, ap, ◌∙◌, subst, unwrap_or, arith}
 use Rattle.std.specs.Prelude.{Contains}
-use Rattle.std.specs.BTreeMap.{BTreeMap, IsOrdered, get, insert_entry, is_at}
-use Rattle.std.specs.List.{All, flat_map}
-use Rattle.std.specs.Map.{values_of}
-use Rattle.std.specs.Ordering.{is_eq}
-use Rattle.std.specs.Str.{encode_utf8_all}
+use Rattle.std.specs.List.{AllByRecursion, IsDistinct, flat_map}
+use Rattle.std.specs.Map.{keys_of, lookup, values_of}
 use Rattle.std.proofs.lemmas.Bool.{both_ways, cases_Bool, cond-false, cond-true, or_cases, or_left, or_right, false≢true}
-use Rattle.std.proofs.lemmas.Cmp.{tied_itself}
-use Rattle.std.proofs.lemmas.Map.Lookups.{CmpEqualImpliesEq, exact_bytes}
-use Rattle.std.proofs.lemmas.Map.Views.{All-values-insert_entry, btree_map_get_iff, tells_apart}
-use Rattle.std.proofs.lemmas.Str.{encodes_same}
-use Rattle.owl_characters.specs.Order.{text_cmp}
-use Rattle.owl_characters.specs.OrderLaws.{texts_total}
+use Rattle.std.proofs.lemmas.Map.Views.{Contains-from_lookup, lookup-from_Contains}
+use Rattle.std.proofs.lemmas.Cmp.{nat_list_eq_equiv}
+use Rattle.std.proofs.lemmas.Slice.Eq.{bytes_eq-Decides}
+use Rattle.indexmap.specs.IndexMap.{insert_entry}
+use Rattle.owl_characters.specs.Order.{text_eq}
 use Rattle.owl_kind.specs.declared.kind.Kind.{Kind}
 use Rattle.owl_kind.specs.declared.kind.Kind.TheVariants.{Class, Datatype, ObjectProperty, DataProperty, AnnotationProperty, Individual}
 use Rattle.owl_kind.specs.declared.marks.Marks.{Marks}
 use Rattle.owl_kind.specs.Kinds.{Entity, HasKind, IsDeclared, is_built_in}
-use Rattle.owl_kind.specs.Marks.{Entry, HasMark, IsTable, all_kinds, declared_as, declared_by, is_marked, is_of, marked, no_marks}
-use Rattle.owl_list.specs.AscendingLaws.{in_head, in_none}
+use Rattle.owl_kind.specs.Marks.{Entry, HasMark, IsTable, all_kinds, declared_as, declared_by, entities_of, is_marked, is_of, marked, marks_at, no_marks}
+use Rattle.owl_kind.specs.Order.{entity_cmp}
+use Rattle.owl_kind.specs.OrderLaws.{entities_total, only_equal_entities_tie}
+use Rattle.owl_list.specs.AscendingLaws.{ascending_holds, in_head, in_none}
 use Rattle.owl_kind.proofs.Found.{from_joined, joined_from, only}
 
--- texts that tie are one
-exact_texts : CmpEqualImpliesEq text_cmp
-exact_texts a b h = encodes_same a b (exact_bytes (encode_utf8_all a) (encode_utf8_all b) h)
+-- equal texts are one
+one_text : (a b : List ℕ) → text_eq a b ≡ true → a ≡ b
+one_text a b h = (bytes_eq-Decides a b).0 h
+
+itself : (a : List ℕ) → text_eq a a ≡ true
+itself a = (bytes_eq-Decides a a).1 refl
 
 one_of_all : (kind : Kind) → Contains all_kinds kind
 one_of_all Class = (0, omega arith, refl)
@@ -49,30 +50,31 @@ is_declared_as e kind t =
     let d : Entity = record { kind = kind; iri = e.0 } in
     subst (λ ds. Contains ds d) (sym (cond-true (is_marked e.1 kind) (d ∷ []) [] t)) (in_head d [])
 
+-- in order or not, the same is declared
+in_order : (es : List Entry) (d : Entity) → Contains (declared_by es) d ↔ Contains (entities_of es) d
+in_order es d = ascending_holds entity_cmp entities_total only_equal_entities_tie (entities_of es) d
+
 pub marks_of_declared : (es : List Entry) (kind : Kind) (iri : List ℕ) → IsDeclared (declared_by es) kind iri → (marks : Marks) × Contains es (iri, marks) × (is_marked marks kind ≡ true)
-unfolding declared_by
+unfolding entities_of
 marks_of_declared es kind iri h =
-    let outer = from_joined (λ e. flat_map (declared_as e) all_kinds) es (record { kind = kind; iri = iri }) h in
+    let outer = from_joined (λ e. flat_map (declared_as e) all_kinds) es (record { kind = kind; iri = iri }) ((in_order es (record { kind = kind; iri = iri })).0 h) in
     let inner = from_joined (declared_as outer.0) all_kinds (record { kind = kind; iri = iri }) outer.2 in
     let r = declared_is outer.0 inner.0 kind iri inner.2 in
     let e : Entry = outer.0 in
     (e.1, subst (λ i. Contains es (i, e.1)) r.2 outer.1, subst (λ k. is_marked e.1 k ≡ true) r.1 r.0)
 
 pub declared_of_marks : (es : List Entry) (kind : Kind) (e : Entry) → Contains es e → is_marked e.1 kind ≡ true → IsDeclared (declared_by es) kind e.0
-unfolding declared_by
+unfolding entities_of
 declared_of_marks es kind e h t =
     let d : Entity = record { kind = kind; iri = e.0 } in
-    joined_from (λ e. flat_map (declared_as e) all_kinds) es d e h
-    (joined_from (declared_as e) all_kinds d kind (one_of_all kind) (is_declared_as e kind t))
+    (in_order es d).1
+    (joined_from (λ e. flat_map (declared_as e) all_kinds) es d e h
+    (joined_from (declared_as e) all_kinds d kind (one_of_all kind) (is_declared_as e kind t)))
 
 pub none_declared : (es : List Entry) → es ≡ [] → (kind : Kind) (iri : List ℕ) → IsDeclared (declared_by es) kind iri → ⊥
 none_declared es e kind iri h =
     let r = marks_of_declared es kind iri h in
     in_none (iri, r.0) (subst (λ xs. Contains xs (iri, r.0)) e r.1)
-
--- the marks of an IRI in a table
-abbrev pub marks_at : BTreeMap (List ℕ) Marks → List ℕ → Marks
-marks_at table iri = unwrap_or (get text_cmp table iri) no_marks
 
 not_marked : (kind : Kind) → is_marked no_marks kind ≡ true → ⊥
 not_marked Class h = false≢true h
@@ -83,23 +85,23 @@ not_marked AnnotationProperty h = false≢true h
 not_marked Individual h = false≢true h
 
 -- an entry of the table has its marks
-pub marks_of_entry : (table : BTreeMap (List ℕ) Marks) → IsTable table → (e : Entry) → Contains table.entries e → marks_at table e.0 ≡ e.1
-marks_of_entry table t e h = ap (λ o. unwrap_or o no_marks) ((btree_map_get_iff texts_total exact_texts table t.ordered e.0 e.1).1 h)
+pub marks_of_entry : (es : List Entry) → IsTable es → (e : Entry) → Contains es e → marks_at es e.0 ≡ e.1
+marks_of_entry es t e h = ap (λ o. unwrap_or o no_marks) (lookup-from_Contains nat_list_eq_equiv e.0 e.1 es t.distinct h)
 
 -- what is marked has an entry
-entry_by : (table : BTreeMap (List ℕ) Marks) → IsTable table → (iri : List ℕ) (kind : Kind) (o : Option Marks) → get text_cmp table iri ≡ o → is_marked (unwrap_or o no_marks) kind ≡ true → Contains table.entries (iri, unwrap_or o no_marks)
-entry_by table t iri kind None e h = absurd (not_marked kind h)
-entry_by table t iri kind (Some marks) e h = (btree_map_get_iff texts_total exact_texts table t.ordered iri marks).0 e
+entry_by : (es : List Entry) (iri : List ℕ) (kind : Kind) (o : Option Marks) → lookup (text_eq iri) es ≡ o → is_marked (unwrap_or o no_marks) kind ≡ true → Contains es (iri, unwrap_or o no_marks)
+entry_by es iri kind None e h = absurd (not_marked kind h)
+entry_by es iri kind (Some marks) e h = Contains-from_lookup one_text iri marks es e
 
-pub marked_entry : (table : BTreeMap (List ℕ) Marks) → IsTable table → (iri : List ℕ) (kind : Kind) → is_marked (marks_at table iri) kind ≡ true → Contains table.entries (iri, marks_at table iri)
-marked_entry table t iri kind h = entry_by table t iri kind (get text_cmp table iri) refl h
+pub marked_entry : (es : List Entry) (iri : List ℕ) (kind : Kind) → is_marked (marks_at es iri) kind ≡ true → Contains es (iri, marks_at es iri)
+marked_entry es iri kind h = entry_by es iri kind (lookup (text_eq iri) es) refl h
 
-pub declared_at : (table : BTreeMap (List ℕ) Marks) → IsTable table → (kind : Kind) (iri : List ℕ) → IsDeclared (declared_by table.entries) kind iri ↔ (is_marked (marks_at table iri) kind ≡ true)
-declared_at table t kind iri = (
+pub declared_at : (es : List Entry) → IsTable es → (kind : Kind) (iri : List ℕ) → IsDeclared (declared_by es) kind iri ↔ (is_marked (marks_at es iri) kind ≡ true)
+declared_at es t kind iri = (
   (λ d.
-      let r = marks_of_declared table.entries kind iri d in
-      subst (λ marks. is_marked marks kind ≡ true) (sym (marks_of_entry table t (iri, r.0) r.1)) r.2),
-  (λ h. declared_of_marks table.entries kind (iri, marks_at table iri) (marked_entry table t iri kind h) h),
+      let r = marks_of_declared es kind iri d in
+      subst (λ marks. is_marked marks kind ≡ true) (sym (marks_of_entry es t (iri, r.0) r.1)) r.2),
+  (λ h. declared_of_marks es kind (iri, marks_at es iri) (marked_entry es iri kind h) h),
 )
 
 pub marked_here : (marks : Marks) (kind : Kind) → is_marked (marked marks kind) kind ≡ true
@@ -129,15 +131,15 @@ marked_only marks Individual Individual h = inr refl
 marked_only marks kind k h = inl h
 
 -- one more mark declares one thing more
-pub declared_after : (old new : BTreeMap (List ℕ) Marks) → IsTable old → IsTable new → (kind : Kind) (iri : List ℕ) → ((q : List ℕ) → get text_cmp new q ≡ cond (is_at (text_cmp iri) q) (Some (marked (marks_at old iri) kind)) (get text_cmp old q)) → (k : Kind) (i : List ℕ) → IsDeclared (declared_by new.entries) k i ↔ (IsDeclared (declared_by old.entries) k i ⊎ ((k ≡ kind) × (i ≡ iri)))
+pub declared_after : (old new : List Entry) → IsTable old → IsTable new → (kind : Kind) (iri : List ℕ) → ((q : List ℕ) → lookup (text_eq q) new ≡ cond (text_eq iri q) (Some (marked (marks_at old iri) kind)) (lookup (text_eq q) old)) → (k : Kind) (i : List ℕ) → IsDeclared (declared_by new) k i ↔ (IsDeclared (declared_by old) k i ⊎ ((k ≡ kind) × (i ≡ iri)))
 declared_after old new t u kind iri update k i =
     let before = declared_at old t k i in
     let after = declared_at new u k i in
-    elim (cases_Bool (is_at (text_cmp iri) i)) [
+    elim (cases_Bool (text_eq iri i)) [
       | inl b ↦
-          let e : iri ≡ i = tells_apart exact_texts iri i b in
+          let e : iri ≡ i = one_text iri i b in
           let w : marks_at new i ≡ marked (marks_at old i) kind =
-          ap (λ o. unwrap_or o no_marks) (update i ∙ cond-true (is_at (text_cmp iri) i) (Some (marked (marks_at old iri) kind)) (get text_cmp old i) b)
+          ap (λ o. unwrap_or o no_marks) (update i ∙ cond-true (text_eq iri i) (Some (marked (marks_at old iri) kind)) (lookup (text_eq i) old) b)
           ∙ ap (λ q. marked (marks_at old q) kind) e in (
             (λ d.
                 elim (marked_only (marks_at old i) kind k (subst (λ marks. is_marked marks k ≡ true) w (after.0 d))) [
@@ -154,29 +156,38 @@ declared_after old new t u kind iri update k i =
           )
       | inr f ↦
           let w : marks_at new i ≡ marks_at old i =
-          ap (λ o. unwrap_or o no_marks) (update i ∙ cond-false (is_at (text_cmp iri) i) (Some (marked (marks_at old iri) kind)) (get text_cmp old i) f) in (
+          ap (λ o. unwrap_or o no_marks) (update i ∙ cond-false (text_eq iri i) (Some (marked (marks_at old iri) kind)) (lookup (text_eq i) old) f) in (
             (λ d. inl (before.1 (subst (λ marks. is_marked marks k ≡ true) w (after.0 d)))),
             (λ d.
                 elim d [
                   | inl h ↦ after.1 (subst (λ marks. is_marked marks k ≡ true) (sym w) (before.0 h))
-                  | inr s ↦ absurd (both_ways (is_at (text_cmp iri) i) f (subst (λ q. is_at (text_cmp iri) q ≡ true) (sym s.1) (ap is_eq (tied_itself texts_total iri))))
+                  | inr s ↦ absurd (both_ways (text_eq iri i) f (subst (λ q. text_eq iri q ≡ true) (sym s.1) (itself iri)))
                 ]),
           )
     ]
 
-pub table_after : (old new : BTreeMap (List ℕ) Marks) → IsTable old → IsOrdered text_cmp new → (kind : Kind) (iri : List ℕ) → new.entries ≡ insert_entry text_cmp old.entries iri (marked (marks_at old iri) kind) → IsTable new
-table_after old new t o kind iri e = record {
-  ordered = o;
+all_inserted : (iri : List ℕ) (marks : Marks) → HasMark marks → (es : List Entry) → AllByRecursion HasMark (values_of es) → AllByRecursion HasMark (values_of (insert_entry text_eq es iri marks))
+all_inserted iri marks m [] a = (m, tt)
+all_inserted iri marks m (e ∷ es) a =
+    let HaveMarks : List Entry → Type 0 = λ xs. AllByRecursion HasMark (values_of xs) in
+    elim (cases_Bool (text_eq iri e.0)) [
+      | inl t ↦ subst HaveMarks (sym (cond-true (text_eq iri e.0) ((e.0, marks) ∷ es) (e ∷ insert_entry text_eq es iri marks) t)) (m, a.1)
+      | inr f ↦ subst HaveMarks (sym (cond-false (text_eq iri e.0) ((e.0, marks) ∷ es) (e ∷ insert_entry text_eq es iri marks) f)) (a.0, all_inserted iri marks m es a.1)
+    ]
+
+pub table_after : (old new : List Entry) → IsTable old → IsDistinct text_eq (keys_of new) → (kind : Kind) (iri : List ℕ) → new ≡ insert_entry text_eq old iri (marked (marks_at old iri) kind) → IsTable new
+table_after old new t d kind iri e = record {
+  distinct = d;
   marked =
-      subst (λ es. All HasMark (values_of es)) (sym e)
-      (All-values-insert_entry text_cmp iri (marked (marks_at old iri) kind) HasMark old.entries t.marked (kind, marked_here (marks_at old iri) kind));
+      subst (λ es. AllByRecursion HasMark (values_of es)) (sym e)
+      (all_inserted iri (marked (marks_at old iri) kind) (kind, marked_here (marks_at old iri) kind) old t.marked);
 }
 
-pub same_table : (old new : BTreeMap (List ℕ) Marks) → IsTable old → IsOrdered text_cmp new → new.entries ≡ old.entries → IsTable new
-same_table old new t o e = record { ordered = o; marked = subst (λ es. All HasMark (values_of es)) (sym e) t.marked }
+pub same_table : (old new : List Entry) → IsTable old → new ≡ old → IsTable new
+same_table old new t e = subst IsTable (sym e) t
 
 -- declared or built in, as the marks tell
-pub has_kind : (table : BTreeMap (List ℕ) Marks) → IsTable table → (iri : List ℕ) (kind : Kind) → (is_of (iri, marks_at table iri) kind ≡ true) ↔ HasKind (declared_by table.entries) kind iri
+pub has_kind : (table : List Entry) → IsTable table → (iri : List ℕ) (kind : Kind) → (is_of (iri, marks_at table iri) kind ≡ true) ↔ HasKind (declared_by table) kind iri
 has_kind table t iri kind =
     let declared = declared_at table t kind iri in (
       (λ h.

@@ -1,12 +1,15 @@
 -- How the declarations of IRIs are kept: each IRI once, with a mark for each kind as which it is declared.
-use Rattle.std.specs.Prelude.{◌≡◌, ℕ, Bool, false, true, ◌&&◌, ◌||◌, cond, List, [], ◌∷◌, Option, option_map}
-use Rattle.std.specs.BTreeMap.{BTreeMap, IsOrdered, values}
-use Rattle.std.specs.List.{All, find, flat_map}
-use Rattle.owl_characters.specs.Order.{text_cmp}
+use Rattle.std.specs.Prelude.{◌≡◌, ℕ, Bool, false, true, ◌&&◌, ◌||◌, cond, List, [], ◌∷◌, Option, map, unwrap_or}
+use Rattle.std.specs.List.{AllByRecursion, IsDistinct, filter, flat_map, reduce}
+use Rattle.std.specs.Map.{keys_of, lookup, values_of}
+use Rattle.std.specs.Ordering.{min_by_ordering}
+use Rattle.owl_characters.specs.Order.{text_cmp, text_eq}
 use Rattle.owl_kind.specs.declared.kind.Kind.{Kind}
 use Rattle.owl_kind.specs.declared.kind.Kind.TheVariants.{Class, Datatype, ObjectProperty, DataProperty, AnnotationProperty, Individual}
 use Rattle.owl_kind.specs.declared.marks.Marks.{Marks}
 use Rattle.owl_kind.specs.Kinds.{Entity, is_built_in}
+use Rattle.owl_kind.specs.Order.{entity_cmp}
+use Rattle.owl_list.specs.Ascending.{ascending}
 
 abbrev pub no_marks : Marks
 no_marks = record {
@@ -46,17 +49,25 @@ all_kinds = Class ∷ Datatype ∷ ObjectProperty ∷ DataProperty ∷ Annotatio
 abbrev pub declared_as : Entry → Kind → List Entity
 declared_as entry kind = cond (is_marked entry.1 kind) (record { kind = kind; iri = entry.0 } ∷ []) []
 
--- what the entries declare
-unfoldable pub declared_by : List Entry → List Entity
-declared_by entries = flat_map (λ entry. flat_map (declared_as entry) all_kinds) entries
+-- what the entries declare, entry by entry
+unfoldable pub entities_of : List Entry → List Entity
+entities_of entries = flat_map (λ entry. flat_map (declared_as entry) all_kinds) entries
+
+-- what the entries declare: each entity once, in order
+abbrev pub declared_by : List Entry → List Entity
+declared_by entries = ascending entity_cmp (entities_of entries)
 
 abbrev pub HasMark : Marks → Type 0
 HasMark marks = (kind : Kind) × (is_marked marks kind ≡ true)
 
--- the IRIs ascend, and each has a mark
-pub record IsTable (table : BTreeMap (List ℕ) Marks) : Type 0 where
-  pub ordered : IsOrdered text_cmp table
-  pub marked : All HasMark (values table)
+-- no IRI stands twice, and each has a mark
+pub record IsTable (entries : List Entry) : Type 0 where
+  pub distinct : IsDistinct text_eq (keys_of entries)
+  pub marked : AllByRecursion HasMark (values_of entries)
+
+-- the marks of an IRI, none where it has no entry
+abbrev pub marks_at : List Entry → List ℕ → Marks
+marks_at entries iri = unwrap_or (lookup (text_eq iri) entries) no_marks
 
 -- an IRI with these marks is of the kind
 abbrev pub is_of : Entry → Kind → Bool
@@ -73,6 +84,13 @@ clashes entry =
     || is_of_both entry ObjectProperty AnnotationProperty
     || is_of_both entry DataProperty AnnotationProperty
 
--- the first IRI whose marks clash
-abbrev pub first_that_clashes : List Entry → Option (List ℕ)
-first_that_clashes entries = option_map (λ entry. entry.0) (find clashes entries)
+-- the IRIs whose marks clash
+abbrev pub clashing : List Entry → List (List ℕ)
+clashing entries = map (λ entry. entry.0) (filter clashes entries)
+
+abbrev pub lesser : List ℕ → List ℕ → List ℕ
+lesser iri other = min_by_ordering (text_cmp iri other) iri other
+
+-- the least IRI whose marks clash
+abbrev pub least_that_clashes : List Entry → Option (List ℕ)
+least_that_clashes entries = reduce lesser (clashing entries)

@@ -1,42 +1,38 @@
 //! What IRIs are declared as.
 
-ghost use Rattle.std.specs.Prelude.{◌≡◌, ◌↔◌, ◌⊎◌, ℕ, List, [], IsTrue, IfSome, IsNone, OnOk, OnErr, unwrap_or, option_map};
-ghost use Rattle.std.specs.BTreeMap.{get};
-ghost use Rattle.std.specs.List.{find};
-ghost use Rattle.std.specs.Map.Iter.{deref, deref_pair};
-ghost use Rattle.owl_characters.specs.Order.{text_cmp};
+ghost use Rattle.std.specs.Prelude.{◌≡◌, ◌↔◌, ◌⊎◌, ℕ, List, [], IsTrue, IfSome, IsNone, OnOk, OnErr, option_map};
+ghost use Rattle.std.specs.Map.Iter.{deref};
 ghost use Rattle.owl_kind.specs.declared.kind.Kind.{Kind};
 ghost use Rattle.owl_kind.specs.Kinds.{IsDeclared, HasKind, HasClash, IsFirstClash};
 ghost use Rattle.owl_kind.specs.Order.{AreOrdered};
-ghost use Rattle.owl_kind.specs.Marks.{IsTable, clashes, declared_by, first_that_clashes, no_marks};
+ghost use Rattle.owl_kind.specs.Marks.{IsTable, declared_by, least_that_clashes, marks_at};
 
 use crate::kind::Kind;
 use crate::marks::Marks;
+use indexmap::IndexMap;
 use owl_characters::NoMemory;
 use rdf_terms::Iri;
 use std::alloc::{AllocError, Global};
-use std::collections::BTreeMap;
 use std::marker::Model;
 
 /// What IRIs are declared as (Structural Specification, section 5.8), which
-/// contracts see as a list of entities.
+/// contracts see as the list of these entities, each once, in order.
 #[derive(Debug, Drop)]
 pub struct Kinds {
     alloc: Global,
-    table: BTreeMap<Iri, Marks>,
+    table: IndexMap<Iri, Marks>,
 }
 
 impl Model for Kinds {
     ghost use Rattle.std.specs.Prelude.{List};
     ghost use Rattle.owl_kind.specs.Kinds.{Entity};
-    ghost use Rattle.owl_kind.specs.Order.{AreOrdered};
     ghost use Rattle.owl_kind.specs.Marks.{IsTable, declared_by};
 
     ghost Value = { List Entity };
 
     ghost view = { λ k. declared_by k.table.entries };
 
-    ghost invariant = { λ k. IsTable k.table };
+    ghost invariant = { λ k. IsTable k.table.entries };
 }
 
 impl Kinds {
@@ -46,7 +42,7 @@ impl Kinds {
     {
         Kinds {
             alloc,
-            table: BTreeMap::new(alloc),
+            table: IndexMap::new(alloc),
         }
     }
 
@@ -92,35 +88,32 @@ impl Kinds {
 }
 
 /// The marks of the IRI, none where it has no entry.
-fn marks_of(table: &BTreeMap<Iri, Marks>, iri: &Iri) -> Marks
-    ensures { result ≡ unwrap_or (get text_cmp table.now iri.now) no_marks }
+fn marks_of(table: &IndexMap<Iri, Marks>, iri: &Iri) -> Marks
+    ensures { result ≡ marks_at table.now.entries iri.now }
 {
     table.get(iri).copied().unwrap_or(Marks::NONE)
 }
 
 /// Marks the IRI with this kind too. At want of memory nothing changes.
-fn mark(table: &mut BTreeMap<Iri, Marks>, kind: Kind, iri: Iri) -> Result<(), AllocError>
-    requires { IsTable table.old }
+fn mark(table: &mut IndexMap<Iri, Marks>, kind: Kind, iri: Iri) -> Result<(), AllocError>
+    requires { IsTable table.old.entries }
     ensures ok { OnOk result ((k : Kind) (i : List ℕ) → IsDeclared (declared_by table.new.entries) k i
         ↔ (IsDeclared (declared_by table.old.entries) k i ⊎ ((k ≡ kind) × (i ≡ iri)))) }
     ensures err { OnErr result (table.new.entries ≡ table.old.entries) }
-    ensures table { IsTable table.new }
+    ensures table { IsTable table.new.entries }
 {
-    let marks = table.entry(iri)?.or_insert(Marks::NONE);
-    *marks = marks.with(kind);
+    let marks = marks_of(table, &iri).with(kind);
+    table.insert(iri, marks)?;
     Ok(())
 }
 
-/// The first IRI whose marks clash.
-fn first_clash(table: &BTreeMap<Iri, Marks>) -> Option<&Iri>
-    ensures { option_map deref result ≡ first_that_clashes table.now.entries }
+/// The least IRI whose marks clash.
+fn first_clash(table: &IndexMap<Iri, Marks>) -> Option<&Iri>
+    ensures { option_map deref result ≡ least_that_clashes table.now.entries }
 {
-    clashing_entry(table).map(|(iri, _)| iri)
-}
-
-/// The first entry whose marks clash.
-fn clashing_entry(table: &BTreeMap<Iri, Marks>) -> Option<(&Iri, &Marks)>
-    ensures { option_map deref_pair result ≡ find clashes table.now.entries }
-{
-    table.iter().find(|(iri, marks)| marks.clash(iri))
+    table
+        .iter()
+        .filter(|(iri, marks)| marks.clash(iri))
+        .map(|(iri, _)| iri)
+        .min()
 }

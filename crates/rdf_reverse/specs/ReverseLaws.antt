@@ -1,13 +1,10 @@
 -- What a graph says within the limits is one ontology, why it says none is one fault, and never both.
 use Rattle.std.specs.Prelude.{◌≡◌, ◌≤◌, ℕ, Bool, true, false, List, [], ◌∷◌, length}
 use Rattle.std.proofs.Common.{inl, inr, refl, sym, ap, ◌∙◌, subst, arith}
-use Rattle.std.specs.declared.cmp.Ordering.{Ordering}
 use Rattle.std.proofs.lemmas.Bool.{cases_Bool}
 use Rattle.rdf_faults.specs.Firsts.{IsFirst}
-use Rattle.std.specs.declared.cmp.Ordering.TheVariants.{Less, Equal, Greater}
-use Rattle.owl_characters.specs.Order.{text_cmp}
-use Rattle.owl_characters.specs.OrderLaws.{same_texts, turned}
-use Rattle.owl_kind.specs.Kinds.{Entity, IsFirstClash}
+use Rattle.owl_kind.specs.Kinds.{Entity}
+use Rattle.owl_kind.specs.OrderLaws.{clash_once}
 use Rattle.owl_tree.specs.Ontologies.{IsSameOntology, Ontology}
 use Rattle.rdf_graph.specs.declared.term.Term.{Term}
 use Rattle.rdf_graph.specs.declared.triple.Triple.{Triple}
@@ -79,15 +76,6 @@ module _ (g : List Triple) where
   node_once (BadNode a) (BadNode b) h i = ap (λ l. BadNode l) (first_once (IsBadNode g) (blank_nodes g) a b h.3 i.3)
   node_once (BadNode a) _ h i = absurd i
   node_once _ _ h i = absurd h
-
--- there is one first clash at most
-tied : (a b : List ℕ) (o : Ordering) → text_cmp a b ≡ o → (text_cmp a b ≡ Less → ⊥) → (text_cmp b a ≡ Less → ⊥) → a ≡ b
-tied a b Less e h k = absurd (h e)
-tied a b Equal e h k = same_texts a b e
-tied a b Greater e h k = absurd (k (turned a b e))
-
-pub clash_once : (kinds : List Entity) (iri other : List ℕ) → IsFirstClash kinds iri → IsFirstClash kinds other → iri ≡ other
-clash_once kinds iri other h k = tied iri other (text_cmp iri other) refl (k.first iri h.clash) (h.first other k.clash)
 
 module _ (g : List Triple) (k : List Entity) where
   -- a node, or a triple, that is the first of which something is wrong that the header tells
