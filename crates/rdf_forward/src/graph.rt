@@ -24,7 +24,7 @@ pub fn forward(alloc: Global, doc: &Doc) -> Result<Graph, GraphFault>
         → most_triples < length (graph_of (ontology_of doc.now)) }
 {
     let triples = triples_of(alloc, doc)?;
-    triples.finish()
+    triples.finish_without_index()
 }
 
 /// The triples of a document, as they are made.

@@ -1,5 +1,5 @@
 -- The index of a graph: how it is made, and what it tells.
-use Rattle.std.proofs.Common.{◌≡◌, ◌<◌, ◌≤◌, ◌+◌, ◌++◌, ◌∷◌, ◌↔◌, inl, inr, ℕ, List, [], length, Some, get_or, sym, ap, subst, arith}
+use Rattle.std.proofs.Common.{◌≡◌, ◌≢◌, ◌<◌, ◌≤◌, ◌+◌, ◌++◌, ◌∷◌, ◌↔◌, inl, inr, ℕ, List, [], length, Some, get_or, sym, ap, subst, arith}
 use Rattle.std.specs.Prelude.{Contains, option_map}
 use Rattle.std.specs.List.Sorted.{IsPermutation, IsSorted}
 use Rattle.std.specs.Option.{option_cmp}
@@ -10,7 +10,7 @@ use Rattle.std.proofs.lemmas.List.Sorted.{Contains-permutation, IsPermutation-sy
 use Rattle.std.proofs.lemmas.Option.{slice_get_past}
 use Rattle.rdf_graph.specs.declared.term.Term.{Term}
 use Rattle.rdf_graph.specs.declared.triple.Triple.{Triple}
-use Rattle.rdf_graph.specs.ByObject.{IsCountBefore, IsIndex, IsKept, place_cmp}
+use Rattle.rdf_graph.specs.ByObject.{IsCountBefore, IsIndex, place_cmp}
 use Rattle.rdf_graph.specs.Graphs.{HasNoneWith, IsGraph, IsNextWith, most_triples, object_at, set_of}
 use Rattle.rdf_graph.specs.GraphLaws.{set_is_graph}
 use Rattle.rdf_graph.specs.Terms.{HaveSubjects, term_cmp}
@@ -41,27 +41,29 @@ below_moved n first places all moved = λ place. (
 pub index_of : (triples : List Triple) (first places : List ℕ) → AreBelow (length triples) first → IsPermutation first places → IsSorted (place_cmp triples) places → IsIndex triples places
 index_of triples first places all moved up = record { sorted = up; of_all = below_moved (length triples) first places all moved }
 
--- what is kept in a graph
-pub kept : (triples arranged : List Triple) (places : List ℕ) → HaveSubjects triples → arranged ≡ set_of triples → length arranged ≤ most_triples → IsIndex arranged places → IsKept arranged places
-kept triples arranged places subjects is few index = record {
-  graph = subst IsGraph (sym is) (set_is_graph triples subjects (subst (λ (ts : List Triple). length ts ≤ most_triples) is few));
-  index = index;
-}
+-- triples that are put in order are a graph
+pub is_graph : (triples arranged : List Triple) → HaveSubjects triples → arranged ≡ set_of triples → length (set_of triples) ≤ most_triples → IsGraph arranged
+is_graph triples arranged subjects is few = subst IsGraph (sym is) (set_is_graph triples subjects few)
+
+-- a place at which something stands is one of them
+within : (triples : List Triple) (object : Term) (place : ℕ) → object_at triples place ≡ Some object → place < length triples
+within triples object place e =
+    elim (leb_tells (length triples) place) as (λ _. place < length triples) [
+      | inl h ↦ let none = ap (option_map (λ (t : Triple). t.object)) (slice_get_past triples place h.1) in cc
+      | inr h ↦ h.1
+    ]
+
+-- of the places from one on, up to another, none has the object
+pub record HasNoneUpTo (triples : List Triple) (object : Term) (from place : ℕ) : Type 0 where
+  pub behind : from ≤ place
+  pub none : (other : ℕ) → from ≤ other → other < place → object_at triples other ≢ Some object
 
 module _ {triples : List Triple} {places : List ℕ} {object : Term} {from count : ℕ} (index : IsIndex triples places) (counted : IsCountBefore triples places object from count) where
   ends : Ends (object_at triples) (option_cmp term_cmp) places (Some object) from count
   ends = record { total = options_total terms_total; same = only_equal_options_tie only_equal_terms_tie; up = index.sorted; point = counted.parted }
 
-  -- a place at which something stands is one of them
-  within : (place : ℕ) → object_at triples place ≡ Some object → place < length triples
-  within place e =
-      elim (leb_tells (length triples) place) as (λ _. place < length triples) [
-        | inl h ↦ let none = ap (option_map (λ (t : Triple). t.object)) (slice_get_past triples place h.1) in cc
-        | inr h ↦ h.1
-      ]
-
   held : (place : ℕ) → object_at triples place ≡ Some object → Contains places place
-  held place e = (index.of_all place).1 (within place e)
+  held place e = (index.of_all place).1 (within triples object place e)
 
   pub none_behind : length places ≤ count → HasNoneWith triples object from
   none_behind out place le e = let lt = none_left ends out place (held place e) e in absurd (omega arith)

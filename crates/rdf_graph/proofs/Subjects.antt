@@ -1,9 +1,13 @@
 -- The triples with a subject stand side by side.
-use Rattle.std.proofs.Common.{◌≡◌, ◌↔◌, ◌<◌, ◌≤◌, ◌+◌, inl, inr, ℕ, List, Option, None, Some, get_or, refl, sym, ap, ◌∙◌, subst, arith}
+use Rattle.std.proofs.Common.{◌≡◌, ◌↔◌, ◌<◌, ◌≤◌, ◌+◌, inl, inr, ℕ, List, Option, None, Some, true, false, get_or, length, refl, sym, ap, ◌∙◌, subst, arith}
 use Rattle.std.specs.Prelude.{IfSome, option_map, slice_get}
+use Rattle.std.specs.declared.cmp.Ordering.{Ordering}
 use Rattle.std.specs.declared.cmp.Ordering.TheVariants.{Less, Equal, Greater}
+use Rattle.std.specs.List.{AllWithin}
 use Rattle.std.specs.List.Sorted.{IsPartitionedBy, IsSortedByKey}
 use Rattle.std.specs.Ordering.{is_le, is_lt, ordering_reverse}
+use Rattle.std.proofs.lemmas.Bool.{cases_Bool, true≢false}
+use Rattle.std.proofs.lemmas.List.{get_or_default}
 use Rattle.std.proofs.lemmas.Bool.Decides.{leb_tells}
 use Rattle.std.proofs.lemmas.Cmp.{tied_itself}
 use Rattle.std.proofs.lemmas.Map.Keys.{Less-from_sorted}
@@ -29,6 +33,58 @@ subjects_below triples term up = parted_below (λ (t : Triple). t.subject) term_
 
 pub subjects_up_to : (triples : List Triple) (term : Term) → IsAscending triple_cmp triples → IsPartitionedBy (λ t. is_le (term_cmp t.subject term)) triples
 subjects_up_to triples term up = parted_up_to (λ (t : Triple). t.subject) term_cmp terms_total triples (sorted_by_subject triples up) term
+
+-- the first triples have this subject or a lesser one
+abbrev pub AreUpTo : Term → ℕ → List Triple → Type 0
+AreUpTo term count triples = AllWithin (λ t. is_le (term_cmp t.subject term) ≡ true) triples 0 count
+
+less_is_le : (o : Ordering) → is_lt o ≡ true → is_le o ≡ true
+less_is_le Less h = refl
+less_is_le Equal h = cc
+less_is_le Greater h = cc
+
+pub below_are_up_to : (triples : List Triple) (term : Term) (count : ℕ) → IsCountBelow term count triples → AreUpTo term count triples
+below_are_up_to triples term count h = λ k d low lt. less_is_le _ (h.parted.0 k d low lt)
+
+-- by the order of the term and the subject at the place
+not_less : (o p : Ordering) → o ≡ ordering_reverse p → is_lt o ≡ false → is_le p ≡ true
+not_less o Less e h = refl
+not_less o Equal e h = refl
+not_less o Greater e h = cc
+
+less_is_not_le : (o p : Ordering) → o ≡ ordering_reverse p → is_lt o ≡ true → is_le p ≡ false
+less_is_not_le o Less e h = cc
+less_is_not_le o Equal e h = cc
+less_is_not_le o Greater e h = refl
+
+module _ (triples : List Triple) (term : Term) (count : ℕ) (t : Triple) (within : count < length triples) (is : t ≡ get_or triples count t) (up_to : AreUpTo term count triples) where
+  here : (d : Triple) → get_or triples count d ≡ t
+  here d = get_or_default triples count d t within ∙ sym is
+
+  pub one_more_up_to : is_lt (term_cmp term t.subject) ≡ false → AreUpTo term (count + 1) triples
+  one_more_up_to h = λ k d low lt.
+      elim (leb_tells count k) as (λ _. is_le (term_cmp (get_or triples k d).subject term) ≡ true) [
+        | inl le ↦
+            let same : k ≡ count = omega (arith, le.1, lt) in
+            subst (λ p. is_le (term_cmp (get_or triples p d).subject term) ≡ true) (sym same)
+            (subst (λ u. is_le (term_cmp u.subject term) ≡ true) (sym (here d)) (not_less _ _ (terms_total.antisymm term t.subject) h))
+        | inr less ↦ up_to k d low less.1
+      ]
+
+  pub counted_up_to : IsAscending triple_cmp triples → is_lt (term_cmp term t.subject) ≡ true → IsCountUpTo term count triples
+  counted_up_to up h = record {
+    bound = omega (arith, within);
+    parted = (
+      up_to,
+      λ k d le lt.
+          elim (cases_Bool (is_le (term_cmp (get_or triples k d).subject term))) [
+            | inl up_here ↦
+                let earlier = subjects_up_to triples term up count k d le lt up_here in
+                absurd (true≢false (sym (subst (λ u. is_le (term_cmp u.subject term) ≡ true) (here d) earlier) ∙ less_is_not_le _ _ (terms_total.antisymm term t.subject) h))
+            | inr beyond ↦ beyond
+          ],
+    );
+  }
 
 -- a subject at a place is that of a triple
 has_subject : (o : Option Triple) (s : Term) → option_map (λ t. t.subject) o ≡ Some s → (t : Triple) × (o ≡ Some t) × (t.subject ≡ s)

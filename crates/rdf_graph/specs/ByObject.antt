@@ -7,7 +7,7 @@ use Rattle.std.specs.Ordering.{is_lt, nat_cmp, on, ordering_then, then_cmp}
 use Rattle.rdf_graph.specs.declared.by_object.Ranked.{Ranked}
 use Rattle.rdf_graph.specs.declared.term.Term.{Term}
 use Rattle.rdf_graph.specs.declared.triple.Triple.{Triple}
-use Rattle.rdf_graph.specs.Graphs.{IsGraph, object_at}
+use Rattle.rdf_graph.specs.Graphs.{object_at}
 use Rattle.rdf_graph.specs.Terms.{term_cmp}
 
 -- by object, places of no triple first, and then by place
@@ -32,8 +32,3 @@ pub record IsCountBefore (triples : List Triple) (places : List ℕ) (object : T
 pub record IsIndex (triples : List Triple) (places : List ℕ) : Type 0 where
   pub sorted : IsSorted (place_cmp triples) places
   pub of_all : (place : ℕ) → Contains places place ↔ (place < length triples)
-
--- a graph, and the places of its triples by object
-pub record IsKept (triples : List Triple) (places : List ℕ) : Type 0 where
-  pub graph : IsGraph triples
-  pub index : IsIndex triples places

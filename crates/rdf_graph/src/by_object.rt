@@ -14,15 +14,11 @@ use std::alloc::{AllocError, Global};
 use std::cmp::Ordering;
 
 /// The places of all triples, by object and then by place.
-pub fn places_by_object(
-    alloc: Global,
-    triples: &[Triple],
-    fronts: &Fronts,
-) -> Result<Vec<u32>, AllocError>
+pub fn places_by_object(alloc: Global, triples: &[Triple]) -> Result<Vec<u32>, AllocError>
     requires { length triples.now ≤ most_triples }
     ensures { IfOk result (λ places. IsIndex triples.now places.items) }
 {
-    let mut places = places_by_rank(alloc, triples, fronts)?;
+    let mut places = places_by_rank(alloc, triples, &Fronts::of_objects(triples))?;
     // What is in order already is only gone through.
     order(triples, &mut places);
     Ok(places)
@@ -40,6 +36,20 @@ pub fn next_place(triples: &[Triple], places: &[u32], object: &Term, from: usize
     } else {
         None
     }
+}
+
+/// The next place, from this one on, of a triple with this object, one triple
+/// after the other.
+pub fn next_with(triples: &[Triple], object: &Term, from: usize) -> Option<usize>
+    ensures some { IfSome result (λ place. IsNextWith triples.now object.now from place) }
+    ensures none { IsNone result ↔ HasNoneWith triples.now object.now from }
+{
+    for place in from..triples.len() {
+        if has_object(triples, place, object) {
+            return Some(place);
+        }
+    }
+    None
 }
 
 /// Whether the triple at this place has this object.

@@ -1,6 +1,6 @@
 //! Triples as they come.
 
-ghost use Rattle.std.specs.Prelude.{◌≡◌, ◌↔◌, ◌<◌, ◌≤◌, ◌++◌, ◌∷◌, [], length, IfOk, IsErrOf, OnOk, OnErr};
+ghost use Rattle.std.specs.Prelude.{◌≡◌, ◌↔◌, ◌<◌, ◌≤◌, ◌++◌, ◌∷◌, [], length, IfErr, IfOk, IsErrOf, OnOk, OnErr};
 ghost use Rattle.std.specs.List.Sorted.{IsPermutation};
 ghost use Rattle.rdf_graph.specs.Graphs.{most_triples, set_of};
 ghost use Rattle.rdf_graph.specs.Terms.{IsSubject};
@@ -59,22 +59,47 @@ impl Gather {
     }
 
     /// The graph of the triples, which is the set of them (RDF 1.1 Concepts and
-    /// Abstract Syntax, section 3). `TooMany` exactly where they are more than
-    /// 2^24, each counted once, whatever memory there is.
+    /// Abstract Syntax, section 3), with an index by object. `TooMany` exactly where
+    /// they are more than 2^24, each counted once, whatever memory there is.
     pub fn finish(self) -> Result<Graph, GraphFault>
         ensures ok { IfOk result (λ graph. graph ≡ set_of self) }
         ensures too_many { IsErrOf result GraphFault.TooMany
             ↔ (most_triples < length (set_of self)) }
     {
-        let mut triples = self.triples;
-        let (subjects, objects) = Fronts::of(&triples);
-        order(&mut triples, &subjects);
-        if MOST_TRIPLES < triples.len() {
-            return Err(GraphFault::TooMany);
-        }
-        let by_object = places_by_object(self.alloc, &triples, &objects)?;
-        Ok(Graph { triples, by_object })
+        let triples = set_of(self.triples)?;
+        let by_object = Some(places_by_object(self.alloc, &triples)?);
+        Ok(Graph { by_object, triples })
     }
+
+    /// The same graph without an index, so `Graph::with_object` looks at one triple
+    /// after the other.
+    pub fn finish_without_index(self) -> Result<Graph, GraphFault>
+        ensures ok { IfOk result (λ graph. graph ≡ set_of self) }
+        ensures too_many { IsErrOf result GraphFault.TooMany
+            ↔ (most_triples < length (set_of self)) }
+    {
+        Ok(Graph {
+            by_object: None,
+            triples: set_of(self.triples)?,
+        })
+    }
+}
+
+/// The triples in ascending order, each once. `TooMany` where they are more than
+/// 2^24.
+fn set_of(triples: Vec<Triple>) -> Result<Vec<Triple>, GraphFault>
+    ensures ok { IfOk result (λ set. set.items ≡ set_of triples.items) }
+    ensures few { OnOk result (length (set_of triples.items) ≤ most_triples) }
+    ensures too_many { IfErr result (λ fault. (fault ≡ GraphFault.TooMany)
+        × (most_triples < length (set_of triples.items))) }
+{
+    let mut triples = triples;
+    let fronts = Fronts::of_subjects(&triples);
+    order(&mut triples, &fronts);
+    if MOST_TRIPLES < triples.len() {
+        return Err(GraphFault::TooMany);
+    }
+    Ok(triples)
 }
 
 /// Puts the triples in ascending order, each once.

@@ -9,7 +9,7 @@ ghost use Rattle.rdf_graph.specs.BySubject.{IsCountBelow, IsCountUpTo};
 ghost use Rattle.rdf_graph.specs.Graphs.{HasNoneWith, IsGraph, IsNextWith, subject_at};
 ghost use Rattle.rdf_graph.specs.Terms.{IsSubject, term_cmp, triple_cmp};
 
-use crate::by_object::next_place;
+use crate::by_object::{next_place, next_with};
 use crate::term::Term;
 use crate::triple::Triple;
 use std::alloc::Global;
@@ -24,7 +24,7 @@ pub const MOST_TRIPLES: usize = 1 << 24;
 pub struct Graph {
     // Let go before the triples, whose many small texts the allocator joins when a
     // large block comes back.
-    pub(crate) by_object: Vec<u32>,
+    pub(crate) by_object: Option<Vec<u32>>,
     pub(crate) triples: Vec<Triple>,
 }
 
@@ -34,11 +34,14 @@ impl Model for Graph {
 
     ghost Value = { List Triple };
 
-    ghost use Rattle.rdf_graph.specs.ByObject.{IsKept};
+    ghost use Rattle.std.specs.Prelude.{IfSome};
+    ghost use Rattle.rdf_graph.specs.ByObject.{IsIndex};
+    ghost use Rattle.rdf_graph.specs.Graphs.{IsGraph};
 
     ghost view = { λ g. g.triples.items };
 
-    ghost invariant = { λ g. IsKept g.triples.items g.by_object.items };
+    ghost invariant = { λ g. IsGraph g.triples.items
+        × IfSome g.by_object (λ places. IsIndex g.triples.items places.items) };
 }
 
 impl Graph {
@@ -48,7 +51,7 @@ impl Graph {
     {
         Graph {
             triples: Vec::new(alloc),
-            by_object: Vec::new(alloc),
+            by_object: None,
         }
     }
 
@@ -83,10 +86,8 @@ impl Graph {
         ensures behind { (place : ℕ) → result.1 ≤ place →
             IfSome (subject_at self.now place) (λ subject. term_cmp term.now subject ≡ Less) }
     {
-        (
-            count_below(&self.triples, term),
-            count_up_to(&self.triples, term),
-        )
+        let below = count_below(&self.triples, term);
+        (below, end_of_subject(&self.triples, term, below))
     }
 
     /// The triples with this subject, in order. Takes no memory.
@@ -105,13 +106,16 @@ impl Graph {
         &self.triples
     }
 
-    /// The next place, from this one on, of a triple with this object. Takes no
-    /// memory.
+    /// The next place, from this one on, of a triple with this object, by halving
+    /// where the graph has an index. Takes no memory.
     pub fn with_object(&self, term: &Term, from: usize) -> Option<usize>
         ensures some { IfSome result (λ place. IsNextWith self.now term.now from place) }
         ensures none { IsNone result ↔ HasNoneWith self.now term.now from }
     {
-        next_place(&self.triples, &self.by_object, term, from)
+        match &self.by_object {
+            Some(places) => next_place(&self.triples, places, term, from),
+            None => next_with(&self.triples, term, from),
+        }
     }
 }
 
@@ -121,6 +125,25 @@ fn count_below(triples: &[Triple], term: &Term) -> usize
     ensures { IsCountBelow term.now result triples.now }
 {
     triples.partition_point(|triple| triple.subject < *term)
+}
+
+/// How many triples are looked at one after the other before a search by halving.
+const NEAR: usize = 8;
+
+/// How many triples have this subject or a lesser one, where so many have a lesser
+/// one. Most subjects have few triples.
+fn end_of_subject(triples: &[Triple], term: &Term, below: usize) -> usize
+    requires ascending { IsAscending triple_cmp triples.now }
+    requires below { IsCountBelow term.now below triples.now }
+    ensures { IsCountUpTo term.now result triples.now }
+{
+    let near = below.saturating_add(NEAR).min(triples.len());
+    for end in below..near {
+        if *term < triples[end].subject {
+            return end;
+        }
+    }
+    count_up_to(triples, term)
 }
 
 /// How many triples have this subject or a lesser one.

@@ -28,15 +28,22 @@ pub struct Fronts {
 }
 
 impl Fronts {
-    /// The fronts of the subjects, and those of the objects.
-    pub fn of(triples: &[Triple]) -> (Fronts, Fronts) {
-        let mut subjects = Shared::new();
-        let mut objects = Shared::new();
+    /// The fronts of the subjects.
+    pub fn of_subjects(triples: &[Triple]) -> Fronts {
+        let mut shared = Shared::new();
         for triple in triples {
-            subjects = subjects.with(&triple.subject);
-            objects = objects.with(&triple.object);
+            shared = shared.with(&triple.subject);
         }
-        (subjects.lengths(), objects.lengths())
+        shared.lengths()
+    }
+
+    /// The fronts of the objects.
+    pub fn of_objects(triples: &[Triple]) -> Fronts {
+        let mut shared = Shared::new();
+        for triple in triples {
+            shared = shared.with(&triple.object);
+        }
+        shared.lengths()
     }
 
     /// The rank of a term: its kind, and the first bytes of its text behind the

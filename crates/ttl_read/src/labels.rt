@@ -110,7 +110,7 @@ pub fn graph_of(alloc: Global, triples: Vec<NodeTriple>) -> Result<Graph, GraphF
         → most_triples < length (graph_of triples.items) }
 {
     match gathered(alloc, triples) {
-        Ok(gather) => gather.finish(),
+        Ok(gather) => gather.finish_without_index(),
         Err(NoMemory) => Err(GraphFault::Memory),
     }
 }

@@ -3,10 +3,10 @@ use Rattle.rdf_graph.specs.BySubject.{IsCountBelow, IsCountUpTo}
 use Rattle.rdf_graph.proofs.Subjects.{IsSpan, span}
 use Rattle.rdf_graph.proofs.graph.Graph.of_subject.Goals as goal
 
-the_span : (c : goal.After-count_up_to) → IsSpan c.args.self.now c.args.term.now c.count_below.result c.count_up_to.result
+the_span : (c : goal.After-end_of_subject) → IsSpan c.args.self.now c.args.term.now c.count_below-below.result c.end_of_subject.result
 the_span c =
-    span (subst (IsCountBelow c.args.term.now c.count_below.result) (c.deref.ensures.value ∙ c.self.view_is) c.count_below.ensures)
-    (subst (IsCountUpTo c.args.term.now c.count_up_to.result) (c.deref-2.ensures.value ∙ c.self.view_is) c.count_up_to.ensures)
+    span (subst (IsCountBelow c.args.term.now c.count_below-below.result) (c.deref.ensures.value ∙ c.self.view_is) c.count_below-below.ensures)
+    (subst (IsCountUpTo c.args.term.now c.end_of_subject.result) (c.deref-2.ensures.value ∙ c.self.view_is) c.end_of_subject.ensures)
 
 pub returns-clause-ordered : goal.returns-clause-ordered
 returns-clause-ordered c = (the_span c).ordered
