@@ -12,8 +12,7 @@ ghost use Rattle.owl_documents.specs.Reading.{AreReadUnder, IsDefectUnder, IsPro
 use crate::document::{Document, GraphDocument};
 use crate::trouble::Trouble;
 use owl_characters::NoMemory;
-use owl_kind::Kinds;
-use rdf_scans::{OutlineFault, outline};
+use rdf_scans::{OutlineFault, graph_head};
 use std::alloc::Global;
 use ttl_read::TtlDoc;
 
@@ -89,8 +88,7 @@ fn with_head(alloc: Global, doc: TtlDoc) -> Result<GraphDocument, OutlineFault>
         → ArePlain doc.prefixes → ReadsGraph bytes (graph_read_of document)) }
     ensures fault { IfErr result (IsOutlineFault doc.graph) }
 {
-    let mut kinds = Kinds::new(alloc);
-    let head = outline(alloc, &doc.graph, &mut kinds)?;
+    let head = graph_head(alloc, &doc.graph)?;
     let TtlDoc { graph, prefixes } = doc;
     // The table's names ascend.
     prefixes.len();

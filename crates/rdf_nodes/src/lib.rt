@@ -19,7 +19,6 @@ mod terms;
 pub use fault::DenoteFault;
 pub use form::{Form, Operand};
 pub use laws::forms_denote;
-pub use lists::is_nil;
 pub use nodes::{Nodes, denote};
 pub use rdf_meaning::Role;
 pub use rdf_roles::{NodeFault, Roles};

@@ -1,8 +1,6 @@
 //! The elements of lists.
 
-ghost use Rattle.std.specs.Prelude.{◌≡◌, IfOk, IfSome, IsTrue};
-ghost use Rattle.rdf_graph.specs.declared.term.Term.TheVariants as held;
-ghost use Rattle.rdf_meaning.specs.Nodes.{nil_iri};
+ghost use Rattle.std.specs.Prelude.{IfOk, IfSome};
 ghost use Rattle.rdf_roles.specs.Tables.{IsTableOf};
 ghost use Rattle.rdf_nodes.specs.Operands.{AreElements, IsCellWith};
 
@@ -12,7 +10,7 @@ use owl_characters::NoMemory;
 use owl_tree::Sort;
 use rdf_graph::Term;
 use rdf_meaning::Role;
-use rdf_rows::cell;
+use rdf_rows::{cell, is_nil};
 use std::alloc::AllocError;
 
 impl<'a> Source<'a> {
@@ -57,15 +55,5 @@ impl<'a> Source<'a> {
         } else {
             None
         }
-    }
-}
-
-/// Whether the term is rdf:nil.
-pub fn is_nil(term: &Term) -> bool
-    ensures { IsTrue result → term.now ≡ held.Iri nil_iri }
-{
-    match term {
-        Term::Iri(iri) => iri.is("http://www.w3.org/1999/02/22-rdf-syntax-ns#nil"),
-        Term::Blank(_) | Term::Literal(_) => false,
     }
 }

@@ -28,8 +28,17 @@ pub fn outline(alloc: Global, graph: &Graph, kinds: &mut Kinds) -> Result<Head, 
     ensures err { OnErr result (AddsSome kinds.old (declarations graph.now) kinds.new) }
     ensures unchanged { IfErr result (λ fault. fault ≢ Memory → kinds.new ≡ kinds.old) }
 {
-    let header = only_header(graph.triples())?;
-    let head = head_of(alloc, graph, header)?;
+    let head = graph_head(alloc, graph)?;
     declare_all(graph, kinds)?;
     Ok(head)
+}
+
+/// How the ontology of the graph is called and what it imports (Mapping to RDF
+/// Graphs, section 3.1). It refuses as `outline` does.
+pub fn graph_head(alloc: Global, graph: &Graph) -> Result<Head, OutlineFault>
+    ensures head { IfOk result (IsOutline graph.now) }
+    ensures fault { IfErr result (IsOutlineFault graph.now) }
+{
+    let header = only_header(graph.triples())?;
+    head_of(alloc, graph, header)
 }

@@ -40,7 +40,7 @@ fn is_axiom_by(reading: &Reading, row: &Row, triple: &Triple) -> bool
 }
 
 /// Whether the sites are the same.
-fn is_same_site(site: Site, other: Site) -> bool
+pub fn is_same_site(site: Site, other: Site) -> bool
     ensures { IsTrue result ↔ (site ≡ other) }
 {
     match (site, other) {

@@ -16,7 +16,8 @@ use Rattle.rdf_graph.specs.declared.triple.Triple.{Triple}
 use Rattle.rdf_meaning.specs.declared.role.Role.{Role}
 use Rattle.rdf_meaning.specs.declared.role.Role.TheVariants as role
 use Rattle.rdf_meaning.specs.Denotation.{of_node, of_triple}
-use Rattle.rdf_meaning.specs.ListLaws.{in_filter, only_one}
+use Rattle.owl_list.specs.FilterLaws.{in_filter}
+use Rattle.rdf_meaning.specs.ListLaws.{only_one}
 use Rattle.rdf_meaning.specs.Nodes.{is_blank, is_role, is_structural, nodes_of, role_of, subjects_of}
 use Rattle.rdf_meaning.specs.Statements.{AreAxioms, no_triple, triple, AreNodeAxioms, no_node, an_axiom, set, Annotates, IsAxiomOf, IsAxiomOfNode, Variants, bare, noted, axioms_of, is_annotation_triple, is_header_triple, main_triples, notes, notes_of}
 use Rattle.rdf_roles.specs.Tables.{IsTableOf, RoleTable, blank_nodes, labels_in, with_role}

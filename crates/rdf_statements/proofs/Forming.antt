@@ -1,5 +1,5 @@
 -- The steps by which terms, lists and rows become kids.
-use Rattle.std.specs.Prelude.{◌≡◌, ◌<◌, ◌&&◌, cond, ℕ, Bool, true, false, List, [], ◌∷◌, ◌++◌, Contains, IfOk, IfSome, IsTrue, Option, None, Some, is_some, map, get_or, length}
+use Rattle.std.specs.Prelude.{◌≡◌, ◌<◌, ◌&&◌, cond, ℕ, Bool, true, false, List, [], ◌∷◌, ◌++◌, Contains, IfOk, IfSome, Option, None, Some, is_some, map, get_or, length}
 use Rattle.std.proofs.Common.{Global, refl, ap, sym, subst, append_assoc, append-nil, ◌∙◌}
 use Rattle.std.specs.declared.vec.Vec.{Vec}
 use Rattle.std.specs.declared.result.Result.{Result}
@@ -19,16 +19,13 @@ use Rattle.rdf_meaning.specs.declared.role.Role.{Role}
 use Rattle.rdf_meaning.specs.declared.row.Part.{Part}
 use Rattle.rdf_meaning.specs.declared.row.Place.TheVariants.{At}
 use Rattle.rdf_meaning.specs.declared.row.Row as held
-use Rattle.rdf_meaning.specs.declared.row.Site.{Site}
-use Rattle.rdf_meaning.specs.declared.row.Site.TheVariants.{TypedBy, LinkedBy}
 use Rattle.rdf_meaning.specs.declared.row.Want.{Want}
 use Rattle.rdf_meaning.specs.declared.row.Want.TheVariants.{Mark, True}
 use Rattle.rdf_meaning.specs.declared.word.Word.{Word}
 use Rattle.rdf_meaning.specs.Denotation.{Bearer, Fits, declared_entity, declared_kind, iri_leaf, kind_of_entity, of_node, select, true_literal}
 use Rattle.rdf_meaning.specs.Kinds.{has_kind, may_be_declared}
-use Rattle.rdf_meaning.specs.Nodes.{is_word, nil_iri, of_subject, role_of}
+use Rattle.rdf_meaning.specs.Nodes.{nil_iri, of_subject, role_of}
 use Rattle.rdf_meaning.specs.Rows.{Row, axiom_rows, row_seen}
-use Rattle.rdf_meaning.specs.WordLaws.{same_word}
 use Rattle.rdf_roles.specs.Tables.{RoleTable}
 use Rattle.rdf_rows.specs.Chosen.{objects_with, the_only}
 use Rattle.rdf_rows.specs.Fits.{FitsRow}
@@ -49,12 +46,6 @@ found_more w (Err e) h = tt
 pub row_among : (rows : List held.Row) (i : ℕ) (d : held.Row) → map row_seen rows ≡ axiom_rows → i < length rows → Contains axiom_rows (row_seen (get_or rows i d))
 row_among rows i d told within =
     subst (λ (all : List Row). Contains all (row_seen (get_or rows i d))) told (in_map row_seen rows (get_or rows i d) (Contains-get_or rows i d within))
-
-pub same_typed : (a b : Site) (v w : Word) (answer : Bool) → answer ≡ is_word v w → a ≡ TypedBy v → b ≡ TypedBy w → IsTrue answer → a ≡ b
-same_typed a b v w answer is e f h = e ∙ ap TypedBy (same_word v w (sym is ∙ h)) ∙ sym f
-
-pub same_linked : (a b : Site) (v w : Word) (answer : Bool) → answer ≡ is_word v w → a ≡ LinkedBy v → b ≡ LinkedBy w → IsTrue answer → a ≡ b
-same_linked a b v w answer is e f h = e ∙ ap LinkedBy (same_word v w (sym is ∙ h)) ∙ sym f
 
 -- the entity that is declared, where there is one
 by_test : {A : Type 0} (b : Bool) (a : A) → is_some (cond b (Some a) None) ≡ true → cond b (Some a) None ≡ Some a

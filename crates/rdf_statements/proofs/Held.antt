@@ -10,11 +10,10 @@ use Rattle.owl_tree.specs.declared.tag.Tag.TheVariants as tag
 use Rattle.owl_tree.specs.Trees.{Tree, node, kids_of}
 use Rattle.rdf_graph.specs.declared.term.Term.{Term}
 use Rattle.rdf_graph.specs.declared.triple.Triple.{Triple}
-use Rattle.rdf_meaning.specs.declared.role.Role.{Role}
 use Rattle.rdf_meaning.specs.declared.role.Role.TheVariants as role
 use Rattle.rdf_meaning.specs.AxiomLaws.{axioms_of_nodes, axioms_of_triples, nodes_have_axioms, notes_of_triples}
 use Rattle.rdf_meaning.specs.Kinds.{HaveNoClash}
-use Rattle.rdf_meaning.specs.ListLaws.{in_filter}
+use Rattle.owl_list.specs.FilterLaws.{in_filter}
 use Rattle.rdf_meaning.specs.Nodes.{is_same, is_structural, nodes_of, of_subject, role_of}
 use Rattle.rdf_meaning.specs.NodeLaws.{in_subject, nodes_are}
 use Rattle.rdf_meaning.specs.StatementLaws.{one_notes}
@@ -23,6 +22,7 @@ use Rattle.rdf_roles.specs.WayLaws.{numbered_by_role}
 use Rattle.rdf_roles.specs.Tables.{IsTableOf, RoleTable}
 use Rattle.tree_stores.specs.Stores.{StandFor}
 use Rattle.rdf_annotations.specs.Annotations.{AreSets, an_annotation, a_set, is_noted}
+use Rattle.rdf_annotations.specs.AnnotationLaws.{noted_or}
 use Rattle.rdf_nodes.specs.Numbers.{AreAllHeld}
 use Rattle.rdf_statements.proofs.Adding.{labels_are}
 use Rattle.rdf_statements.specs.GraphTrees.{AreStatements, IsHeldWithin, IsPartOf, itself, below, IsTreeOf, of_node, of_annotation, of_axiom, of_axiom_node}
@@ -30,17 +30,6 @@ use Rattle.rdf_statements.specs.GraphTrees.{AreStatements, IsHeldWithin, IsPartO
 part_of_part : (t u v : Tree) → IsPartOf t u → IsPartOf u v → IsPartOf t v
 part_of_part t u _ p (itself v) = p
 part_of_part t u _ p (below v w tag us m q) = below t w tag us m (part_of_part t u w p q)
-
-noted_or : (r : Role) → is_noted r ≡ true → (r ≡ role.Main) ⊎ (r ≡ role.Note)
-noted_or role.Main e = inl refl
-noted_or role.Note e = inr refl
-noted_or role.List e = cc
-noted_or role.Property e = cc
-noted_or role.Class e = cc
-noted_or role.Range e = cc
-noted_or role.Facet e = cc
-noted_or role.Header e = cc
-noted_or role.Individual e = cc
 
 either : (h a b c n s : Bool) → ((h && a && b && c) || (n && s)) ≡ true → (h ≡ true) ⊎ ((n ≡ true) × (s ≡ true))
 either true a b c n s e = inl refl

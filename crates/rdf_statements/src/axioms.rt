@@ -33,10 +33,7 @@ pub(crate) fn hold_axioms<S: TreeStore>(
     let mut axioms = Vec::new(alloc);
     let mut rest = sets;
     while let Some((set, behind)) = rest.split_first() {
-        let axiom = match hold_axiom(alloc, store, tag, *set, kids) {
-            Ok(axiom) => axiom,
-            Err(fault) => return Err(fault),
-        };
+        let axiom = hold_axiom(alloc, store, tag, *set, kids)?;
         axioms.push(axiom).map_err(AllocError::from)?;
         rest = behind;
     }

@@ -1,6 +1,6 @@
 //! The axioms that triples are, and that nodes stand for.
 
-ghost use Rattle.std.specs.Prelude.{◌≡◌, IfOk, IfSome, IsTrue};
+ghost use Rattle.std.specs.Prelude.{◌≡◌, IfOk, IfSome};
 ghost use Rattle.rdf_graph.specs.declared.term.Term.TheVariants.{Blank};
 ghost use Rattle.rdf_meaning.specs.Denotation.{Bearer, of_node, of_triple};
 ghost use Rattle.rdf_meaning.specs.Nodes.{of_subject, role_of};
@@ -12,9 +12,10 @@ use crate::kids::kids_of_term;
 use crate::places::{Places, term_at};
 use owl_characters::NoMemory;
 use rdf_graph::{Term, Triple};
-use rdf_meaning::{Part, Role, Site, axiom_rows};
+use rdf_meaning::{Part, Role, axiom_rows};
 use rdf_nodes::Source;
 use rdf_rows::{NodeWords, site_of};
+use rdf_scans::is_same_site;
 use rdf_terms::Label;
 
 /// What the triple is made of as an axiom, by a row of its site whose parts stand
@@ -138,19 +139,5 @@ fn kids_at(source: &Source, places: &Places, part: &Part) -> Result<Option<Vec<K
     match term_at(places, part.place) {
         Some(term) => kids_of_term(source, part.want, term),
         None => Ok(None),
-    }
-}
-
-/// Whether the sites are the same.
-fn is_same_site(site: Site, other: Site) -> bool
-    ensures { IsTrue result → site ≡ other }
-{
-    match (site, other) {
-        (Site::Node(role), Site::Node(same)) => role == same,
-        (Site::TypedBy(word), Site::TypedBy(same)) => word == same,
-        (Site::OtherType, Site::OtherType) => true,
-        (Site::LinkedBy(word), Site::LinkedBy(same)) => word == same,
-        (Site::OtherLink, Site::OtherLink) => true,
-        _ => false,
     }
 }

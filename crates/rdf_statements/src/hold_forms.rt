@@ -36,10 +36,7 @@ pub(crate) fn hold_form<S: TreeStore>(
         source.now.roles.now form.now ss)) }
     ensures kept { Keeps (S.stands store.old) (S.stands store.new) }
 {
-    let kids = match hold_kids(source, store, ids, &form.kids) {
-        Ok(kids) => kids,
-        Err(fault) => return Err(fault),
-    };
+    let kids = hold_kids(source, store, ids, &form.kids)?;
     hold_axioms(source.alloc, store, form.tag, sets, &kids)
 }
 
@@ -63,10 +60,7 @@ fn hold_kids<S: TreeStore>(
     let mut numbers = Vec::new(source.alloc);
     let mut rest = kids;
     while let Some((kid, behind)) = rest.split_first() {
-        let number = match hold_kid(source, store, ids, kid) {
-            Ok(number) => number,
-            Err(fault) => return Err(fault),
-        };
+        let number = hold_kid(source, store, ids, kid)?;
         numbers.push(number).map_err(AllocError::from)?;
         rest = behind;
     }

@@ -7,14 +7,15 @@ ghost use Rattle.rdf_statements.specs.Forms.{AreKeyOperands, IsKeyAdded};
 use owl_characters::NoMemory;
 use owl_tree::Sort;
 use rdf_graph::Term;
-use rdf_nodes::{Operand, Source, is_nil};
+use rdf_nodes::{Operand, Source};
+use rdf_rows::is_nil;
 use std::alloc::AllocError;
 
 /// The properties of a key: those of objects and those of data, each in order.
 #[derive(Debug, Drop)]
 pub(crate) struct KeyOperands {
-    pub objects: Vec<Operand>,
-    pub data: Vec<Operand>,
+    pub of_objects: Vec<Operand>,
+    pub of_data: Vec<Operand>,
 }
 
 /// The elements of the list, where each is an object property expression or else a
@@ -23,11 +24,11 @@ pub(crate) fn keys_of(source: &Source, list: &Term) -> Result<Option<KeyOperands
     requires { IsTableOf source.now.graph.now source.now.roles.now }
     ensures { IfOk result (λ found. IfSome found (λ keys.
         AreKeyOperands source.now.graph.now source.now.kinds.now source.now.roles.now list.now
-        keys.objects.items keys.data.items)) }
+        keys.of_objects.items keys.of_data.items)) }
 {
     let mut keys = KeyOperands {
-        objects: Vec::new(source.alloc),
-        data: Vec::new(source.alloc),
+        of_objects: Vec::new(source.alloc),
+        of_data: Vec::new(source.alloc),
     };
     let mut rest = list;
     for _cell in 0..source.graph.len() {
@@ -51,15 +52,15 @@ fn add_key(source: &Source, keys: &mut KeyOperands, term: &Term) -> Result<bool,
     requires { IsTableOf source.now.graph.now source.now.roles.now }
     ensures { IfOk result (λ added. IsTrue added →
         IsKeyAdded source.now.graph.now source.now.kinds.now source.now.roles.now term.now
-        keys.old.objects.items keys.old.data.items keys.new.objects.items keys.new.data.items) }
+        keys.old.of_objects.items keys.old.of_data.items keys.new.of_objects.items keys.new.of_data.items) }
 {
     if let Some(key) = source.operand(Sort::ObjectPropertyExpression, term)? {
-        keys.objects.push(key).map_err(AllocError::from)?;
+        keys.of_objects.push(key).map_err(AllocError::from)?;
         return Ok(true);
     }
     match source.operand(Sort::DataPropertyExpression, term)? {
         Some(key) => {
-            keys.data.push(key).map_err(AllocError::from)?;
+            keys.of_data.push(key).map_err(AllocError::from)?;
             Ok(true)
         }
         None => Ok(false),

@@ -101,9 +101,12 @@ fn keys(source: &Source, list: &Term) -> Result<Option<Vec<Kid>>, NoMemory>
 {
     match keys_of(source, list)? {
         Some(keys) if has_key(&keys) => {
-            let KeyOperands { objects, data } = keys;
-            let objects = Kid::Group(Tag::ObjectKeys, objects);
-            both(source.alloc, objects, Kid::Group(Tag::DataKeys, data))
+            let KeyOperands {
+                of_objects,
+                of_data,
+            } = keys;
+            let objects = Kid::Group(Tag::ObjectKeys, of_objects);
+            both(source.alloc, objects, Kid::Group(Tag::DataKeys, of_data))
         }
         _ => Ok(None),
     }
@@ -111,10 +114,10 @@ fn keys(source: &Source, list: &Term) -> Result<Option<Vec<Kid>>, NoMemory>
 
 /// Whether there is a property.
 fn has_key(keys: &KeyOperands) -> bool
-    ensures { IsTrue result → 1 ≤ length (keys.now.objects.items ++ keys.now.data.items) }
+    ensures { IsTrue result → 1 ≤ length (keys.now.of_objects.items ++ keys.now.of_data.items) }
 {
-    if keys.objects.is_empty() {
-        !keys.data.is_empty()
+    if keys.of_objects.is_empty() {
+        !keys.of_data.is_empty()
     } else {
         true
     }

@@ -39,10 +39,7 @@ pub(crate) fn add_nodes<S: TreeStore>(
     ensures kept { Keeps (S.stands store.old) (S.stands store.new) }
 {
     for number in 0..known.annotated.reading.roles.len() {
-        match add_node(known, store, number, axioms) {
-            Ok(()) => {}
-            Err(fault) => return Err(fault),
-        }
+        add_node(known, store, number, axioms)?;
     }
     Ok(())
 }
@@ -73,10 +70,7 @@ fn add_node<S: TreeStore>(
     if !is_main(roles.role(label)) {
         return Ok(());
     }
-    let mut more = match hold_node(known, store, label) {
-        Ok(more) => more,
-        Err(fault) => return Err(fault),
-    };
+    let mut more = hold_node(known, store, label)?;
     axioms.append(&mut more)?;
     Ok(())
 }
@@ -98,10 +92,7 @@ fn hold_node<S: TreeStore>(
         known.now.annotated.reading.kinds.now known.now.annotated.reading.header.now)) }
     ensures kept { Keeps (S.stands store.old) (S.stands store.new) }
 {
-    let sets = match hold_only_set(known, store, label) {
-        Ok(sets) => sets,
-        Err(fault) => return Err(fault),
-    };
+    let sets = hold_only_set(known, store, label)?;
     let reading = known.annotated.reading;
     let source = Source {
         alloc: known.annotated.alloc,
@@ -133,10 +124,8 @@ fn hold_only_set<S: TreeStore>(
     ensures kept { Keeps (S.stands store.old) (S.stands store.new) }
 {
     let node = Term::Blank(label.copy(known.annotated.alloc)?);
-    match known.annotated.hold_set(store, known.sets, &node) {
-        Ok(set) => Ok(alone(known.annotated.alloc, set)?),
-        Err(fault) => Err(fault),
-    }
+    let set = known.annotated.hold_set(store, known.sets, &node)?;
+    Ok(alone(known.annotated.alloc, set)?)
 }
 
 /// The number alone.

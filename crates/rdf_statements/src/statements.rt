@@ -74,10 +74,8 @@ fn hold_annotated<S: TreeStore>(
         annotated.now.reading.kinds.now annotated.now.reading.header.now)) }
     ensures kept { Keeps (S.stands store.old) (S.stands store.new) }
 {
-    match annotated.hold_sets(store) {
-        Ok(sets) => hold_noted(annotated, &sets, store),
-        Err(fault) => Err(fault),
-    }
+    let sets = annotated.hold_sets(store)?;
+    hold_noted(annotated, &sets, store)
 }
 
 /// So, where the sets of annotations of reifications are held.
@@ -104,17 +102,13 @@ fn hold_noted<S: TreeStore>(
         roles: annotated.reading.roles,
         kinds: annotated.reading.kinds,
     };
-    match source.numbers(store) {
-        Ok(ids) => {
-            let known = Known {
-                annotated: *annotated,
-                sets,
-                ids: &ids,
-            };
-            hold_known(&known, store)
-        }
-        Err(fault) => Err(fault),
-    }
+    let ids = source.numbers(store)?;
+    let known = Known {
+        annotated: *annotated,
+        sets,
+        ids: &ids,
+    };
+    hold_known(&known, store)
 }
 
 /// The annotations and the axioms, where the sets of annotations and what the nodes
@@ -132,14 +126,8 @@ fn hold_known<S: TreeStore>(
     ensures kept { Keeps (S.stands store.old) (S.stands store.new) }
 {
     let header = known.annotated.reading.header;
-    let annotations = match known.annotated.hold_annotations(store, known.sets, header) {
-        Ok(annotations) => annotations,
-        Err(fault) => return Err(fault),
-    };
-    let axioms = match hold_all_axioms(known, store) {
-        Ok(axioms) => axioms,
-        Err(fault) => return Err(fault),
-    };
+    let annotations = known.annotated.hold_annotations(store, known.sets, header)?;
+    let axioms = hold_all_axioms(known, store)?;
     Ok(Statements {
         annotations,
         axioms,
@@ -161,12 +149,7 @@ fn hold_all_axioms<S: TreeStore>(
     ensures kept { Keeps (S.stands store.old) (S.stands store.new) }
 {
     let mut axioms = Vec::new(known.annotated.alloc);
-    match add_triples(known, store, &mut axioms) {
-        Ok(()) => {}
-        Err(fault) => return Err(fault),
-    }
-    match add_nodes(known, store, &mut axioms) {
-        Ok(()) => Ok(axioms),
-        Err(fault) => Err(fault),
-    }
+    add_triples(known, store, &mut axioms)?;
+    add_nodes(known, store, &mut axioms)?;
+    Ok(axioms)
 }

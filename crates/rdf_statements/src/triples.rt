@@ -33,10 +33,7 @@ pub(crate) fn add_triples<S: TreeStore>(
     ensures kept { Keeps (S.stands store.old) (S.stands store.new) }
 {
     for place in 0..known.annotated.reading.graph.len() {
-        match add_triple(known, store, place, axioms) {
-            Ok(()) => {}
-            Err(fault) => return Err(fault),
-        }
+        add_triple(known, store, place, axioms)?;
     }
     Ok(())
 }
@@ -64,10 +61,7 @@ fn add_triple<S: TreeStore>(
     if !is_main(sort_of(reading, reading.graph.at(place))) {
         return Ok(());
     }
-    let mut more = match hold_triple(known, store, place) {
-        Ok(more) => more,
-        Err(fault) => return Err(fault),
-    };
+    let mut more = hold_triple(known, store, place)?;
     axioms.append(&mut more)?;
     Ok(())
 }

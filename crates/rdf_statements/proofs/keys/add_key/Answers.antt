@@ -10,8 +10,8 @@ returns-in-Some c = λ _.
     let k = c.args.source.now.kinds.now in
     let roles = c.args.source.now.roles.now in
     let keys = c.args.keys.now in
-    let pushed : c.push.new.self.items ≡ keys.objects.items ++ c.in-Some.key ∷ [] = search rules in
-    object_key_added g k roles c.args.term.now c.in-Some.key keys.objects.items keys.data.items c.push.new.self.items pushed
+    let pushed : c.push.new.self.items ≡ keys.of_objects.items ++ c.in-Some.key ∷ [] = search rules in
+    object_key_added g k roles c.args.term.now c.in-Some.key keys.of_objects.items keys.of_data.items c.push.new.self.items pushed
     (subst (λ f. IfSome f (IsOperand g k roles sort.ObjectPropertyExpression c.args.term.now)) c.in-Some.is c.in_ok-key.ensures)
 
 pub returns-in_ok-map_err-in-Some-2 : goal.returns-in_ok-map_err-in-Some-2
@@ -20,6 +20,6 @@ returns-in_ok-map_err-in-Some-2 c = λ _.
     let k = c.args.source.now.kinds.now in
     let roles = c.args.source.now.roles.now in
     let keys = c.args.keys.now in
-    let pushed : c.push-in-Some-2.new.self.items ≡ keys.data.items ++ c.in-Some-2.key ∷ [] = search rules in
-    data_key_added g k roles c.args.term.now c.in-Some-2.key keys.objects.items keys.data.items c.push-in-Some-2.new.self.items pushed
+    let pushed : c.push-in-Some-2.new.self.items ≡ keys.of_data.items ++ c.in-Some-2.key ∷ [] = search rules in
+    data_key_added g k roles c.args.term.now c.in-Some-2.key keys.of_objects.items keys.of_data.items c.push-in-Some-2.new.self.items pushed
     (subst (λ f. IfSome f (IsOperand g k roles sort.DataPropertyExpression c.args.term.now)) c.in-Some-2.is c.in_ok-key-2.ensures)

@@ -11,8 +11,8 @@ returns-in-Some c =
     let g = c.args.source.now.graph.now in
     let k = c.args.source.now.kinds.now in
     let roles = c.args.source.now.roles.now in
-    let os = c.in-Some.keys.objects in
-    let ds = c.in-Some.keys.data in
-    let found = subst (λ f. IfSome f (λ found. AreKeyOperands g k roles c.args.list.now found.objects.items found.data.items)) c.in-Some.is c.in_ok-keys.ensures in
+    let os = c.in-Some.keys.of_objects in
+    let ds = c.in-Some.keys.of_data in
+    let found = subst (λ f. IfSome f (λ found. AreKeyOperands g k roles c.args.list.now found.of_objects.items found.of_data.items)) c.in-Some.is c.in_ok-keys.ensures in
     gives_these g k roles c.args.list.now Keys (kid.Group tag.ObjectKeys os ∷ kid.Group tag.DataKeys ds ∷ []) (keys os ds (c.has_key.ensures c.if-has_key.true) found)
     c.both.result c.both.ensures

@@ -24,7 +24,7 @@ loop-number-preserved g c =
     let at = some_at (blank_nodes graph) number [] (omega (arith, c.loop-number-test.true, end, many)) in
     next_node (stands c.args.store.now) graph reading.kinds.now (stands c.loop-number.store) (stands c.add_node.new.store) number (get_or (blank_nodes graph) number [])
     c.args.axioms.now.items c.loop-number.axioms.items c.add_node.new.axioms.items at c.loop-number.invariant c.add_node.ensures.kept
-    (c.in-Ok.ensures.added (get_or (blank_nodes graph) number []) at)
+    (c.in_ok-add_node.ensures.added (get_or (blank_nodes graph) number []) at)
 
 pub returns-clause-added : goal.returns-clause-added
 returns-clause-added g c =

@@ -8,19 +8,21 @@ use Rattle.rdf_annotations.specs.Annotations.{IsNotedTree}
 use Rattle.rdf_statements.specs.Forms.{IsAxiomForm}
 use Rattle.rdf_statements.specs.GraphTrees.{IsTreeOf, of_annotation}
 use Rattle.rdf_statements.specs.Holding.{IsOfForm}
+use Rattle.owl_characters.specs.ResultLaws.{passed}
 use Rattle.rdf_statements.proofs.Adding.{node_fault, node_of_form, node_stands}
 use Rattle.rdf_statements.proofs.Faults.{fault_of_some}
 use Rattle.rdf_statements.proofs.HoldingKids.{err_more, numbered_still, ok_more}
 use Rattle.rdf_statements.proofs.Standing.{form_has}
 use Rattle.rdf_statements.proofs.nodes.hold_node.Goals as goal
 
-pub returns-in-Err-clause-fault : goal.returns-in-Err-clause-fault
-returns-in-Err-clause-fault g c =
+pub returns-in_err-sets-clause-fault : goal.returns-in_err-sets-clause-fault
+returns-in_err-sets-clause-fault g c =
     let reading = c.args.known.now.annotated.reading in
     let graph = reading.graph.now in
     let kinds = reading.kinds.now in
     let header = reading.header.now in
-    fault_of_some (IsNotedTree graph kinds header) (IsTreeOf graph kinds header) (λ t is. of_annotation t is) c.in-Err.fault c.in-Err.ensures.fault
+    passed c.from_residual.result c.in_err-sets.field-0.0 _ c.from_residual.ensures.1
+    (fault_of_some (IsNotedTree graph kinds header) (IsTreeOf graph kinds header) (λ t is. of_annotation t is) c.in_err-sets.field-0.0 c.in_err-sets.ensures.fault)
 
 pub hold_form-requires-clause-numbered : goal.hold_form-requires-clause-numbered
 hold_form-requires-clause-numbered g c =
@@ -41,7 +43,7 @@ hold_form-requires-clause-trees g c =
 
 pub hold_form-requires-clause-sets : goal.hold_form-requires-clause-sets
 hold_form-requires-clause-sets g c =
-    let s = c.in-Ok.ensures.held in
+    let s = c.in_ok-sets.ensures.held in
     let sets = notes s.annotations ∷ [] in
     record { trees = sets; stand = subst (StandFor (g.S.TreeStore.stands c.hold_only_set.new.store) sets) (sym c.deref.ensures.value) s.stand }
 
@@ -54,7 +56,7 @@ returns-clause-held g c =
     let roles = reading.roles.now in
     let x = Blank c.args.label.now in
     let form = subst (λ f. IfSome f (IsAxiomForm graph kinds roles (of_node x))) c.in-Some.is c.in_ok-form.ensures in
-    let s = c.in-Ok.ensures.held in
+    let s = c.in_ok-sets.ensures.held in
     let sets = notes s.annotations ∷ [] in
     let stand = subst (StandFor (stands c.hold_only_set.new.store) sets) (sym c.deref.ensures.value) s.stand in
     ok_more (λ ns held. node_stands graph kinds (stands c.hold_form.new.store) roles c.in-Some.form x s.annotations ns.items form s.annotates held) c.hold_form.result
@@ -69,7 +71,7 @@ returns-clause-fault g c =
     let roles = reading.roles.now in
     let x = Blank c.args.label.now in
     let form = subst (λ f. IfSome f (IsAxiomForm graph kinds roles (of_node x))) c.in-Some.is c.in_ok-form.ensures in
-    let s = c.in-Ok.ensures.held in
+    let s = c.in_ok-sets.ensures.held in
     let sets = notes s.annotations ∷ [] in
     let stand = subst (StandFor (stands c.hold_only_set.new.store) sets) (sym c.deref.ensures.value) s.stand in
     err_more

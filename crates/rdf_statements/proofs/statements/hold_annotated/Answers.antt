@@ -1,7 +1,8 @@
+use Rattle.owl_characters.specs.ResultLaws.{passed}
 use Rattle.rdf_statements.proofs.Stating.{noted_fault}
 use Rattle.rdf_statements.proofs.statements.hold_annotated.Goals as goal
 
-pub returns-in-Err-clause-fault : goal.returns-in-Err-clause-fault
-returns-in-Err-clause-fault g c =
+pub returns-in_err-sets-clause-fault : goal.returns-in_err-sets-clause-fault
+returns-in_err-sets-clause-fault g c =
     let reading = c.args.annotated.now.reading in
-    noted_fault reading.graph.now reading.kinds.now reading.header.now c.in-Err.fault c.in-Err.ensures.fault
+    passed c.from_residual.result c.in_err-sets.field-0.0 _ c.from_residual.ensures.1 (noted_fault reading.graph.now reading.kinds.now reading.header.now c.in_err-sets.field-0.0 c.in_err-sets.ensures.fault)

@@ -1,5 +1,6 @@
 use Rattle.std.proofs.Common.{sym, ◌∙◌}
 use Rattle.std.proofs.lemmas.Option.{same_Some}
+use Rattle.owl_characters.specs.ResultLaws.{passed}
 use Rattle.rdf_statements.proofs.Adding.{axiom_fault, in_main, told, triple_added, triple_passed}
 use Rattle.std.proofs.Common.{false, refl, true}
 use Rattle.rdf_statements.proofs.triples.add_triple.Goals as goal
@@ -12,20 +13,21 @@ returns-then-not-is_main-clause-added g c = λ t at.
     triple_passed reading.graph.now reading.kinds.now reading.header.now stands stands t c.args.axioms.now.items
     (told reading.graph.now reading.kinds.now reading.header.now c.at.result.now t same c.sort_of.result c.is_main.result false c.sort_of.ensures c.is_main.ensures c.if-not-is_main.true)
 
-pub returns-in-Err-clause-fault : goal.returns-in-Err-clause-fault
-returns-in-Err-clause-fault g c =
+pub returns-in_err-more-clause-fault : goal.returns-in_err-more-clause-fault
+returns-in_err-more-clause-fault g c =
     let reading = c.args.known.now.annotated.reading in
     let u = c.at.result.now in
     let main =
     told reading.graph.now reading.kinds.now reading.header.now u u refl c.sort_of.result c.is_main.result true c.sort_of.ensures c.is_main.ensures c.if-not-is_main.false in
-    axiom_fault reading.graph.now reading.kinds.now reading.header.now u (in_main reading.graph.now reading.kinds.now reading.header.now u c.args.place c.at.ensures.at main)
-    c.in-Err.fault (c.in-Err.ensures.fault u c.at.ensures.at)
+    passed c.from_residual.result c.in_err-more.field-0.0 _ c.from_residual.ensures.1
+    (axiom_fault reading.graph.now reading.kinds.now reading.header.now u (in_main reading.graph.now reading.kinds.now reading.header.now u c.args.place c.at.ensures.at main)
+    c.in_err-more.field-0.0 (c.in_err-more.ensures.fault u c.at.ensures.at))
 
 pub returns-clause-added : goal.returns-clause-added
 returns-clause-added g c = λ t at.
     let stands = g.S.TreeStore.stands in
     let reading = c.args.known.now.annotated.reading in
     let same = same_Some c.at.result.now t (sym c.at.ensures.at ∙ at) in
-    triple_added reading.graph.now reading.kinds.now reading.header.now (stands c.args.store.now) (stands c.hold_triple.new.store) t c.args.axioms.now.items c.in-Ok.more.items _
+    triple_added reading.graph.now reading.kinds.now reading.header.now (stands c.args.store.now) (stands c.hold_triple.new.store) t c.args.axioms.now.items c.in_ok-more.more.items _
     (told reading.graph.now reading.kinds.now reading.header.now c.at.result.now t same c.sort_of.result c.is_main.result true c.sort_of.ensures c.is_main.ensures c.if-not-is_main.false)
-    c.hold_triple.ensures.kept (c.in-Ok.ensures.held t at) c.in_ok-append.ensures.items
+    c.hold_triple.ensures.kept (c.in_ok-more.ensures.held t at) c.in_ok-append.ensures.items

@@ -27,7 +27,7 @@ loop-place-preserved g c =
     let at = some_at graph place some_triple (omega (arith, c.loop-place-test.true, end)) in
     next_triple (stands c.args.store.now) graph reading.kinds.now reading.header.now (stands c.loop-place.store) (stands c.add_triple.new.store) place (get_or graph place some_triple)
     c.args.axioms.now.items c.loop-place.axioms.items c.add_triple.new.axioms.items at c.loop-place.invariant c.add_triple.ensures.kept
-    (c.in-Ok.ensures.added (get_or graph place some_triple) at)
+    (c.in_ok-add_triple.ensures.added (get_or graph place some_triple) at)
 
 pub returns-clause-added : goal.returns-clause-added
 returns-clause-added g c =

@@ -17,4 +17,4 @@ loop-cell-preserved c =
 pub returns-then-is_nil : goal.returns-then-is_nil
 returns-then-is_nil c =
     all_elements c.args.self.now.graph.now c.args.self.now.kinds.now c.args.self.now.roles.now c.args.sort c.args.list.now c.loop-cell.operands.items c.loop-cell.rest.now
-    c.loop-cell.invariant (c.is_nil.ensures c.if-is_nil.true)
+    c.loop-cell.invariant (c.is_nil.ensures.0 c.if-is_nil.true)
