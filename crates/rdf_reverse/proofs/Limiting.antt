@@ -1,14 +1,14 @@
 -- Which limit is passed, and that none is.
-use Rattle.std.specs.Prelude.{◌≡◌, ◌<◌, ℕ, List, [], ◌∷◌}
+use Rattle.std.specs.Prelude.{◌≡◌, ◌<◌, ◌≤◌, ℕ, List, [], ◌∷◌}
 use Rattle.std.proofs.Common.{inl, inr, refl, sym, subst, arith}
 use Rattle.std.proofs.lemmas.Option.{slice_get_within}
 use Rattle.owl_arena.specs.Held.{AreHeld}
-use Rattle.owl_arena.specs.Shared.{heaviest}
+use Rattle.owl_arena.specs.Shared.{deepest, heaviest}
 use Rattle.owl_assembly.specs.declared.fault.AssembleFault.{AssembleFault}
 use Rattle.owl_assembly.specs.declared.fault.AssembleFault.TheVariants as assemble
 use Rattle.owl_kind.specs.Kinds.{Entity}
 use Rattle.owl_tree.specs.Canonical.{canonical}
-use Rattle.owl_tree.specs.Trees.{Tree, weight}
+use Rattle.owl_tree.specs.Trees.{Tree, depth, weight}
 use Rattle.rdf_graph.specs.declared.term.Term.{Term}
 use Rattle.rdf_graph.specs.declared.triple.Triple.{Triple}
 use Rattle.rdf_meaning.specs.Statements.{headers}
@@ -20,10 +20,11 @@ use Rattle.tree_stores.specs.declared.fault.TreeFault.TheVariants as tree
 use Rattle.tree_stores.specs.StoreLaws.{shallow_tree}
 use Rattle.tree_stores.specs.Stores.{HasDepth, HasNumber, IsSmall, StandFor}
 use Rattle.rdf_reverse.specs.declared.fault.ReverseFault.{ReverseFault}
-use Rattle.rdf_reverse.specs.declared.fault.ReverseFault.TheVariants.{TooHeavy}
+use Rattle.rdf_reverse.specs.declared.fault.ReverseFault.TheVariants.{TooDeep, TooHeavy}
 use Rattle.rdf_reverse.specs.Faults.{assemble_fault}
-use Rattle.rdf_reverse.specs.Limits.{AreShallow}
-use Rattle.rdf_reverse.specs.Reverse.{FindsNothing, HasDeepTree, HasHeavyTree, of_tree, IsFoundBy, limits, of_depths}
+use Rattle.rdf_nodes.specs.Large.{HasLargeNumber}
+use Rattle.rdf_reverse.specs.Limits.{AreShallow, AreWithin}
+use Rattle.rdf_reverse.specs.Reverse.{FindsNothing, HasDeepTree, HasHeavyTree, IsFoundBy, limits, of_depths}
 use Rattle.rdf_reverse.specs.ReverseLaws.{same_header}
 
 -- the numbers of trees are there
@@ -43,21 +44,34 @@ module _ (reading : Reading) where
   abbrev header : Term
   header = reading.header.now
 
-  pub none_deep : ((t : Tree) → IsTreeOf g k header t → IsHeldWithin HasDepth t) → HasDeepTree g k header → ⊥
-  none_deep held d =
+  -- where what stands is not too deep, no tree is
+  none_deep : {N : Type 0} (Stands : Tree → N → Type 0) → ((t : Tree) → IsTreeOf g k header t → IsHeldWithin Stands t) →
+      ((t : Tree) (n : N) → Stands t n → depth t ≤ deepest) → HasDeepTree g k header → ⊥
+  none_deep Stands held shallow d =
       let within = held d.tree d.of in
       let part = part_depth d.tree within.whole within.part in
-      let whole = shallow_tree within.whole within.number within.stands in
+      let whole = shallow within.whole within.number within.stands in
       let deep = d.deep in
       omega (arith, part, whole, deep)
 
-  pub none_heavy : (trees : List Tree) → ((t : Tree) → IsTreeOf g k header t → IsHeldWithin (HasNumber trees) t) →
+  pub none_beyond : ((t : Tree) → IsTreeOf g k header t → IsHeldWithin HasDepth t) → HasDeepTree g k header → ⊥
+  none_beyond held = none_deep HasDepth held shallow_tree
+
+  none_heavy : (trees : List Tree) → ((t : Tree) → IsTreeOf g k header t → IsHeldWithin (HasNumber trees) t) →
       ((t : Tree) (id : ℕ) → HasNumber trees t id → IsSmall t) → (t : Tree) → IsTreeOf g k header t → heaviest < weight (canonical t) → ⊥
   none_heavy trees held small t of heavy =
       let within = held t of in
       let part = part_weight t within.whole within.part in
       let light = (small within.whole within.number within.stands).light in
       omega (arith, part, light, heavy)
+
+  -- a graph whose trees an arena holds passes no limit
+  pub within_limits : (trees : List Tree) → (HasLargeNumber g → ⊥) → ((t : Tree) → IsTreeOf g k header t → IsHeldWithin (HasNumber trees) t) →
+      ((t : Tree) (id : ℕ) → HasNumber trees t id → IsSmall t) → AreWithin reading
+  within_limits trees small held fits = record {
+    are_shallow = record { small = small; shallow = none_deep (HasNumber trees) held (λ t id at. (fits t id at).shallow) };
+    light = none_heavy trees held fits;
+  }
 
   module _ (one : headers g ≡ header ∷ []) where
     no_depths : AreShallow reading → FindsNothing g k of_depths
@@ -66,8 +80,9 @@ module _ (reading : Reading) where
     pub heavy_found : AreShallow reading → HasHeavyTree g k header → IsFoundBy g k limits TooHeavy
     heavy_found are heavy = inr (inr (λ f h. are.small h.1, inr (no_depths are, inl (header, one, refl, heavy))))
 
-    pub heavy_tree_found : AreShallow reading → IsFaultOfSome (IsTreeOf g k header) tree.TooHeavy → IsFoundBy g k limits TooHeavy
-    heavy_tree_found are fault = heavy_found are (of_tree fault.0 fault.1 fault.2)
+    pub deep_tree_found : (HasLargeNumber g → ⊥) → IsFaultOfSome (IsTreeOf g k header) tree.TooDeep → IsFoundBy g k limits TooDeep
+    deep_tree_found small fault =
+        inr (inr (λ f h. small h.1, inl (header, one, refl, record { tree = fault.0; of = fault.1; deep = fault.2 })))
 
     pub assembling_found : AreShallow reading → (fault : AssembleFault) (f : ReverseFault) → f ≡ assemble_fault fault →
         (fault ≡ assemble.TooHeavy → HasHeavyTree g k header) → IsFoundBy g k limits f

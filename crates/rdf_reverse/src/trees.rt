@@ -1,10 +1,11 @@
 //! The trees that a graph says, within the limits.
 
-ghost use Rattle.std.specs.Prelude.{IfErr, IfOk, OnOk};
+ghost use Rattle.std.specs.Prelude.{◌↔◌, IfErr, IfOk, IsTrue, OnOk};
 ghost use Rattle.rdf_meaning.specs.Kinds.{HaveNoClash};
+ghost use Rattle.rdf_nodes.specs.Large.{HasLargeNumber};
 ghost use Rattle.rdf_scans.specs.Sorts.{IsReading};
-ghost use Rattle.rdf_reverse.specs.Limits.{AreShallow, AreStated, AreWithin};
-ghost use Rattle.rdf_reverse.specs.Reverse.{IsFoundBy, limits};
+ghost use Rattle.rdf_reverse.specs.Limits.{AreStated, AreWithin};
+ghost use Rattle.rdf_reverse.specs.Reverse.{HasHeavyTree, IsFoundBy, limits};
 
 use crate::fault::ReverseFault;
 use owl_arena::{Arena, ExprId};
@@ -13,31 +14,6 @@ use rdf_scans::Reading;
 use rdf_statements::{Statements, hold_statements};
 use std::alloc::Global;
 use tree_stores::{Depths, TreeFault, fits};
-
-/// Whether no cardinality is 2^64 or more, and no tree that the graph says is more
-/// than 128 levels deep.
-fn check_depths(alloc: Global, reading: &Reading) -> Result<(), ReverseFault>
-    requires reading { IsReading reading.now }
-    requires kinds { HaveNoClash reading.now.kinds.now }
-    ensures shallow { OnOk result (AreShallow reading.now) }
-    ensures fault { IfErr result (
-        IsFoundBy reading.now.graph.now reading.now.kinds.now limits) }
-{
-    let source = Source {
-        alloc,
-        graph: reading.graph,
-        roles: reading.roles,
-        kinds: reading.kinds,
-    };
-    if source.has_large_number() {
-        return Err(ReverseFault::NumberTooLarge);
-    }
-    match hold_statements(alloc, reading, &mut Depths) {
-        Ok(_) => Ok(()),
-        Err(TreeFault::TooDeep) => Err(ReverseFault::TooDeep),
-        Err(TreeFault::TooHeavy | TreeFault::Memory) => Err(ReverseFault::Memory),
-    }
-}
 
 /// The annotations and axioms that the graph says, by their numbers in the arena.
 ///
@@ -57,14 +33,48 @@ pub fn read_statements(
     ensures fault { IfErr result (
         IsFoundBy reading.now.graph.now reading.now.kinds.now limits) }
 {
-    check_depths(alloc, reading)?;
+    if has_large_number(alloc, reading) {
+        return Err(ReverseFault::NumberTooLarge);
+    }
     match hold_statements(alloc, reading, arena) {
         Ok(said) => {
             // What an arena holds is small.
             fits(arena);
             Ok(said)
         }
-        Err(TreeFault::TooHeavy) => Err(ReverseFault::TooHeavy),
-        Err(TreeFault::TooDeep | TreeFault::Memory) => Err(ReverseFault::Memory),
+        Err(TreeFault::TooDeep) => Err(ReverseFault::TooDeep),
+        Err(TreeFault::TooHeavy) => Err(fault_of_heavy(alloc, reading)),
+        Err(TreeFault::Memory) => Err(ReverseFault::Memory),
+    }
+}
+
+/// Whether a cardinality is 2^64 or more.
+fn has_large_number(alloc: Global, reading: &Reading) -> bool
+    requires { IsReading reading.now }
+    ensures { IsTrue result ↔ HasLargeNumber reading.now.graph.now }
+{
+    let source = Source {
+        alloc,
+        graph: reading.graph,
+        roles: reading.roles,
+        kinds: reading.kinds,
+    };
+    source.has_large_number()
+}
+
+/// What is told of a graph that says a tree which is too heavy: any that is too deep
+/// comes first.
+fn fault_of_heavy(alloc: Global, reading: &Reading) -> ReverseFault
+    requires reading { IsReading reading.now }
+    requires kinds { HaveNoClash reading.now.kinds.now }
+    requires small { HasLargeNumber reading.now.graph.now → ⊥ }
+    requires heavy { HasHeavyTree reading.now.graph.now reading.now.kinds.now
+        reading.now.header.now }
+    ensures { IsFoundBy reading.now.graph.now reading.now.kinds.now limits result }
+{
+    match hold_statements(alloc, reading, &mut Depths) {
+        Ok(_) => ReverseFault::TooHeavy,
+        Err(TreeFault::TooDeep) => ReverseFault::TooDeep,
+        Err(TreeFault::TooHeavy | TreeFault::Memory) => ReverseFault::Memory,
     }
 }

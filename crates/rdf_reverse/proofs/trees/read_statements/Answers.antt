@@ -1,17 +1,22 @@
 use Rattle.std.proofs.Common.{subst}
 use Rattle.rdf_annotations.specs.Annotations.{IsFaultOfSome}
 use Rattle.rdf_statements.specs.GraphTrees.{IsTreeOf}
-use Rattle.rdf_reverse.proofs.Limiting.{heavy_tree_found, none_heavy}
+use Rattle.rdf_reverse.specs.Reverse.{of_tree}
+use Rattle.rdf_reverse.proofs.Limiting.{deep_tree_found, within_limits}
 use Rattle.rdf_reverse.proofs.trees.read_statements.Goals as goal
 
 pub returns-in-Ok-clause-within : goal.returns-in-Ok-clause-within
-returns-in-Ok-clause-within c = record {
-  are_shallow = c.in_ok-check_depths.ensures.shallow;
-  light = none_heavy c.args.reading.now c.hold_statements.new.store.trees c.in-Ok.ensures.held c.fits.ensures;
-}
+returns-in-Ok-clause-within c =
+    within_limits c.args.reading.now c.hold_statements.new.store.trees (λ large. let is = c.has_large_number.ensures.1 large in let isnt = c.if-has_large_number.false in cc) c.in-Ok.ensures.held c.fits.ensures
 
-pub returns-in-Err-TooHeavy-clause-fault : goal.returns-in-Err-TooHeavy-clause-fault
-returns-in-Err-TooHeavy-clause-fault c =
+pub returns-in-Err-TooDeep-clause-fault : goal.returns-in-Err-TooDeep-clause-fault
+returns-in-Err-TooDeep-clause-fault c =
     let reading = c.args.reading.now in
-    heavy_tree_found reading c.requires.reading.one_header c.in_ok-check_depths.ensures.shallow
-    (subst (IsFaultOfSome (IsTreeOf reading.graph.now reading.kinds.now reading.header.now)) c.in-Err-TooHeavy.field-0-is c.in-Err-TooHeavy.ensures.fault)
+    deep_tree_found reading c.requires.reading.one_header (λ large. let is = c.has_large_number.ensures.1 large in let isnt = c.if-has_large_number.false in cc)
+    (subst (IsFaultOfSome (IsTreeOf reading.graph.now reading.kinds.now reading.header.now)) c.in-Err-TooDeep.field-0-is c.in-Err-TooDeep.ensures.fault)
+
+pub fault_of_heavy-requires-clause-heavy : goal.fault_of_heavy-requires-clause-heavy
+fault_of_heavy-requires-clause-heavy c =
+    let reading = c.args.reading.now in
+    let heavy = subst (IsFaultOfSome (IsTreeOf reading.graph.now reading.kinds.now reading.header.now)) c.in-Err-TooHeavy.field-0-is c.in-Err-TooHeavy.ensures.fault in
+    of_tree heavy.0 heavy.1 heavy.2
