@@ -1,4 +1,3 @@
 pub mod OfSort
-pub mod Listed
 pub mod Suited
 pub mod FirstUntyped

@@ -19,7 +19,7 @@ use Rattle.rdf_faults.specs.DecidedLaws.{HasSome}
 use Rattle.rdf_rows.specs.Fits.{FitsRow}
 use Rattle.rdf_rows.specs.NodeTripleLaws.{fits_is}
 use Rattle.rdf_asked.specs.Asking.{IsSuited, IsTold, SuitsProperty}
-use Rattle.rdf_asked.proofs.Listed.{all_more}
+use Rattle.rdf_asked.specs.ListedLaws.{all_more}
 
 -- loops
 

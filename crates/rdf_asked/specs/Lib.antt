@@ -1,3 +1,4 @@
 pub mod Sorts
 pub mod Elements
 pub mod Asking
+pub mod ListedLaws

@@ -1,5 +1,5 @@
 -- The steps by which terms, lists and rows become operands.
-use Rattle.std.specs.Prelude.{◌≡◌, ℕ, true, cond, List, [], ◌∷◌, ◌++◌, Contains, IfOk, IfSome, Option, None, Some, option_map, map, get_or, length, ◌<◌}
+use Rattle.std.specs.Prelude.{◌≡◌, ℕ, true, cond, List, [], ◌∷◌, ◌++◌, Contains, IfOk, IfSome, IsNone, Option, None, Some, option_map, map, get_or, length, ◌<◌}
 use Rattle.std.proofs.Common.{refl, ap, sym, subst, append_assoc, append-nil, ◌∙◌}
 use Rattle.std.proofs.Common.{Global}
 use Rattle.std.specs.declared.vec.Vec.{Vec}
@@ -42,6 +42,11 @@ pub found_more : {A E : Type 0} {P Q : A → Type 0} → ((a : A) → P a → Q 
 found_more w (Ok None) h = tt
 found_more w (Ok (Some a)) h = w a h
 found_more w (Err e) h = tt
+
+-- so of nothing that is found
+pub none_more : {A E : Type 0} {P Q : Type 0} → (P → Q) → (r : Result (Option A) E) → IfOk r (λ found. IsNone found → P) → IfOk r (λ found. IsNone found → Q)
+none_more w (Ok found) h = λ n. w (h n)
+none_more w (Err e) h = tt
 
 pub named_is : (k : List Entity) (kind : Kind) (t : Tag) (x : Term) (iri copied : List ℕ) → x ≡ Iri iri → HasKind k kind iri → copied ≡ iri → IsTree (named k kind t x) (operand.Leaf t (atom.Iri copied))
 named_is k kind t x iri copied is has same = record {

@@ -1,5 +1,5 @@
 -- What the triples of a node make it: a tag, over trees that stand by themselves and other nodes.
-use Rattle.std.specs.Prelude.{◌≡◌, ◌≤◌, ℕ, List, [], ◌∷◌, ◌++◌, Contains, Option, None, Some, length, slice_get}
+use Rattle.std.specs.Prelude.{◌≡◌, ◌≤◌, ℕ, Bool, true, false, List, [], ◌∷◌, ◌++◌, Contains, Option, None, Some, length, slice_get}
 use Rattle.std.specs.Map.{keys_of}
 use Rattle.owl_kind.specs.Kinds.{Entity}
 use Rattle.owl_tree.specs.declared.atom.Atom.TheVariants as atom
@@ -47,6 +47,17 @@ pub record IsTree (what : Option Tree) (o : Operand) : Type 0 where
   pub tree : Tree
   pub own : own_tree o ≡ Some tree
   pub is : what ≡ Some tree
+
+-- what is found is this tree, and nothing is found where there is none
+abbrev pub IsFound : Option Tree → Option Operand → Type 0
+IsFound what None = what ≡ None
+IsFound what (Some o) = IsTree what o
+
+-- Whether a term is of the sort is told by its kind, or by its role: not so of cardinalities, which may be too large, and of facets, which want a value.
+abbrev pub is_told_by_kind : Sort → Bool
+is_told_by_kind sort.Number = false
+is_told_by_kind sort.FacetPair = false
+is_told_by_kind _ = true
 
 abbrev pub IsOwn : List Triple → List Entity → Sort → Term → Operand → Type 0
 IsOwn g k s x o = IsTree (simple g k s x) o

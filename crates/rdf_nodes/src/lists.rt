@@ -1,8 +1,12 @@
 //! The elements of lists.
 
-ghost use Rattle.std.specs.Prelude.{IfOk, IfSome};
+ghost use Rattle.std.specs.Prelude.{◌≡◌, IfOk, IfSome, IsNone, true};
+ghost use Rattle.rdf_meaning.specs.Nodes.{role_of};
+ghost use Rattle.rdf_meaning.specs.declared.role.Role.TheVariants as role;
+ghost use Rattle.rdf_faults.specs.Asked.{IsListOf, is_of_sort};
+ghost use Rattle.rdf_roles.specs.Refusals.{AreNodesFormed};
 ghost use Rattle.rdf_roles.specs.Tables.{IsTableOf};
-ghost use Rattle.rdf_nodes.specs.Operands.{AreElements, IsCellWith};
+ghost use Rattle.rdf_nodes.specs.Operands.{AreElements, IsCellWith, is_told_by_kind};
 
 use crate::form::Operand;
 use crate::source::Source;
@@ -18,15 +22,22 @@ impl<'a> Source<'a> {
     /// has no more cells than the graph has triples.
     pub fn elements(&self, sort: Sort, list: &Term) -> Result<Option<Vec<Operand>>, NoMemory>
         requires { IsTableOf self.now.graph.now self.now.roles.now }
-        ensures { IfOk result (λ found. IfSome found (λ operands.
+        ensures elements { IfOk result (λ found. IfSome found (λ operands.
             AreElements self.now.graph.now self.now.kinds.now self.now.roles.now sort list.now
             operands.items)) }
+        ensures none { AreNodesFormed self.now.graph.now → is_told_by_kind sort ≡ true →
+            IfOk result (λ found. IsNone found → IsListOf self.now.graph.now
+            (is_of_sort self.now.graph.now self.now.kinds.now sort) 0 list.now → ⊥) }
     {
         let mut operands = Vec::new(self.alloc);
         let mut rest = list;
-        for _cell in 0..self.graph.len() {
+        for count in 0..self.graph.len() + 1 {
             let Some((first, behind)) = self.cell(rest) else {
-                break;
+                return if is_nil(rest) {
+                    Ok(Some(operands))
+                } else {
+                    Ok(None)
+                };
             };
             let Some(operand) = self.operand(sort, first)? else {
                 return Ok(None);
@@ -34,18 +45,16 @@ impl<'a> Source<'a> {
             operands.push(operand).map_err(AllocError::from)?;
             rest = behind;
         }
-        if is_nil(rest) {
-            Ok(Some(operands))
-        } else {
-            Ok(None)
-        }
+        Ok(None)
     }
 
     /// The first element and the rest of the cell that the term is.
     pub fn cell(&self, term: &Term) -> Option<(&'a Term, &'a Term)>
         requires { IsTableOf self.now.graph.now self.now.roles.now }
-        ensures { IfSome result (λ cell.
+        ensures cell { IfSome result (λ cell.
             IsCellWith self.now.graph.now term.now cell.0.now cell.1.now) }
+        ensures none { AreNodesFormed self.now.graph.now → IsNone result →
+            role_of self.now.graph.now term.now ≡ role.List → ⊥ }
     {
         let Term::Blank(label) = term else {
             return None;

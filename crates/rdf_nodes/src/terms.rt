@@ -1,11 +1,12 @@
 //! What a term stands for.
 
-ghost use Rattle.std.specs.Prelude.{◌≡◌, ◌↔◌, ◌∷◌, [], IfOk, IfSome, IsTrue, None, Some, cond};
+ghost use Rattle.std.specs.Prelude.{◌≡◌, ◌↔◌, ◌∷◌, [], IfOk, IfSome, IsNone, IsTrue, None, Some, cond, true};
+ghost use Rattle.rdf_faults.specs.Asked.{is_of_sort};
 ghost use Rattle.rdf_meaning.specs.declared.role.Role.TheVariants as role;
-ghost use Rattle.rdf_meaning.specs.Denotation.{anonymous, facet_pair, facets_of, literal_leaf, named, named_individual, number_leaf, or_else, plain_iri};
+ghost use Rattle.rdf_meaning.specs.Denotation.{anonymous, facet_pair, facets_of, literal_leaf, named, named_individual, number_leaf, or_else, plain_iri, simple};
 ghost use Rattle.rdf_meaning.specs.Nodes.{is_role, role_of};
 ghost use Rattle.rdf_roles.specs.Tables.{IsTableOf};
-ghost use Rattle.rdf_nodes.specs.Operands.{IsNodeOf, IsOperand, IsOwn, IsTree, sort_of};
+ghost use Rattle.rdf_nodes.specs.Operands.{IsFound, IsNodeOf, IsOperand, IsOwn, IsTree, is_told_by_kind, sort_of};
 
 use crate::form::Operand;
 use crate::source::Source;
@@ -20,8 +21,10 @@ impl<'a> Source<'a> {
     /// What the term stands for where a tree of the sort stands.
     pub fn operand(&self, sort: Sort, term: &Term) -> Result<Option<Operand>, NoMemory>
         requires { IsTableOf self.now.graph.now self.now.roles.now }
-        ensures { IfOk result (λ found. IfSome found (
+        ensures operand { IfOk result (λ found. IfSome found (
             IsOperand self.now.graph.now self.now.kinds.now self.now.roles.now sort term.now)) }
+        ensures none { IfOk result (λ found. IsNone found → is_told_by_kind sort ≡ true →
+            IsTrue (is_of_sort self.now.graph.now self.now.kinds.now sort term.now) → ⊥) }
     {
         match self.number_of(sort, term) {
             Some(number) => Ok(Some(Operand::Node(number))),
@@ -33,7 +36,10 @@ impl<'a> Source<'a> {
     /// denoted.
     fn number_of(&self, sort: Sort, term: &Term) -> Option<usize>
         requires { IsTableOf self.now.graph.now self.now.roles.now }
-        ensures { IfSome result (IsNodeOf self.now.graph.now self.now.roles.now sort term.now) }
+        ensures node { IfSome result (
+            IsNodeOf self.now.graph.now self.now.roles.now sort term.now) }
+        ensures none { IsNone result →
+            sort_of (role_of self.now.graph.now term.now) ≡ Some sort → ⊥ }
     {
         let Term::Blank(label) = term else {
             return None;
@@ -49,8 +55,10 @@ impl<'a> Source<'a> {
     #[tactic(auto, unfolding(rdf_meaning::specs::Denotation::simple))]
     fn itself(&self, sort: Sort, term: &Term) -> Result<Option<Operand>, NoMemory>
         requires { IsTableOf self.now.graph.now self.now.roles.now }
-        ensures { IfOk result (λ found. IfSome found (
+        ensures own { IfOk result (λ found. IfSome found (
             IsOwn self.now.graph.now self.now.kinds.now sort term.now)) }
+        ensures none { IfOk result (λ found. IsNone found → is_told_by_kind sort ≡ true →
+            simple self.now.graph.now self.now.kinds.now sort term.now ≡ None) }
     {
         match sort {
             Sort::ClassExpression | Sort::Class => self.named(Kind::Class, Tag::Class, term),
@@ -77,23 +85,25 @@ impl<'a> Source<'a> {
 
     /// The entity of the kind that the term names.
     fn named(&self, kind: Kind, tag: Tag, term: &Term) -> Result<Option<Operand>, NoMemory>
-        ensures { IfOk result (λ found. IfSome found (
-            IsTree (named self.now.kinds.now kind tag term.now))) }
+        ensures { IfOk result (IsFound (named self.now.kinds.now kind tag term.now)) }
     {
         match term {
-            Term::Iri(iri) if self.kinds.has(kind, iri) => {
+            Term::Iri(iri) => {
+                if !self.kinds.has(kind, iri) {
+                    return Ok(None);
+                }
                 let atom = Atom::Iri(iri.copy(self.alloc)?);
                 Ok(Some(Operand::Leaf(tag, atom)))
             }
-            Term::Iri(_) | Term::Blank(_) | Term::Literal(_) => Ok(None),
+            Term::Blank(_) | Term::Literal(_) => Ok(None),
         }
     }
 
     /// The individual that the term is.
     fn individual(&self, term: &Term) -> Result<Option<Operand>, NoMemory>
         requires { IsTableOf self.now.graph.now self.now.roles.now }
-        ensures { IfOk result (λ found. IfSome found (
-            IsTree (or_else (named_individual term.now) (anonymous self.now.graph.now term.now)))) }
+        ensures { IfOk result (IsFound (
+            or_else (named_individual term.now) (anonymous self.now.graph.now term.now))) }
     {
         match term {
             Term::Iri(iri) => {
@@ -107,8 +117,7 @@ impl<'a> Source<'a> {
     /// The anonymous individual that the term is.
     fn anonymous(&self, term: &Term) -> Result<Option<Operand>, NoMemory>
         requires { IsTableOf self.now.graph.now self.now.roles.now }
-        ensures { IfOk result (λ found. IfSome found (
-            IsTree (anonymous self.now.graph.now term.now))) }
+        ensures { IfOk result (IsFound (anonymous self.now.graph.now term.now)) }
     {
         match term {
             Term::Blank(label) if self.roles.role(label) == Role::Individual => {
@@ -121,7 +130,7 @@ impl<'a> Source<'a> {
 
     /// The IRI that the term is.
     fn plain_iri(&self, term: &Term) -> Result<Option<Operand>, NoMemory>
-        ensures { IfOk result (λ found. IfSome found (IsTree (plain_iri term.now))) }
+        ensures { IfOk result (IsFound (plain_iri term.now)) }
     {
         match term {
             Term::Iri(iri) => {
@@ -135,8 +144,8 @@ impl<'a> Source<'a> {
     /// The subject of annotations that the term is.
     fn subject(&self, term: &Term) -> Result<Option<Operand>, NoMemory>
         requires { IsTableOf self.now.graph.now self.now.roles.now }
-        ensures { IfOk result (λ found. IfSome found (
-            IsTree (or_else (plain_iri term.now) (anonymous self.now.graph.now term.now)))) }
+        ensures { IfOk result (IsFound (
+            or_else (plain_iri term.now) (anonymous self.now.graph.now term.now))) }
     {
         match term {
             Term::Iri(_) => self.plain_iri(term),
@@ -147,9 +156,8 @@ impl<'a> Source<'a> {
     /// The value of an annotation that the term is.
     fn value(&self, term: &Term) -> Result<Option<Operand>, NoMemory>
         requires { IsTableOf self.now.graph.now self.now.roles.now }
-        ensures { IfOk result (λ found. IfSome found (
-            IsTree (or_else (plain_iri term.now)
-            (or_else (anonymous self.now.graph.now term.now) (literal_leaf term.now))))) }
+        ensures { IfOk result (IsFound (or_else (plain_iri term.now)
+            (or_else (anonymous self.now.graph.now term.now) (literal_leaf term.now)))) }
     {
         match term {
             Term::Iri(_) => self.plain_iri(term),
@@ -160,7 +168,7 @@ impl<'a> Source<'a> {
 
     /// The literal that the term is.
     fn literal(&self, term: &Term) -> Result<Option<Operand>, NoMemory>
-        ensures { IfOk result (λ found. IfSome found (IsTree (literal_leaf term.now))) }
+        ensures { IfOk result (IsFound (literal_leaf term.now)) }
     {
         match term {
             Term::Literal(literal) => {

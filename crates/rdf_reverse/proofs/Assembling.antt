@@ -23,7 +23,7 @@ use Rattle.rdf_meaning.specs.Statements.{IsWhole, Says}
 use Rattle.rdf_scans.specs.declared.reading.Reading.{Reading}
 use Rattle.rdf_scans.specs.Outlines.{IsHeadAt}
 use Rattle.tree_stores.specs.Stores.{HasNumber, StandFor}
-use Rattle.rdf_reverse.specs.Clear.{IsClear, clear_says}
+use Rattle.rdf_reverse.specs.Clear.{IsClear, clear_header, clear_says}
 use Rattle.rdf_reverse.specs.Limits.{AreStated, AreWithin}
 use Rattle.rdf_reverse.specs.Reverse.{HasDeepTree, HasHeavyTree, of_tree, of_all, IsSaid}
 
@@ -83,7 +83,7 @@ module _ (reading : Reading) (clear : IsClear reading) (head : held.Head) (is : 
   whole : IsWhole g k reading.header.now
   whole =
       let says = clear_says reading clear in
-      subst (IsWhole g k) (same_only says.1.states.header reading.header.now (sym says.1.states.one_header ∙ clear.is_reading.one_header)) says.1.whole
+      subst (IsWhole g k) (clear_header reading clear says.0 says.1) says.1.whole
 
   module _ (trees : List Tree) (annotations axioms : List ℕ) (stated : AreStated reading trees annotations axioms) where
     abbrev plain : Ontology

@@ -13,16 +13,19 @@ use Rattle.rdf_meaning.specs.Kinds.{HaveNoClash}
 use Rattle.owl_list.specs.FilterLaws.{from_filter}
 use Rattle.rdf_meaning.specs.NodeLaws.{marked_subject, nodes_are, subjects_are}
 use Rattle.rdf_meaning.specs.Nodes.{is_blank, is_role, nodes_of, role_of, roles_of, subjects_of}
-use Rattle.rdf_meaning.specs.Statements.{InSteps, one_step, one_more, IsPartOfAxiom, Says, main_triples}
+use Rattle.rdf_meaning.specs.ListLaws.{same_only}
+use Rattle.rdf_meaning.specs.Statements.{HasAxiom, InSteps, one_step, one_more, IsPartOfAxiom, Says, main_triples}
 use Rattle.rdf_faults.specs.ConverseLaws.{faultless_says}
 use Rattle.rdf_faults.specs.Faultless.{IsFaultless}
 use Rattle.rdf_faults.specs.Faults.{IsBadCell, IsBadHeader, IsBadNode, IsCyclic, IsMixed, IsOfNothing, IsOrphan, IsReservedTriple, IsUntypedPart, IsUntypedStatement, no_axiom, no_note}
 use Rattle.rdf_faults.specs.Firsts.{HoldsForNone}
 use Rattle.rdf_faults.specs.Formed.{IsFormedAs}
+use Rattle.rdf_faults.specs.MeantLaws.{node_axiom, triple_axiom}
 use Rattle.rdf_roles.specs.NodeLaws.{blank_nodes_are}
 use Rattle.rdf_roles.specs.Tables.{blank_nodes}
 use Rattle.rdf_scans.specs.declared.reading.Reading.{Reading}
 use Rattle.rdf_scans.specs.Sorts.{IsReading}
+use Rattle.rdf_statements.specs.GraphTrees.{StatesAxioms}
 
 -- all triples name what they may
 pub record AreTyped (g : List Triple) (k : List Entity) (header : Term) : Type 0 where
@@ -122,3 +125,15 @@ module _ (reading : Reading) (clear : IsClear reading) where
 
   pub clear_says : (o : Ontology) × Says g k o
   clear_says = faultless_says g k clear_is_faultless
+
+  pub clear_header : (o : Ontology) (says : Says g k o) → says.states.header ≡ header
+  clear_header o says = same_only says.states.header header (sym says.states.one_header ∙ clear.is_reading.one_header)
+
+  pub clear_states : StatesAxioms g k header
+  clear_states =
+      let o = clear_says.0 in
+      let says = clear_says.1 in
+      record {
+        triples = subst (λ x. (t : Triple) → Contains (main_triples g k x) t → HasAxiom g k t) (clear_header o says) (triple_axiom g k o says);
+        nodes = node_axiom g k o says;
+      }

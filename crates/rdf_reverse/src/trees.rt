@@ -1,9 +1,9 @@
 //! The trees that a graph says, within the limits.
 
 ghost use Rattle.std.specs.Prelude.{◌↔◌, IfErr, IfOk, IsTrue, OnOk};
-ghost use Rattle.rdf_meaning.specs.Kinds.{HaveNoClash};
 ghost use Rattle.rdf_nodes.specs.Large.{HasLargeNumber};
 ghost use Rattle.rdf_scans.specs.Sorts.{IsReading};
+ghost use Rattle.rdf_reverse.specs.Clear.{IsClear};
 ghost use Rattle.rdf_reverse.specs.Limits.{AreStated, AreWithin};
 ghost use Rattle.rdf_reverse.specs.Reverse.{HasHeavyTree, IsFoundBy, limits};
 
@@ -25,8 +25,7 @@ pub fn read_statements(
     reading: &Reading,
     arena: &mut Arena,
 ) -> Result<Statements<ExprId>, ReverseFault>
-    requires reading { IsReading reading.now }
-    requires kinds { HaveNoClash reading.now.kinds.now }
+    requires { IsClear reading.now }
     ensures stated { IfOk result (λ said.
         AreStated reading.now arena.new.trees said.annotations.items said.axioms.items) }
     ensures within { OnOk result (AreWithin reading.now) }
@@ -65,8 +64,7 @@ fn has_large_number(alloc: Global, reading: &Reading) -> bool
 /// What is told of a graph that says a tree which is too heavy: any that is too deep
 /// comes first.
 fn fault_of_heavy(alloc: Global, reading: &Reading) -> ReverseFault
-    requires reading { IsReading reading.now }
-    requires kinds { HaveNoClash reading.now.kinds.now }
+    requires clear { IsClear reading.now }
     requires small { HasLargeNumber reading.now.graph.now → ⊥ }
     requires heavy { HasHeavyTree reading.now.graph.now reading.now.kinds.now
         reading.now.header.now }

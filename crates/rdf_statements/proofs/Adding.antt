@@ -247,6 +247,7 @@ known_still Old New kept known h =
     let reading = known.annotated.reading in
     record {
       annotated = h.annotated;
+      axioms = h.axioms;
       numbered = numbered_still reading.graph.now reading.kinds.now reading.roles.now Old New kept known.ids.now h.numbered;
       all = h.all;
       sets = sets_kept Old New kept reading.graph.now reading.kinds.now reading.roles.now known.sets.now.of_nodes.items known.sets.now.empty h.sets;

@@ -29,7 +29,7 @@ use Rattle.rdf_meaning.specs.Rows.{Row, axiom_rows, row_seen}
 use Rattle.rdf_roles.specs.Tables.{RoleTable}
 use Rattle.rdf_rows.specs.Chosen.{objects_with, the_only}
 use Rattle.rdf_rows.specs.Fits.{FitsRow}
-use Rattle.rdf_rows.specs.NodeTripleLaws.{chosen_is, fits_is, only_is}
+use Rattle.rdf_rows.specs.NodeTripleLaws.{chosen_is, fits_is}
 use Rattle.rdf_nodes.specs.declared.form.Operand.{Operand}
 use Rattle.rdf_nodes.specs.declared.form.Operand.TheVariants as operand
 use Rattle.rdf_nodes.specs.Operands.{IsCellWith, IsOperand, IsTree}
@@ -131,14 +131,15 @@ module _ (g : List Triple) (k : List Entity) (roles : RoleTable) where
     }
 
 -- the only object of the node's triples with the word
-pub node_at : (g : List Triple) (x : Term) (ts : List Triple) → ts ≡ of_subject g x → (w : Word) (y : Term) → the_only (objects_with w ts) ≡ Some y →
-    select g (of_node x) (At w) ≡ y ∷ []
-node_at g x ts of w y only =
-    chosen_is g x w ∙ (only_is (objects_with w (of_subject g x)) y).0 (ap (λ us. the_only (objects_with w us)) (sym of) ∙ only)
+pub node_at : (g : List Triple) (x : Term) (ts : List Triple) → ts ≡ of_subject g x → (w : Word) → the_only (objects_with w ts) ≡ the_only (select g (of_node x) (At w))
+node_at g x ts of w = ap (λ us. the_only (objects_with w us)) of ∙ sym (ap the_only (chosen_is g x w))
 
 -- a row fits a node by its own triples
 node_fits : (g : List Triple) (x : Term) (row : Row) (ts : List Triple) (r : Role) → ts ≡ of_subject g x → r ≡ role_of g x → FitsRow r ts row → Fits g (of_node x) row
 node_fits g x row ts r of of_role f = (fits_is g x row).1 (subst (λ q. FitsRow q (of_subject g x) row) of_role (subst (λ us. FitsRow r us row) of f))
+
+pub fits_row : (g : List Triple) (x : Term) (row : Row) (ts : List Triple) (r : Role) → ts ≡ of_subject g x → r ≡ role_of g x → Fits g (of_node x) row → FitsRow r ts row
+fits_row g x row ts r of of_role f = subst (λ us. FitsRow r us row) (sym of) (subst (λ q. FitsRow q (of_subject g x) row) (sym of_role) ((fits_is g x row).0 f))
 
 pub node_form_is : (g : List Triple) (k : List Entity) (roles : RoleTable) (x : Term) (row : Row) (form : AxiomForm) (ts : List Triple) (r : Role) → Contains axiom_rows row → ts ≡ of_subject g x →
     r ≡ role_of g x → FitsRow r ts row → form.tag ≡ row.tag → (found : Option (Vec Kid Global)) → found ≡ Some form.kids →

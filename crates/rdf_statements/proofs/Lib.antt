@@ -1,4 +1,5 @@
 pub mod Forming
+pub mod Finding
 pub mod Faults
 pub mod Sets
 pub mod Standing

@@ -18,7 +18,7 @@ use Rattle.rdf_annotations.specs.AnnotationLaws.{annotations_of_header, sets_kep
 use Rattle.rdf_annotations.specs.Held.{IsAnnotated}
 use Rattle.rdf_nodes.specs.Numbers.{AreAllHeld, AreKnown, AreNumbered, IsSomeNodeFault}
 use Rattle.rdf_statements.specs.declared.known.Known.{Known}
-use Rattle.rdf_statements.specs.GraphTrees.{AreStatements, IsTreeOf, of_node, of_annotation}
+use Rattle.rdf_statements.specs.GraphTrees.{AreStatements, IsTreeOf, StatesAxioms, of_node, of_annotation}
 use Rattle.rdf_statements.specs.Holding.{Adds, HoldAll, IsKnown, StandForAxioms}
 use Rattle.rdf_statements.proofs.Faults.{fault_of_some}
 use Rattle.rdf_statements.proofs.Held.{all_held}
@@ -59,13 +59,15 @@ module _ (g : List Triple) (k : List Entity) (header : Term) where
 -- with the numbers of nodes, all is known
 
 pub known_with : {N : Type 0} (Old New : Tree → N → Type 0) → Keeps Old New → (known : Known N) (ids : List (Option N)) → known.ids.now ≡ ids → IsAnnotated known.annotated →
+    StatesAxioms known.annotated.reading.graph.now known.annotated.reading.kinds.now known.annotated.reading.header.now →
     AreSets Old known.annotated.reading.graph.now known.annotated.reading.kinds.now known.annotated.reading.roles.now known.sets.now.of_nodes.items known.sets.now.empty →
     AreNumbered known.annotated.reading.graph.now known.annotated.reading.kinds.now known.annotated.reading.roles.now New ids →
     AreKnown known.annotated.reading.graph.now known.annotated.reading.roles.now ids → IsKnown New known
-known_with Old New kept known ids same annotated sets numbered all =
+known_with Old New kept known ids same annotated axioms sets numbered all =
     let reading = known.annotated.reading in
     record {
       annotated = annotated;
+      axioms = axioms;
       numbered = subst (AreNumbered reading.graph.now reading.kinds.now reading.roles.now New) (sym same) numbered;
       all = subst (AreKnown reading.graph.now reading.roles.now) (sym same) all;
       sets = sets_kept Old New kept reading.graph.now reading.kinds.now reading.roles.now known.sets.now.of_nodes.items known.sets.now.empty sets;

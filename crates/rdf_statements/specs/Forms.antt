@@ -1,5 +1,5 @@
 -- What a triple that is an axiom, or a node that stands for one, is made of: a tag, over kids (Mapping to RDF Graphs, section 3.2.5).
-use Rattle.std.specs.Prelude.{◌≡◌, ◌≤◌, ℕ, List, [], ◌∷◌, ◌++◌, Contains, IfSome, Some, length, map}
+use Rattle.std.specs.Prelude.{◌≡◌, ◌≤◌, ℕ, Bool, true, List, [], ◌∷◌, ◌++◌, Contains, length, map, option_map}
 use Rattle.std.specs.declared.vec.Vec.{Vec}
 use Rattle.std.proofs.Common.{Global}
 use Rattle.owl_kind.specs.Kinds.{Entity}
@@ -18,22 +18,45 @@ use Rattle.rdf_meaning.specs.declared.row.Want.{Want}
 use Rattle.rdf_meaning.specs.declared.row.Want.TheVariants.{One, Many, Whole, Keys, Declared, Mark, True}
 use Rattle.rdf_meaning.specs.Denotation.{Bearer, Fits, declared_entity, select, true_literal}
 use Rattle.rdf_meaning.specs.Nodes.{nil_iri}
+use Rattle.rdf_meaning.specs.Statements.{IsAxiomWith}
 use Rattle.rdf_meaning.specs.Rows.{Row, axiom_rows}
 use Rattle.rdf_roles.specs.Tables.{RoleTable}
 use Rattle.rdf_rows.specs.Chosen.{objects_with, the_only}
 use Rattle.rdf_nodes.specs.declared.form.Operand.{Operand}
-use Rattle.rdf_nodes.specs.Operands.{AllMean, AreElements, IsCellWith, IsOperand, IsTree, Means}
+use Rattle.rdf_faults.specs.Asked.{IsMet}
+use Rattle.rdf_nodes.specs.Operands.{AllMean, AreElements, IsCellWith, IsOperand, IsTree, Means, is_told_by_kind}
 use Rattle.rdf_statements.specs.declared.form.AxiomForm.{AxiomForm}
 use Rattle.rdf_statements.specs.declared.form.Kid.{Kid}
 use Rattle.rdf_statements.specs.declared.form.Kid.TheVariants as kid
 use Rattle.rdf_statements.specs.declared.places.Places.{Places}
 
--- the terms are those at the places of the node or triple
+-- the terms are the only ones at the places of the node or triple
 pub record ArePlacesOf (g : List Triple) (b : Bearer) (places : Places) : Type 0 where
-  pub at : (w : Word) (x : Term) → the_only (objects_with w places.triples.now) ≡ Some x → select g b (At w) ≡ x ∷ []
-  pub subject : IfSome places.subject (λ x. select g b Subject ≡ x.now ∷ [])
-  pub predicate : IfSome places.predicate (λ x. select g b Predicate ≡ x.now ∷ [])
-  pub object : IfSome places.object (λ x. select g b Object ≡ x.now ∷ [])
+  pub at : (w : Word) → the_only (objects_with w places.triples.now) ≡ the_only (select g b (At w))
+  pub subject : option_map (λ x. x.now) places.subject ≡ the_only (select g b Subject)
+  pub predicate : option_map (λ x. x.now) places.predicate ≡ the_only (select g b Predicate)
+  pub object : option_map (λ x. x.now) places.object ≡ the_only (select g b Object)
+
+-- whether a term is what is wanted is told by its kind and role, and by those of the elements of a list
+abbrev pub is_told : Want → Bool
+is_told (One s) = is_told_by_kind s
+is_told (Many s least) = is_told_by_kind s
+is_told (Whole t s least) = is_told_by_kind s
+is_told Keys = true
+is_told (Declared t) = true
+is_told Mark = true
+is_told True = true
+
+-- what stands at the part is what it wants
+pub record IsGivenAt (g : List Triple) (k : List Entity) (b : Bearer) (p : Part) : Type 0 where
+  pub object : Term
+  pub selected : select g b p.place ≡ object ∷ []
+  pub told : is_told p.want ≡ true
+  pub met : IsMet g k p.want object
+
+-- the node or triple is an axiom of no tag, over no trees
+abbrev pub IsNoAxiom : List Triple → List Entity → Bearer → Type 0
+IsNoAxiom g k b = (t : Tag) (ts : List Tree) → IsAxiomWith g k b t ts → ⊥
 
 module _ (g : List Triple) (k : List Entity) (roles : RoleTable) where
   -- the object properties and the data properties of a list, each in order

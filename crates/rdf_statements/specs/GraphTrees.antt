@@ -8,10 +8,15 @@ use Rattle.rdf_graph.specs.declared.term.Term.TheVariants.{Blank}
 use Rattle.rdf_graph.specs.declared.triple.Triple.{Triple}
 use Rattle.rdf_meaning.specs.declared.role.Role.TheVariants as role
 use Rattle.rdf_meaning.specs.Nodes.{nodes_of, role_of}
-use Rattle.rdf_meaning.specs.Statements.{Annotates, AreAxioms, AreNodeAxioms, IsAxiomOf, IsAxiomOfNode, header_notes, main_triples}
+use Rattle.rdf_meaning.specs.Statements.{Annotates, AreAxioms, AreNodeAxioms, HasAxiom, HasNodeAxiom, IsAxiomOf, IsAxiomOfNode, header_notes, main_triples}
 use Rattle.rdf_annotations.specs.Annotations.{IsNotedTree}
 use Rattle.rdf_nodes.specs.Numbers.{DenotesOwn}
 use Rattle.tree_stores.specs.Stores.{StandFor}
+
+-- Each triple that is no annotation and no part of a node is an axiom, and each node whose role it is stands for one.
+pub record StatesAxioms (g : List Triple) (k : List Entity) (header : Term) : Type 0 where
+  pub triples : (t : Triple) → Contains (main_triples g k header) t → HasAxiom g k t
+  pub nodes : (x : Term) → role_of g x ≡ role.Main → HasNodeAxiom g k x
 
 -- A tree that a node denotes as an expression, that of an annotation or of a set of them, or that of an axiom.
 pub data IsTreeOf (g : List Triple) (k : List Entity) (header : Term) : Tree → Type 0 where

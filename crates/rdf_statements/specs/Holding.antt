@@ -18,7 +18,7 @@ use Rattle.rdf_nodes.specs.Numbers.{AreKnown, AreNumbered}
 use Rattle.rdf_statements.specs.declared.form.AxiomForm.{AxiomForm}
 use Rattle.rdf_statements.specs.declared.form.Kid.{Kid}
 use Rattle.rdf_statements.specs.declared.known.Known.{Known}
-use Rattle.rdf_statements.specs.GraphTrees.{AreStatements, IsHeldWithin, IsTreeOf}
+use Rattle.rdf_statements.specs.GraphTrees.{AreStatements, IsHeldWithin, IsTreeOf, StatesAxioms}
 use Rattle.rdf_statements.specs.Forms.{AllKidsMean, KidMeans}
 
 -- one of these trees is too deep or too heavy
@@ -105,6 +105,7 @@ pub record HoldAll {N : Type 0} (Stands : Tree → N → Type 0) (g : List Tripl
 -- what the axioms of a graph are held with stands in the store
 pub record IsKnown {N : Type 0} (Stands : Tree → N → Type 0) (known : Known N) : Type 0 where
   pub annotated : IsAnnotated known.annotated
+  pub axioms : StatesAxioms known.annotated.reading.graph.now known.annotated.reading.kinds.now known.annotated.reading.header.now
   pub numbered : AreNumbered known.annotated.reading.graph.now known.annotated.reading.kinds.now known.annotated.reading.roles.now Stands known.ids.now
   pub all : AreKnown known.annotated.reading.graph.now known.annotated.reading.roles.now known.ids.now
   pub sets : AreSets Stands known.annotated.reading.graph.now known.annotated.reading.kinds.now known.annotated.reading.roles.now known.sets.now.of_nodes.items known.sets.now.empty

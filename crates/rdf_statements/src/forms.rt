@@ -1,11 +1,13 @@
 //! The axioms that triples are, and that nodes stand for.
 
-ghost use Rattle.std.specs.Prelude.{◌≡◌, IfOk, IfSome};
+ghost use Rattle.std.specs.Prelude.{◌≡◌, IfOk, IfSome, IsNone};
+ghost use Rattle.std.specs.List.{AllByRecursion};
 ghost use Rattle.rdf_graph.specs.declared.term.Term.TheVariants.{Blank};
 ghost use Rattle.rdf_meaning.specs.Denotation.{Bearer, of_node, of_triple};
 ghost use Rattle.rdf_meaning.specs.Nodes.{of_subject, role_of};
+ghost use Rattle.rdf_roles.specs.Refusals.{AreNodesFormed};
 ghost use Rattle.rdf_roles.specs.Tables.{IsTableOf};
-ghost use Rattle.rdf_statements.specs.Forms.{AreKids, ArePlacesOf, IsAxiomForm, StandAtPart};
+ghost use Rattle.rdf_statements.specs.Forms.{AreKids, ArePlacesOf, IsAxiomForm, IsGivenAt, IsNoAxiom, StandAtPart};
 
 use crate::form::{AxiomForm, Kid};
 use crate::kids::kids_of_term;
@@ -22,9 +24,11 @@ use rdf_terms::Label;
 /// for something (Mapping to RDF Graphs, tables 16 and 17).
 pub fn form_of_triple(source: &Source, triple: &Triple) -> Result<Option<AxiomForm>, NoMemory>
     requires { IsTableOf source.now.graph.now source.now.roles.now }
-    ensures { IfOk result (λ found. IfSome found (
+    ensures form { IfOk result (λ found. IfSome found (
         IsAxiomForm source.now.graph.now source.now.kinds.now source.now.roles.now
         (of_triple triple.now))) }
+    ensures none { AreNodesFormed source.now.graph.now → IfOk result (λ found. IsNone found →
+        IsNoAxiom source.now.graph.now source.now.kinds.now (of_triple triple.now)) }
 {
     let predicate = Term::Iri(triple.predicate.copy(source.alloc)?);
     let places = Places {
@@ -44,9 +48,11 @@ fn form_at_site(
 ) -> Result<Option<AxiomForm>, NoMemory>
     requires table { IsTableOf source.now.graph.now source.now.roles.now }
     requires places { ArePlacesOf source.now.graph.now (of_triple triple.now) places.now }
-    ensures { IfOk result (λ found. IfSome found (
+    ensures form { IfOk result (λ found. IfSome found (
         IsAxiomForm source.now.graph.now source.now.kinds.now source.now.roles.now
         (of_triple triple.now))) }
+    ensures none { AreNodesFormed source.now.graph.now → IfOk result (λ found. IsNone found →
+        IsNoAxiom source.now.graph.now source.now.kinds.now (of_triple triple.now)) }
 {
     let site = site_of(triple);
     for row in axiom_rows() {
@@ -63,9 +69,11 @@ fn form_at_site(
 /// stand for something (Mapping to RDF Graphs, tables 16 and 17).
 pub fn form_of_node(source: &Source, label: &Label) -> Result<Option<AxiomForm>, NoMemory>
     requires { IsTableOf source.now.graph.now source.now.roles.now }
-    ensures { IfOk result (λ found. IfSome found (
+    ensures form { IfOk result (λ found. IfSome found (
         IsAxiomForm source.now.graph.now source.now.kinds.now source.now.roles.now
         (of_node (Blank label.now)))) }
+    ensures none { AreNodesFormed source.now.graph.now → IfOk result (λ found. IsNone found →
+        IsNoAxiom source.now.graph.now source.now.kinds.now (of_node (Blank label.now))) }
 {
     let node = Term::Blank(label.copy(source.alloc)?);
     let places = Places {
@@ -88,9 +96,11 @@ fn form_of_role(
     requires places { ArePlacesOf source.now.graph.now (of_node node.now) places.now }
     requires triples { places.now.triples.now ≡ of_subject source.now.graph.now node.now }
     requires role { role ≡ role_of source.now.graph.now node.now }
-    ensures { IfOk result (λ found. IfSome found (
+    ensures form { IfOk result (λ found. IfSome found (
         IsAxiomForm source.now.graph.now source.now.kinds.now source.now.roles.now
         (of_node node.now))) }
+    ensures none { AreNodesFormed source.now.graph.now → IfOk result (λ found. IsNone found →
+        IsNoAxiom source.now.graph.now source.now.kinds.now (of_node node.now)) }
 {
     let _node = node;
     let words = NodeWords::of(places.triples);
@@ -111,10 +121,13 @@ fn kids_of_row(
     parts: &[Part],
 ) -> Result<Option<Vec<Kid>>, NoMemory>
     requires { IsTableOf source.now.graph.now source.now.roles.now }
-    ensures { (b : Bearer) → ArePlacesOf source.now.graph.now b places.now →
+    ensures kids { (b : Bearer) → ArePlacesOf source.now.graph.now b places.now →
         IfOk result (λ found. IfSome found (λ kids.
         AreKids source.now.graph.now source.now.kinds.now source.now.roles.now b parts.now
         kids.items)) }
+    ensures none { (b : Bearer) → ArePlacesOf source.now.graph.now b places.now →
+        AreNodesFormed source.now.graph.now → IfOk result (λ found. IsNone found →
+        AllByRecursion (IsGivenAt source.now.graph.now source.now.kinds.now b) parts.now → ⊥) }
 {
     let mut kids = Vec::new(source.alloc);
     let mut rest = parts;
@@ -131,10 +144,13 @@ fn kids_of_row(
 /// The kids that stand at the part.
 fn kids_at(source: &Source, places: &Places, part: &Part) -> Result<Option<Vec<Kid>>, NoMemory>
     requires { IsTableOf source.now.graph.now source.now.roles.now }
-    ensures { (b : Bearer) → ArePlacesOf source.now.graph.now b places.now →
+    ensures kids { (b : Bearer) → ArePlacesOf source.now.graph.now b places.now →
         IfOk result (λ found. IfSome found (λ kids.
         StandAtPart source.now.graph.now source.now.kinds.now source.now.roles.now b part.now
         kids.items)) }
+    ensures none { (b : Bearer) → ArePlacesOf source.now.graph.now b places.now →
+        AreNodesFormed source.now.graph.now → IfOk result (λ found. IsNone found →
+        IsGivenAt source.now.graph.now source.now.kinds.now b part.now → ⊥) }
 {
     match term_at(places, part.place) {
         Some(term) => kids_of_term(source, part.want, term),

@@ -1,6 +1,8 @@
 //! The properties of keys.
 
-ghost use Rattle.std.specs.Prelude.{IfOk, IfSome, IsTrue};
+ghost use Rattle.std.specs.Prelude.{IfOk, IfSome, IsNone, IsTrue, not};
+ghost use Rattle.rdf_faults.specs.Asked.{IsListOf, is_key};
+ghost use Rattle.rdf_roles.specs.Refusals.{AreNodesFormed};
 ghost use Rattle.rdf_roles.specs.Tables.{IsTableOf};
 ghost use Rattle.rdf_statements.specs.Forms.{AreKeyOperands, IsKeyAdded};
 
@@ -22,47 +24,51 @@ pub(crate) struct KeyOperands {
 /// data property. A list has no more cells than the graph has triples.
 pub(crate) fn keys_of(source: &Source, list: &Term) -> Result<Option<KeyOperands>, NoMemory>
     requires { IsTableOf source.now.graph.now source.now.roles.now }
-    ensures { IfOk result (λ found. IfSome found (λ keys.
+    ensures keys { IfOk result (λ found. IfSome found (λ keys.
         AreKeyOperands source.now.graph.now source.now.kinds.now source.now.roles.now list.now
         keys.of_objects.items keys.of_data.items)) }
+    ensures none { AreNodesFormed source.now.graph.now → IfOk result (λ found. IsNone found →
+        IsListOf source.now.graph.now (is_key source.now.graph.now source.now.kinds.now) 0
+        list.now → ⊥) }
 {
     let mut keys = KeyOperands {
         of_objects: Vec::new(source.alloc),
         of_data: Vec::new(source.alloc),
     };
     let mut rest = list;
-    for _cell in 0..source.graph.len() {
+    for count in 0..source.graph.len() + 1 {
         let Some((first, behind)) = source.cell(rest) else {
-            break;
+            return if is_nil(rest) {
+                Ok(Some(keys))
+            } else {
+                Ok(None)
+            };
         };
         if !add_key(source, &mut keys, first)? {
             return Ok(None);
         }
         rest = behind;
     }
-    if is_nil(rest) {
-        Ok(Some(keys))
-    } else {
-        Ok(None)
-    }
+    Ok(None)
 }
 
 /// Adds the property, and tells whether it is one.
 fn add_key(source: &Source, keys: &mut KeyOperands, term: &Term) -> Result<bool, NoMemory>
     requires { IsTableOf source.now.graph.now source.now.roles.now }
-    ensures { IfOk result (λ added. IsTrue added →
+    ensures added { IfOk result (λ added. IsTrue added →
         IsKeyAdded source.now.graph.now source.now.kinds.now source.now.roles.now term.now
-        keys.old.of_objects.items keys.old.of_data.items keys.new.of_objects.items keys.new.of_data.items) }
+        keys.old.of_objects.items keys.old.of_data.items keys.new.of_objects.items
+        keys.new.of_data.items) }
+    ensures none { IfOk result (λ added. IsTrue (not added) →
+        IsTrue (is_key source.now.graph.now source.now.kinds.now term.now) → ⊥) }
 {
     if let Some(key) = source.operand(Sort::ObjectPropertyExpression, term)? {
         keys.of_objects.push(key).map_err(AllocError::from)?;
         return Ok(true);
     }
-    match source.operand(Sort::DataPropertyExpression, term)? {
-        Some(key) => {
-            keys.of_data.push(key).map_err(AllocError::from)?;
-            Ok(true)
-        }
-        None => Ok(false),
+    if let Some(key) = source.operand(Sort::DataPropertyExpression, term)? {
+        keys.of_data.push(key).map_err(AllocError::from)?;
+        return Ok(true);
     }
+    Ok(false)
 }

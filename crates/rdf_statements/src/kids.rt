@@ -1,10 +1,12 @@
 //! The kids that a term gives.
 
-ghost use Rattle.std.specs.Prelude.{◌≡◌, ◌≤◌, ◌∷◌, ◌++◌, [], IfOk, IfSome, IsTrue, length, map};
+ghost use Rattle.std.specs.Prelude.{◌≡◌, ◌≤◌, ◌↔◌, ◌∷◌, ◌++◌, [], IfOk, IfSome, IsNone, IsTrue, length, map, true};
+ghost use Rattle.rdf_faults.specs.Asked.{IsMet};
 ghost use Rattle.rdf_meaning.specs.declared.row.Want.TheVariants.{Declared, Keys, Many, One, Whole};
+ghost use Rattle.rdf_roles.specs.Refusals.{AreNodesFormed};
 ghost use Rattle.rdf_roles.specs.Tables.{IsTableOf};
 ghost use Rattle.rdf_statements.specs.declared.form.Kid.TheVariants as kid;
-ghost use Rattle.rdf_statements.specs.Forms.{GivesKids};
+ghost use Rattle.rdf_statements.specs.Forms.{GivesKids, is_told};
 
 use crate::form::Kid;
 use crate::keys::{KeyOperands, keys_of};
@@ -24,9 +26,12 @@ pub(crate) fn kids_of_term(
     term: &Term,
 ) -> Result<Option<Vec<Kid>>, NoMemory>
     requires { IsTableOf source.now.graph.now source.now.roles.now }
-    ensures { IfOk result (λ found. IfSome found (λ kids.
+    ensures kids { IfOk result (λ found. IfSome found (λ kids.
         GivesKids source.now.graph.now source.now.kinds.now source.now.roles.now term.now want
         kids.items)) }
+    ensures none { AreNodesFormed source.now.graph.now → is_told want ≡ true →
+        IfOk result (λ found. IsNone found →
+        IsMet source.now.graph.now source.now.kinds.now want term.now → ⊥) }
 {
     match want {
         Want::One(sort) => one(source, sort, term),
@@ -35,22 +40,29 @@ pub(crate) fn kids_of_term(
         Want::Keys => keys(source, term),
         Want::Declared(tag) => declared(source, tag, term),
         Want::Mark => Ok(Some(Vec::new(source.alloc))),
-        Want::True if is_true(term) => Ok(Some(Vec::new(source.alloc))),
-        Want::True => Ok(None),
+        Want::True => {
+            if !is_true(term) {
+                return Ok(None);
+            }
+            Ok(Some(Vec::new(source.alloc)))
+        }
     }
 }
 
 /// The kid where one tree of the sort is wanted.
 fn one(source: &Source, sort: Sort, term: &Term) -> Result<Option<Vec<Kid>>, NoMemory>
     requires { IsTableOf source.now.graph.now source.now.roles.now }
-    ensures { IfOk result (λ found. IfSome found (λ kids.
+    ensures kids { IfOk result (λ found. IfSome found (λ kids.
         GivesKids source.now.graph.now source.now.kinds.now source.now.roles.now term.now
         (One sort) kids.items)) }
+    ensures none { AreNodesFormed source.now.graph.now → is_told (One sort) ≡ true →
+        IfOk result (λ found. IsNone found →
+        IsMet source.now.graph.now source.now.kinds.now (One sort) term.now → ⊥) }
 {
-    match source.operand(sort, term)? {
-        Some(operand) => only(source.alloc, Kid::One(operand)),
-        None => Ok(None),
-    }
+    let Some(operand) = source.operand(sort, term)? else {
+        return Ok(None);
+    };
+    Ok(Some(only(source.alloc, Kid::One(operand))?))
 }
 
 /// The kids where a list of so many is wanted.
@@ -61,14 +73,20 @@ fn many(
     list: &Term,
 ) -> Result<Option<Vec<Kid>>, NoMemory>
     requires { IsTableOf source.now.graph.now source.now.roles.now }
-    ensures { IfOk result (λ found. IfSome found (λ kids.
+    ensures kids { IfOk result (λ found. IfSome found (λ kids.
         GivesKids source.now.graph.now source.now.kinds.now source.now.roles.now list.now
         (Many sort least) kids.items)) }
+    ensures none { AreNodesFormed source.now.graph.now → is_told (Many sort least) ≡ true →
+        IfOk result (λ found. IsNone found →
+        IsMet source.now.graph.now source.now.kinds.now (Many sort least) list.now → ⊥) }
 {
-    match source.elements(sort, list)? {
-        Some(elements) if least <= elements.len() => Ok(Some(ones(source.alloc, elements)?)),
-        _ => Ok(None),
+    let Some(elements) = source.elements(sort, list)? else {
+        return Ok(None);
+    };
+    if elements.len() < least {
+        return Ok(None);
     }
+    Ok(Some(ones(source.alloc, elements)?))
 }
 
 /// The kid where such a list is wanted as one kid with the tag.
@@ -80,41 +98,51 @@ fn whole(
     list: &Term,
 ) -> Result<Option<Vec<Kid>>, NoMemory>
     requires { IsTableOf source.now.graph.now source.now.roles.now }
-    ensures { IfOk result (λ found. IfSome found (λ kids.
+    ensures kids { IfOk result (λ found. IfSome found (λ kids.
         GivesKids source.now.graph.now source.now.kinds.now source.now.roles.now list.now
         (Whole tag sort least) kids.items)) }
+    ensures none { AreNodesFormed source.now.graph.now → is_told (Whole tag sort least) ≡ true →
+        IfOk result (λ found. IsNone found →
+        IsMet source.now.graph.now source.now.kinds.now (Whole tag sort least) list.now → ⊥) }
 {
-    match source.elements(sort, list)? {
-        Some(elements) if least <= elements.len() => {
-            only(source.alloc, Kid::Group(tag, elements))
-        }
-        _ => Ok(None),
+    let Some(elements) = source.elements(sort, list)? else {
+        return Ok(None);
+    };
+    if elements.len() < least {
+        return Ok(None);
     }
+    Ok(Some(only(source.alloc, Kid::Group(tag, elements))?))
 }
 
 /// The kids where a list of one or more properties that are a key is wanted.
 fn keys(source: &Source, list: &Term) -> Result<Option<Vec<Kid>>, NoMemory>
     requires { IsTableOf source.now.graph.now source.now.roles.now }
-    ensures { IfOk result (λ found. IfSome found (λ kids.
+    ensures kids { IfOk result (λ found. IfSome found (λ kids.
         GivesKids source.now.graph.now source.now.kinds.now source.now.roles.now list.now Keys
         kids.items)) }
+    ensures none { AreNodesFormed source.now.graph.now → is_told Keys ≡ true →
+        IfOk result (λ found. IsNone found →
+        IsMet source.now.graph.now source.now.kinds.now Keys list.now → ⊥) }
 {
-    match keys_of(source, list)? {
-        Some(keys) if has_key(&keys) => {
-            let KeyOperands {
-                of_objects,
-                of_data,
-            } = keys;
-            let objects = Kid::Group(Tag::ObjectKeys, of_objects);
-            both(source.alloc, objects, Kid::Group(Tag::DataKeys, of_data))
-        }
-        _ => Ok(None),
+    let Some(keys) = keys_of(source, list)? else {
+        return Ok(None);
+    };
+    if !has_key(&keys) {
+        return Ok(None);
     }
+    let KeyOperands {
+        of_objects,
+        of_data,
+    } = keys;
+    let objects = Kid::Group(Tag::ObjectKeys, of_objects);
+    let data = Kid::Group(Tag::DataKeys, of_data);
+    Ok(Some(both(source.alloc, objects, data)?))
 }
 
 /// Whether there is a property.
 fn has_key(keys: &KeyOperands) -> bool
-    ensures { IsTrue result → 1 ≤ length (keys.now.of_objects.items ++ keys.now.of_data.items) }
+    ensures { IsTrue result
+        ↔ (1 ≤ length (keys.now.of_objects.items ++ keys.now.of_data.items)) }
 {
     if keys.of_objects.is_empty() {
         !keys.of_data.is_empty()
@@ -125,36 +153,41 @@ fn has_key(keys: &KeyOperands) -> bool
 
 /// The kid where an entity that is declared is wanted.
 fn declared(source: &Source, tag: Tag, term: &Term) -> Result<Option<Vec<Kid>>, NoMemory>
-    ensures { IfOk result (λ found. IfSome found (λ kids.
+    ensures kids { IfOk result (λ found. IfSome found (λ kids.
         GivesKids source.now.graph.now source.now.kinds.now source.now.roles.now term.now
         (Declared tag) kids.items)) }
+    ensures none { AreNodesFormed source.now.graph.now → is_told (Declared tag) ≡ true →
+        IfOk result (λ found. IsNone found →
+        IsMet source.now.graph.now source.now.kinds.now (Declared tag) term.now → ⊥) }
 {
-    match term {
-        Term::Iri(iri) if is_declared(source.kinds, tag, term) => {
-            let atom = Atom::Iri(iri.copy(source.alloc)?);
-            only(source.alloc, Kid::One(Operand::Leaf(tag, atom)))
-        }
-        Term::Iri(_) | Term::Blank(_) | Term::Literal(_) => Ok(None),
+    let Term::Iri(iri) = term else {
+        return Ok(None);
+    };
+    if !is_declared(source.kinds, tag, term) {
+        return Ok(None);
     }
+    let atom = Atom::Iri(iri.copy(source.alloc)?);
+    let kid = Kid::One(Operand::Leaf(tag, atom));
+    Ok(Some(only(source.alloc, kid)?))
 }
 
 /// The kid alone.
-fn only(alloc: Global, kid: Kid) -> Result<Option<Vec<Kid>>, NoMemory>
-    ensures { IfOk result (λ found. IfSome found (λ kids. kids.items ≡ kid ∷ [])) }
+fn only(alloc: Global, kid: Kid) -> Result<Vec<Kid>, NoMemory>
+    ensures { IfOk result (λ kids. kids.items ≡ kid ∷ []) }
 {
     let mut kids = Vec::new(alloc);
     kids.push(kid).map_err(AllocError::from)?;
-    Ok(Some(kids))
+    Ok(kids)
 }
 
 /// The two kids.
-fn both(alloc: Global, first: Kid, second: Kid) -> Result<Option<Vec<Kid>>, NoMemory>
-    ensures { IfOk result (λ found. IfSome found (λ kids. kids.items ≡ first ∷ second ∷ [])) }
+fn both(alloc: Global, first: Kid, second: Kid) -> Result<Vec<Kid>, NoMemory>
+    ensures { IfOk result (λ kids. kids.items ≡ first ∷ second ∷ []) }
 {
     let mut kids = Vec::new(alloc);
     kids.push(first).map_err(AllocError::from)?;
     kids.push(second).map_err(AllocError::from)?;
-    Ok(Some(kids))
+    Ok(kids)
 }
 
 /// The operands as kids.

@@ -75,8 +75,7 @@ fn add_node<S: TreeStore>(
     Ok(())
 }
 
-/// The number of the axiom that the node stands for. One that stands for none does
-/// not occur.
+/// The number of the axiom that the node stands for.
 fn hold_node<S: TreeStore>(
     known: &Known<S::Number>,
     store: &mut S,
@@ -101,7 +100,7 @@ fn hold_node<S: TreeStore>(
         kinds: reading.kinds,
     };
     let Some(form) = form_of_node(&source, label)? else {
-        return Err(TreeFault::Memory);
+        unreachable!();
     };
     hold_form(&source, store, known.ids, &form, &sets)
 }

@@ -1,6 +1,7 @@
 //! The terms at the places of a row.
 
-ghost use Rattle.std.specs.Prelude.{◌≡◌, ◌∷◌, [], IfSome, List};
+ghost use Rattle.std.specs.Prelude.{◌≡◌, List, option_map};
+ghost use Rattle.rdf_rows.specs.Chosen.{the_only};
 ghost use Rattle.rdf_graph.specs.declared.triple.Triple.{Triple};
 ghost use Rattle.rdf_meaning.specs.Denotation.{Bearer, select};
 ghost use Rattle.rdf_statements.specs.Forms.{ArePlacesOf};
@@ -22,7 +23,7 @@ pub(crate) struct Places<'a> {
 /// The only term at the place.
 pub(crate) fn term_at<'a>(places: &Places<'a>, place: Place) -> Option<&'a Term>
     ensures { (g : List Triple) (b : Bearer) → ArePlacesOf g b places.now →
-        IfSome result (λ term. select g b place ≡ term.now ∷ []) }
+        option_map (λ term. term.now) result ≡ the_only (select g b place) }
 {
     match place {
         Place::At(word) => only_object(places.triples, word),

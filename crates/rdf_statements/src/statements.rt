@@ -6,7 +6,7 @@ ghost use Rattle.rdf_annotations.specs.Annotations.{AreSets, IsFaultOfSome};
 ghost use Rattle.rdf_annotations.specs.Held.{IsAnnotated};
 ghost use Rattle.rdf_meaning.specs.Kinds.{HaveNoClash};
 ghost use Rattle.rdf_scans.specs.Sorts.{IsReading};
-ghost use Rattle.rdf_statements.specs.GraphTrees.{AreStatements, IsHeldWithin, IsTreeOf};
+ghost use Rattle.rdf_statements.specs.GraphTrees.{AreStatements, IsHeldWithin, IsTreeOf, StatesAxioms};
 ghost use Rattle.rdf_statements.specs.Holding.{HoldAll, IsKnown, StandForAxioms};
 ghost use Rattle.tree_stores.specs.Stores.{Keeps};
 
@@ -33,7 +33,7 @@ pub struct Statements<N> {
 ///
 /// `TooDeep` where what a node denotes, an annotation, a set of annotations, or an
 /// axiom is more than 128 levels deep; `TooHeavy` where one has more than 2^24 nodes
-/// and leaves. What is no axiom of the graph is refused as `Memory`.
+/// and leaves.
 pub fn hold_statements<S: TreeStore>(
     alloc: Global,
     reading: &Reading,
@@ -41,6 +41,8 @@ pub fn hold_statements<S: TreeStore>(
 ) -> Result<Statements<S::Number>, TreeFault>
     requires reading { IsReading reading.now }
     requires kinds { HaveNoClash reading.now.kinds.now }
+    requires axioms { StatesAxioms reading.now.graph.now reading.now.kinds.now
+        reading.now.header.now }
     ensures stated { IfOk result (λ said. AreStatements (S.stands store.new)
         reading.now.graph.now reading.now.kinds.now reading.now.header.now
         said.annotations.items said.axioms.items) }
@@ -67,6 +69,8 @@ fn hold_annotated<S: TreeStore>(
 ) -> Result<Statements<S::Number>, TreeFault>
     requires annotated { IsAnnotated annotated.now }
     requires kinds { HaveNoClash annotated.now.reading.kinds.now }
+    requires axioms { StatesAxioms annotated.now.reading.graph.now
+        annotated.now.reading.kinds.now annotated.now.reading.header.now }
     ensures all { IfOk result (λ said. HoldAll (S.stands store.new)
         annotated.now.reading.graph.now annotated.now.reading.kinds.now
         annotated.now.reading.header.now said.annotations.items said.axioms.items) }
@@ -86,6 +90,8 @@ fn hold_noted<S: TreeStore>(
 ) -> Result<Statements<S::Number>, TreeFault>
     requires annotated { IsAnnotated annotated.now }
     requires kinds { HaveNoClash annotated.now.reading.kinds.now }
+    requires axioms { StatesAxioms annotated.now.reading.graph.now
+        annotated.now.reading.kinds.now annotated.now.reading.header.now }
     requires sets { AreSets (S.stands store.old) annotated.now.reading.graph.now
         annotated.now.reading.kinds.now annotated.now.reading.roles.now
         sets.now.of_nodes.items sets.now.empty }

@@ -1,6 +1,6 @@
 //! The axioms that triples are, in a store.
 
-ghost use Rattle.std.specs.Prelude.{◌≡◌, ◌<◌, ◌∷◌, [], IfErr, IfOk, OnOk, Some, length, slice_get};
+ghost use Rattle.std.specs.Prelude.{◌≡◌, ◌<◌, ◌∷◌, [], Contains, IfErr, IfOk, OnOk, Some, length, slice_get};
 ghost use Rattle.std.specs.List.{filter};
 ghost use Rattle.rdf_annotations.specs.Annotations.{IsFaultOfSome};
 ghost use Rattle.rdf_graph.specs.declared.triple.Triple.{Triple};
@@ -66,8 +66,7 @@ fn add_triple<S: TreeStore>(
     Ok(())
 }
 
-/// The numbers of the axioms that the triple at this place is. One that is none
-/// does not occur.
+/// The numbers of the axioms that the triple at this place is.
 fn hold_triple<S: TreeStore>(
     known: &Known<S::Number>,
     store: &mut S,
@@ -75,6 +74,9 @@ fn hold_triple<S: TreeStore>(
 ) -> Result<Vec<S::Number>, TreeFault>
     requires known { IsKnown (S.stands store.old) known.now }
     requires place { place < length known.now.annotated.reading.graph.now }
+    requires main { (t : Triple) → slice_get known.now.annotated.reading.graph.now place ≡ Some t →
+        Contains (main_triples known.now.annotated.reading.graph.now
+        known.now.annotated.reading.kinds.now known.now.annotated.reading.header.now) t }
     ensures held { (t : Triple) → slice_get known.now.annotated.reading.graph.now place ≡ Some t →
         IfOk result (λ ns. StandForSome (S.stands store.new)
         (AreAxioms known.now.annotated.reading.graph.now known.now.annotated.reading.kinds.now
@@ -93,7 +95,7 @@ fn hold_triple<S: TreeStore>(
         kinds: reading.kinds,
     };
     let Some(form) = form_of_triple(&source, reading.graph.at(place))? else {
-        return Err(TreeFault::Memory);
+        unreachable!();
     };
     hold_form(&source, store, known.ids, &form, &sets)
 }

@@ -1,10 +1,14 @@
 use Rattle.std.proofs.Common.{inl, refl, subst, sym}
 use Rattle.rdf_annotations.specs.Annotations.{IsFaultOfSome}
 use Rattle.rdf_statements.specs.GraphTrees.{IsTreeOf}
+use Rattle.rdf_reverse.specs.Clear.{clear_states}
 use Rattle.rdf_reverse.specs.Reverse.{IsFoundBy, limits}
 use Rattle.rdf_reverse.proofs.Limiting.{deep_tree_found, heavy_found, none_beyond}
 use Rattle.rdf_reverse.proofs.trees.fault_of_heavy.Goals as goal
 use Rattle.rdf_reverse.proofs.trees.fault_of_heavy.Goals.{in-Ok, in-Err-TooDeep, in-Err-TooHeavy}
+
+pub hold_statements-requires-clause-axioms : goal.hold_statements-requires-clause-axioms
+hold_statements-requires-clause-axioms c = clear_states c.args.reading.now c.requires.clear
 
 pub returns : goal.returns
 returns c =
@@ -13,10 +17,10 @@ returns c =
     elim c.match-hold_statements.branch [
       | in-Ok w ↦
           subst Found (sym w.result-is)
-          (heavy_found reading c.requires.reading.one_header (record { small = c.requires.small; shallow = none_beyond reading w.in-Ok.ensures.held }) c.requires.heavy)
+          (heavy_found reading c.requires.clear.is_reading.one_header (record { small = c.requires.small; shallow = none_beyond reading w.in-Ok.ensures.held }) c.requires.heavy)
       | in-Err-TooDeep w ↦
           subst Found (sym w.result-is)
-          (deep_tree_found reading c.requires.reading.one_header c.requires.small
+          (deep_tree_found reading c.requires.clear.is_reading.one_header c.requires.small
           (subst (IsFaultOfSome (IsTreeOf reading.graph.now reading.kinds.now reading.header.now)) w.in-Err-TooDeep.field-0-is w.in-Err-TooDeep.ensures.fault))
       | in-Err-TooHeavy w ↦ subst Found (sym w.result-is) (inl refl)
     ]

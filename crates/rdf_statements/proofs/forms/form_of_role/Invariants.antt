@@ -1,4 +1,7 @@
+use Rattle.rdf_roles.specs.Refusals.{AreNodesFormed}
+use Rattle.rdf_meaning.specs.Denotation.{of_node}
+use Rattle.rdf_statements.proofs.Finding.{NoneOfFirst}
 use Rattle.rdf_statements.proofs.forms.form_of_role.Given as goal
 
 abbrev pub invariant-loop-row : goal.invariant-loop-row
-invariant-loop-row l = Unit {0}
+invariant-loop-row l = AreNodesFormed l.source.graph.now → NoneOfFirst l.source.graph.now l.source.kinds.now (of_node l.node) l.row-items l.row-index

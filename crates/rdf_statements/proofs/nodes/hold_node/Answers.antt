@@ -1,4 +1,4 @@
-use Rattle.std.proofs.Common.{◌∷◌, [], IfSome, subst, sym}
+use Rattle.std.proofs.Common.{◌∷◌, [], IfSome, IsNone, refl, subst, sym}
 use Rattle.owl_list.specs.AscendingLaws.{in_head}
 use Rattle.rdf_graph.specs.declared.term.Term.TheVariants.{Blank}
 use Rattle.rdf_meaning.specs.Denotation.{of_node}
@@ -24,6 +24,11 @@ returns-in_err-sets-clause-fault g c =
     passed c.from_residual.result c.in_err-sets.field-0.0 _ c.from_residual.ensures.1
     (fault_of_some (IsNotedTree graph kinds header) (IsTreeOf graph kinds header) (λ t is. of_annotation t is) c.in_err-sets.field-0.0 c.in_err-sets.ensures.fault)
 
+pub unreachable-requires : goal.unreachable-requires
+unreachable-requires g c =
+    let is = c.requires.known.axioms.nodes (Blank c.args.label.now) c.requires.main in
+    c.in_ok-form.ensures.none c.requires.known.annotated.reading.formed (subst IsNone (sym c.in_default.is) refl) is.tag is.kids is.said
+
 pub hold_form-requires-clause-numbered : goal.hold_form-requires-clause-numbered
 hold_form-requires-clause-numbered g c =
     let stands = g.S.TreeStore.stands in
@@ -38,7 +43,7 @@ hold_form-requires-clause-trees g c =
     let kinds = reading.kinds.now in
     let roles = reading.roles.now in
     let bearer = of_node (Blank c.args.label.now) in
-    let form = subst (λ f. IfSome f (IsAxiomForm graph kinds roles bearer)) c.in-Some.is c.in_ok-form.ensures in
+    let form = subst (λ f. IfSome f (IsAxiomForm graph kinds roles bearer)) c.in-Some.is c.in_ok-form.ensures.form in
     form_has graph kinds roles (g.S.TreeStore.stands c.args.store.now) c.args.known.now.ids.now c.requires.known.numbered c.requires.known.all bearer c.in-Some.form form
 
 pub hold_form-requires-clause-sets : goal.hold_form-requires-clause-sets
@@ -55,7 +60,7 @@ returns-clause-held g c =
     let kinds = reading.kinds.now in
     let roles = reading.roles.now in
     let x = Blank c.args.label.now in
-    let form = subst (λ f. IfSome f (IsAxiomForm graph kinds roles (of_node x))) c.in-Some.is c.in_ok-form.ensures in
+    let form = subst (λ f. IfSome f (IsAxiomForm graph kinds roles (of_node x))) c.in-Some.is c.in_ok-form.ensures.form in
     let s = c.in_ok-sets.ensures.held in
     let sets = notes s.annotations ∷ [] in
     let stand = subst (StandFor (stands c.hold_only_set.new.store) sets) (sym c.deref.ensures.value) s.stand in
@@ -70,7 +75,7 @@ returns-clause-fault g c =
     let kinds = reading.kinds.now in
     let roles = reading.roles.now in
     let x = Blank c.args.label.now in
-    let form = subst (λ f. IfSome f (IsAxiomForm graph kinds roles (of_node x))) c.in-Some.is c.in_ok-form.ensures in
+    let form = subst (λ f. IfSome f (IsAxiomForm graph kinds roles (of_node x))) c.in-Some.is c.in_ok-form.ensures.form in
     let s = c.in_ok-sets.ensures.held in
     let sets = notes s.annotations ∷ [] in
     let stand = subst (StandFor (stands c.hold_only_set.new.store) sets) (sym c.deref.ensures.value) s.stand in

@@ -8,7 +8,7 @@ pub hold_known-requires : goal.hold_known-requires
 hold_known-requires g c =
     let stands = g.S.TreeStore.stands in
     let known : Known g.row.S-Number.Denot = record { annotated = c.args.annotated.now; sets = c.args.sets; ids = c.deref.result } in
-    known_with (stands c.args.store.now) (stands c.numbers.new.store) c.numbers.ensures.kept known c.in_ok-ids.ids.items c.deref.ensures.value c.requires.annotated c.requires.sets
+    known_with (stands c.args.store.now) (stands c.numbers.new.store) c.numbers.ensures.kept known c.in_ok-ids.ids.items c.deref.ensures.value c.requires.annotated c.requires.axioms c.requires.sets
     c.in_ok-ids.ensures.numbered c.in_ok-ids.ensures.known
 
 pub returns-clause-all : goal.returns-clause-all
@@ -16,7 +16,7 @@ returns-clause-all g c =
     let stands = g.S.TreeStore.stands in
     let known : Known g.row.S-Number.Denot = record { annotated = c.args.annotated.now; sets = c.args.sets; ids = c.deref.result } in
     let is =
-    known_with (stands c.args.store.now) (stands c.numbers.new.store) c.numbers.ensures.kept known c.in_ok-ids.ids.items c.deref.ensures.value c.requires.annotated c.requires.sets
+    known_with (stands c.args.store.now) (stands c.numbers.new.store) c.numbers.ensures.kept known c.in_ok-ids.ids.items c.deref.ensures.value c.requires.annotated c.requires.axioms c.requires.sets
     c.in_ok-ids.ensures.numbered c.in_ok-ids.ensures.known in
     ok_more
     (λ said stated. all_stated (stands c.numbers.new.store) (stands c.hold_known.new.store) c.hold_known.ensures.kept known c.requires.kinds is

@@ -13,6 +13,13 @@ returns-then-not-is_main-clause-added g c = λ t at.
     triple_passed reading.graph.now reading.kinds.now reading.header.now stands stands t c.args.axioms.now.items
     (told reading.graph.now reading.kinds.now reading.header.now c.at.result.now t same c.sort_of.result c.is_main.result false c.sort_of.ensures c.is_main.ensures c.if-not-is_main.true)
 
+pub hold_triple-requires-clause-main : goal.hold_triple-requires-clause-main
+hold_triple-requires-clause-main g c = λ t at.
+    let reading = c.args.known.now.annotated.reading in
+    let same = same_Some c.at.result.now t (sym c.at.ensures.at ∙ at) in
+    in_main reading.graph.now reading.kinds.now reading.header.now t c.args.place at
+    (told reading.graph.now reading.kinds.now reading.header.now c.at.result.now t same c.sort_of.result c.is_main.result true c.sort_of.ensures c.is_main.ensures c.if-not-is_main.false)
+
 pub returns-in_err-more-clause-fault : goal.returns-in_err-more-clause-fault
 returns-in_err-more-clause-fault g c =
     let reading = c.args.known.now.annotated.reading in

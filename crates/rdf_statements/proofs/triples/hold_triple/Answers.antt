@@ -1,4 +1,4 @@
-use Rattle.std.proofs.Common.{◌∷◌, [], IfErr, IfOk, IfSome, subst, sym, ◌∙◌}
+use Rattle.std.proofs.Common.{◌∷◌, [], IfErr, IfOk, IfSome, IsNone, refl, subst, sym, ◌∙◌}
 use Rattle.std.proofs.lemmas.Option.{same_Some}
 use Rattle.rdf_meaning.specs.Denotation.{of_triple}
 use Rattle.rdf_meaning.specs.Statements.{AreAxioms, IsAxiomOf}
@@ -12,6 +12,13 @@ use Rattle.rdf_statements.proofs.HoldingKids.{err_more, ok_more}
 use Rattle.rdf_statements.proofs.Standing.{form_has}
 use Rattle.rdf_statements.proofs.triples.hold_triple.Goals as goal
 
+pub unreachable-requires : goal.unreachable-requires
+unreachable-requires g c =
+    let reading = c.args.known.now.annotated.reading in
+    let u = c.at.result.now in
+    let is = c.requires.known.axioms.triples u (c.requires.main u c.at.ensures.at) in
+    c.in_ok-form.ensures.none c.requires.known.annotated.reading.formed (subst IsNone (sym c.in_default.is) refl) is.tag is.kids is.said
+
 pub hold_form-requires-clause-trees : goal.hold_form-requires-clause-trees
 hold_form-requires-clause-trees g c =
     let reading = c.args.known.now.annotated.reading in
@@ -19,7 +26,7 @@ hold_form-requires-clause-trees g c =
     let kinds = reading.kinds.now in
     let roles = reading.roles.now in
     let bearer = of_triple c.at.result.now in
-    let form = subst (λ f. IfSome f (IsAxiomForm graph kinds roles bearer)) c.in-Some.is c.in_ok-form.ensures in
+    let form = subst (λ f. IfSome f (IsAxiomForm graph kinds roles bearer)) c.in-Some.is c.in_ok-form.ensures.form in
     form_has graph kinds roles (g.S.TreeStore.stands c.args.store.now) c.args.known.now.ids.now c.requires.known.numbered c.requires.known.all bearer c.in-Some.form form
 
 pub hold_form-requires-clause-sets : goal.hold_form-requires-clause-sets
@@ -36,7 +43,7 @@ returns-clause-held g c = λ t at.
     let roles = reading.roles.now in
     let u = c.at.result.now in
     let same = same_Some u t (sym c.at.ensures.at ∙ at) in
-    let form = subst (λ f. IfSome f (IsAxiomForm graph kinds roles (of_triple u))) c.in-Some.is c.in_ok-form.ensures in
+    let form = subst (λ f. IfSome f (IsAxiomForm graph kinds roles (of_triple u))) c.in-Some.is c.in_ok-form.ensures.form in
     let v = c.in_ok-sets.ensures u c.at.ensures.at in
     let stand = subst (StandFor (stands c.args.store.now) v.sets) (sym c.deref.ensures.value) v.stand in
     subst (λ w. IfOk c.hold_form.result (λ ns. StandForSome (stands c.hold_form.new.store) (AreAxioms graph kinds (w ∷ [])) ns.items)) same
@@ -52,7 +59,7 @@ returns-clause-fault g c = λ t at.
     let roles = reading.roles.now in
     let u = c.at.result.now in
     let same = same_Some u t (sym c.at.ensures.at ∙ at) in
-    let form = subst (λ f. IfSome f (IsAxiomForm graph kinds roles (of_triple u))) c.in-Some.is c.in_ok-form.ensures in
+    let form = subst (λ f. IfSome f (IsAxiomForm graph kinds roles (of_triple u))) c.in-Some.is c.in_ok-form.ensures.form in
     let v = c.in_ok-sets.ensures u c.at.ensures.at in
     let stand = subst (StandFor (stands c.args.store.now) v.sets) (sym c.deref.ensures.value) v.stand in
     let some = some_variant graph kinds u v.sets v.variants in

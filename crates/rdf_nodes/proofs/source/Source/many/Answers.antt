@@ -9,4 +9,4 @@ returns-in-Some c =
     let roles = c.args.self.now.roles.now in
     let enough : c.args.least ≤ length c.in-Some.elements.items = search rules in
     many c.args.sort c.args.least c.in-Some.elements.items enough
-    (subst (λ f. IfSome f (λ os. AreElements g k roles c.args.sort c.args.list.now os.items)) c.in-Some.is c.in_ok-elements.ensures)
+    (subst (λ f. IfSome f (λ os. AreElements g k roles c.args.sort c.args.list.now os.items)) c.in-Some.is c.in_ok-elements.ensures.elements)

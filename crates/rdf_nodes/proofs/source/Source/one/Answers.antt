@@ -6,5 +6,5 @@ use Rattle.rdf_nodes.proofs.source.Source.one.Goals as goal
 pub returns : goal.returns
 returns c =
     let items : c.push.new.self.items ≡ c.in-Some.operand ∷ [] = search rules in
-    let found = subst (λ f. IfSome f (IsOperand c.args.self.now.graph.now c.args.self.now.kinds.now c.args.self.now.roles.now c.args.sort c.args.term.now)) c.in-Some.is (c.in_ok-operand.ensures) in
+    let found = subst (λ f. IfSome f (IsOperand c.args.self.now.graph.now c.args.self.now.kinds.now c.args.self.now.roles.now c.args.sort c.args.term.now)) c.in-Some.is c.in_ok-operand.ensures.operand in
     one_of c.args.self.now.graph.now c.args.self.now.kinds.now c.args.self.now.roles.now c.args.term.now c.args.sort c.in-Some.operand c.push.new.self.items items found

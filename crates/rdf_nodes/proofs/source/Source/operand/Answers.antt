@@ -1,9 +1,17 @@
+use Rattle.std.proofs.Common.{refl}
+use Rattle.rdf_nodes.specs.OfSortLaws.{nothing_of_sort}
 use Rattle.rdf_nodes.specs.Operands.{by_itself, by_node}
-use Rattle.rdf_nodes.proofs.Steps.{found_more}
+use Rattle.rdf_nodes.proofs.Steps.{found_more, none_more}
 use Rattle.rdf_nodes.proofs.source.Source.operand.Goals as goal
 
-pub returns-in-Some : goal.returns-in-Some
-returns-in-Some c = by_node _ c.in-Some.ensures
+pub returns-in-Some-clause-operand : goal.returns-in-Some-clause-operand
+returns-in-Some-clause-operand c = by_node _ c.in-Some.ensures.node
 
-pub returns-in-None : goal.returns-in-None
-returns-in-None c = found_more (λ o. by_itself o) c.itself.result c.itself.ensures
+pub returns-in-None-clause-operand : goal.returns-in-None-clause-operand
+returns-in-None-clause-operand c = found_more (λ o. by_itself o) c.itself.result c.itself.ensures.own
+
+pub returns-in-None-clause-none : goal.returns-in-None-clause-none
+returns-in-None-clause-none c =
+    none_more
+    (λ none told h. nothing_of_sort c.args.self.now.graph.now c.args.self.now.kinds.now c.args.sort c.args.term.now told (none told) (c.in-None.ensures.none refl) h)
+    c.itself.result c.itself.ensures.none

@@ -211,3 +211,20 @@ module _ (g : List Triple) (x : Term) (triples : List Triple) (about : triples �
   pub no_cell_told : (o : Option B) → option_map now o ≡ the_cell triples → AreNodesFormed g → IsNone o → role_of g x ≡ role.List → ⊥
   no_cell_told None e formed n l = no_cell e (cells g formed x l)
   no_cell_told (Some c) e formed n l = absurd (some_is_some c n)
+
+-- a term has the elements of one list at most
+pub same_elements : (g : List Triple) (x : Term) (ys zs : List Term) → HasElements g x ys → HasElements g x zs → ys ≡ zs
+same_elements g _ _ zs (no_element x e) k =
+    elim (elements_are g x zs k) [
+      | inl empty ↦ sym empty.1
+      | inr c ↦ absurd (no_nil g x e c.list)
+    ]
+same_elements g _ _ zs (element x first rest more l f r h) k =
+    elim (elements_are g x zs k) [
+      | inl empty ↦ absurd (no_nil g x empty.0 l)
+      | inr c ↦
+          let same = same_only first c.first (sym f ∙ c.one_first) in
+          let behind = same_only rest c.rest (sym r ∙ c.one_rest) in
+          let more_same = same_elements g rest more c.more h (subst (λ z. HasElements g z c.more) (sym behind) c.has_elements) in
+          ap (λ z. z ∷ more) same ∙ ap (λ m. c.first ∷ m) more_same ∙ sym c.joined
+    ]
