@@ -1,4 +1,5 @@
 mod Numbering
+mod Passing
 mod Placing
 mod Reifying
 mod Saying

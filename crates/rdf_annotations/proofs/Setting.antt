@@ -130,7 +130,7 @@ set_at [] number n m e = cc
 set_at (o ∷ os) zero n m e = cc
 set_at (o ∷ os) (suc number) n m e = set_at os number n m e
 
-other_at : {N : Type 0} (of_nodes : List (Option N)) (number other : ℕ) (n : N) → (number ≡ other → ⊥) → slice_get (slice_set of_nodes number (Some n)) other ≡ slice_get of_nodes other
+pub other_at : {N : Type 0} (of_nodes : List (Option N)) (number other : ℕ) (n : N) → (number ≡ other → ⊥) → slice_get (slice_set of_nodes number (Some n)) other ≡ slice_get of_nodes other
 other_at [] number other n d = refl
 other_at (o ∷ os) zero zero n d = absurd (d refl)
 other_at (o ∷ os) zero (suc other) n d = refl

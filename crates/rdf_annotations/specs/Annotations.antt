@@ -1,5 +1,5 @@
 -- The annotations of a graph, and their sets, as they stand in a store (Mapping to RDF Graphs, sections 2.3 and 3.3).
-use Rattle.std.specs.Prelude.{◌≡◌, ◌||◌, ℕ, Bool, IsTrue, List, [], Contains, Option, Some, slice_get}
+use Rattle.std.specs.Prelude.{◌≡◌, ◌||◌, ℕ, Bool, IsTrue, List, [], Contains, Option, Some, length, slice_get}
 use Rattle.std.specs.List.{filter}
 use Rattle.std.specs.Map.{keys_of}
 use Rattle.owl_kind.specs.Kinds.{Entity}
@@ -70,6 +70,12 @@ HasItsSet {N} g roles of_nodes number =
 -- so has each node
 pub record HaveSets {N : Type 0} (g : List Triple) (roles : RoleTable) (of_nodes : List (Option N)) : Type 0 where
   pub each : (number : ℕ) → HasItsSet g roles of_nodes number
+
+-- With a place for each node, those of the reifications among the nodes that were passed.
+pub record AreSetsSoFar {N : Type 0} (Stands : Tree → N → Type 0) (g : List Triple) (k : List Entity) (roles : RoleTable) (passed : List ℕ) (of_nodes : List (Option N)) (empty : N) : Type 0 where
+  pub some : AreSomeSets Stands g k roles of_nodes empty
+  pub places : length of_nodes ≡ length roles.nodes
+  pub have : (number : ℕ) → Contains passed number → HasItsSet g roles of_nodes number
 
 -- By the numbers of nodes: the numbers of the sets of annotations of all reifications; and that of the empty set.
 pub record AreSets {N : Type 0} (Stands : Tree → N → Type 0) (g : List Triple) (k : List Entity) (roles : RoleTable) (of_nodes : List (Option N)) (empty : N) : Type 0 where

@@ -1,11 +1,10 @@
 //! The sets of annotations of all reifications.
 
-ghost use Rattle.std.specs.Prelude.{◌≡◌, [], IfErr, IfOk, IsTrue, OnOk, Some, slice_get};
+ghost use Rattle.std.specs.Prelude.{◌<◌, ◌++◌, ◌∷◌, [], IfErr, IfOk, IsTrue, List, OnOk, ℕ, length};
 ghost use Rattle.rdf_meaning.specs.Nodes.{role_of};
 ghost use Rattle.rdf_meaning.specs.Statements.{notes};
-ghost use Rattle.rdf_annotations.specs.Annotations.{AreSets, AreSomeSets, HasItsSet, HaveSets, IsFaultOfSome, IsNotedTree, IsSetOf, is_noted};
+ghost use Rattle.rdf_annotations.specs.Annotations.{AreSets, AreSetsSoFar, AreSomeSets, IsFaultOfSome, IsNotedTree, IsSetOf, is_noted};
 ghost use Rattle.rdf_annotations.specs.Held.{IsAnnotated};
-ghost use Rattle.rdf_roles.specs.Tables.{IsTableOf};
 ghost use Rattle.tree_stores.specs.Stores.{Keeps};
 
 use crate::annotated::Annotated;
@@ -57,18 +56,14 @@ impl<'a> Annotated<'a> {
     {
         let mut sets = self.no_sets(store)?;
         self.add_sets(store, &mut sets)?;
-        if self.have_sets(&sets) {
-            Ok(sets)
-        } else {
-            Err(TreeFault::Memory)
-        }
+        Ok(sets)
     }
 
     /// The number of the empty set, and no others.
     fn no_sets<S: TreeStore>(&self, store: &mut S) -> Result<Sets<S::Number>, NoMemory>
-        ensures sets { IfOk result (λ sets. AreSomeSets (S.stands store.new)
+        ensures sets { IfOk result (λ sets. AreSetsSoFar (S.stands store.new)
             self.now.reading.graph.now self.now.reading.kinds.now self.now.reading.roles.now
-            sets.of_nodes.items sets.empty) }
+            [] sets.of_nodes.items sets.empty) }
         ensures kept { Keeps (S.stands store.old) (S.stands store.new) }
     {
         let empty = hold_empty(self.alloc, store)?;
@@ -84,10 +79,10 @@ impl<'a> Annotated<'a> {
         sets: &mut Sets<S::Number>,
     ) -> Result<(), TreeFault>
         requires annotated { IsAnnotated self.now }
-        requires sets { AreSomeSets (S.stands store.old) self.now.reading.graph.now
-            self.now.reading.kinds.now self.now.reading.roles.now sets.old.of_nodes.items
+        requires sets { AreSetsSoFar (S.stands store.old) self.now.reading.graph.now
+            self.now.reading.kinds.now self.now.reading.roles.now [] sets.old.of_nodes.items
             sets.old.empty }
-        ensures sets { OnOk result (AreSomeSets (S.stands store.new) self.now.reading.graph.now
+        ensures sets { OnOk result (AreSets (S.stands store.new) self.now.reading.graph.now
             self.now.reading.kinds.now self.now.reading.roles.now sets.new.of_nodes.items
             sets.new.empty) }
         ensures fault { IfErr result (IsFaultOfSome (IsNotedTree self.now.reading.graph.now
@@ -108,62 +103,30 @@ impl<'a> Annotated<'a> {
         number: usize,
     ) -> Result<(), TreeFault>
         requires annotated { IsAnnotated self.now }
-        requires sets { AreSomeSets (S.stands store.old) self.now.reading.graph.now
-            self.now.reading.kinds.now self.now.reading.roles.now sets.old.of_nodes.items
+        requires number { number < length self.now.reading.roles.now.nodes }
+        requires sets { AreSetsSoFar (S.stands store.old) self.now.reading.graph.now
+            self.now.reading.kinds.now self.now.reading.roles.now [] sets.old.of_nodes.items
             sets.old.empty }
-        ensures sets { OnOk result (AreSomeSets (S.stands store.new) self.now.reading.graph.now
-            self.now.reading.kinds.now self.now.reading.roles.now sets.new.of_nodes.items
-            sets.new.empty) }
+        ensures sets { (passed : List ℕ) → AreSetsSoFar (S.stands store.old)
+            self.now.reading.graph.now self.now.reading.kinds.now self.now.reading.roles.now
+            passed sets.old.of_nodes.items sets.old.empty
+            → OnOk result (AreSetsSoFar (S.stands store.new) self.now.reading.graph.now
+            self.now.reading.kinds.now self.now.reading.roles.now (passed ++ number ∷ [])
+            sets.new.of_nodes.items sets.new.empty) }
         ensures fault { IfErr result (IsFaultOfSome (IsNotedTree self.now.reading.graph.now
             self.now.reading.kinds.now self.now.reading.header.now)) }
         ensures kept { Keeps (S.stands store.old) (S.stands store.new) }
     {
         let Some(label) = self.reading.roles.node(number) else {
-            return Err(TreeFault::Memory);
+            unreachable!();
         };
-        if !is_note(self.reading.roles.role(label)) || sets.of_nodes.len() <= number {
+        if !is_note(self.reading.roles.role(label)) {
             return Ok(());
         }
         let node = Term::Blank(label.copy(self.alloc)?);
         let set = self.hold_set(store, sets, &node)?;
         sets.of_nodes[number] = Some(set);
         Ok(())
-    }
-
-    /// Whether each reification has its set.
-    fn have_sets<N: Copy>(&self, sets: &Sets<N>) -> bool
-        requires { IsTableOf self.now.reading.graph.now self.now.reading.roles.now }
-        ensures { IsTrue result → HaveSets self.now.reading.graph.now self.now.reading.roles.now
-            sets.now.of_nodes.items }
-    {
-        for number in 0..self.reading.roles.len() {
-            if !self.has_its_set(sets, number) {
-                return false;
-            }
-        }
-        true
-    }
-
-    /// Whether the node with this number has its set, where it is a reification.
-    fn has_its_set<N: Copy>(&self, sets: &Sets<N>, number: usize) -> bool
-        requires { IsTableOf self.now.reading.graph.now self.now.reading.roles.now }
-        ensures { IsTrue result → HasItsSet self.now.reading.graph.now self.now.reading.roles.now
-            sets.now.of_nodes.items number }
-    {
-        match self.reading.roles.node(number) {
-            Some(label) => !is_note(self.reading.roles.role(label)) || has_set(sets, number),
-            None => false,
-        }
-    }
-}
-
-/// Whether the node with this number has a set.
-fn has_set<N: Copy>(sets: &Sets<N>, number: usize) -> bool
-    ensures { IsTrue result → (n : N) × (slice_get sets.now.of_nodes.items number ≡ Some (Some n)) }
-{
-    match sets.of_nodes.get(number) {
-        Some(Some(_)) => true,
-        Some(None) | None => false,
     }
 }
 

@@ -1,6 +1,6 @@
 //! By which nodes each triple of a graph is annotated.
 
-ghost use Rattle.std.specs.Prelude.{◌≡◌, ◌+◌, ℕ, IfOk, List, OnOk, Some, slice_get};
+ghost use Rattle.std.specs.Prelude.{◌≡◌, ◌+◌, ◌<◌, ℕ, IfOk, List, OnOk, Some, length, slice_get};
 ghost use Rattle.indexmap.specs.IndexMap.{IsEmpty};
 ghost use Rattle.rdf_graph.specs.declared.triple.Triple.{Triple};
 ghost use Rattle.rdf_meaning.specs.Statements.{noters};
@@ -89,6 +89,7 @@ fn add_node(
     number: usize,
 ) -> Result<(), NoMemory>
     requires reading { IsReading reading.now }
+    requires number { number < length reading.now.roles.now.nodes }
     requires before { AreNotersUpTo reading.now.graph.now reading.now.roles.now number
         (numbers_at by_place.old.entries) }
     ensures { OnOk result (AreNotersUpTo reading.now.graph.now reading.now.roles.now (number + 1)

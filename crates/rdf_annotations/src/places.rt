@@ -1,6 +1,6 @@
 //! The triple that a reification reifies.
 
-ghost use Rattle.std.specs.Prelude.{◌≡◌, ◌↔◌, IfOk, IsTrue};
+ghost use Rattle.std.specs.Prelude.{◌≡◌, ◌↔◌, ◌<◌, IfOk, IsTrue, length};
 ghost use Rattle.rdf_annotations.specs.Noters.{AnnotatesAt, IsPlaceNoted, IsPlaceOf, IsPlaceReified, has_annotation};
 ghost use Rattle.rdf_graph.specs.declared.term.Term.TheVariants.{Blank};
 ghost use Rattle.rdf_graph.specs.Terms.{triple_cmp};
@@ -26,11 +26,12 @@ pub fn annotated_place(
     reading: &Reading,
     number: usize,
 ) -> Result<Option<usize>, NoMemory>
-    requires { IsReading reading.now }
+    requires reading { IsReading reading.now }
+    requires number { number < length reading.now.roles.now.nodes }
     ensures { IfOk result (AnnotatesAt reading.now.graph.now number) }
 {
     let Some(label) = reading.roles.node(number) else {
-        return Err(NoMemory);
+        unreachable!();
     };
     if !is_note(reading.roles.role(label)) {
         return Ok(None);

@@ -1,6 +1,6 @@
 //! The numbers of what nodes stand for, by their labels.
 
-ghost use Rattle.std.specs.Prelude.{◌+◌, List, IfOk, OnOk};
+ghost use Rattle.std.specs.Prelude.{◌+◌, ◌<◌, List, IfOk, OnOk, length};
 ghost use Rattle.owl_tree.specs.Trees.{Tree};
 ghost use Rattle.rdf_roles.specs.Tables.{IsTableOf};
 ghost use Rattle.rdf_nodes.specs.Nodes.{HoldNumbers, HoldNumbersUpTo};
@@ -39,7 +39,8 @@ impl<'a> Source<'a> {
         table: &mut IndexMap<Label, ExprId>,
         number: usize,
     ) -> Result<(), NoMemory>
-        requires { IsTableOf self.now.graph.now self.now.roles.now }
+        requires table { IsTableOf self.now.graph.now self.now.roles.now }
+        requires number { number < length self.now.roles.now.nodes }
         ensures { (trees : List Tree)
             → AreNumbered self.now.graph.now self.now.kinds.now self.now.roles.now
             (HasNumber trees) ids.now
@@ -49,7 +50,7 @@ impl<'a> Source<'a> {
             trees (number + 1) table.new.entries) }
     {
         let Some(label) = self.roles.node(number) else {
-            return Err(NoMemory);
+            unreachable!();
         };
         if !is_expression(self.roles.role(label)) {
             return Ok(());

@@ -25,27 +25,27 @@ pub fn first_orphan<'a>(alloc: Global, reading: &Reading<'a>) -> Result<Option<&
         HoldsForNone (IsOrphanIn reading.now) (blank_nodes reading.now.graph.now)) }
 {
     let marks = reached(alloc, reading)?;
-    first_unreached(reading, &marks)
+    Ok(first_unreached(reading, &marks))
 }
 
 /// The first node that would be a part of an axiom and that has no mark.
-fn first_unreached<'a>(reading: &Reading<'a>, marks: &[bool]) -> Result<Option<&'a Label>, NoMemory>
+fn first_unreached<'a>(reading: &Reading<'a>, marks: &[bool]) -> Option<&'a Label>
     requires reading { IsReading reading.now }
     requires marks { AreMarked reading.now.graph.now (IsReachedIn reading.now) marks.now }
-    ensures some { IfOk result (λ found. IfSome found (λ node.
-        IsFirstNode reading.now.graph.now (IsOrphanIn reading.now) node.now)) }
-    ensures none { IfOk result (λ found. IsNone found →
-        HoldsForNone (IsOrphanIn reading.now) (blank_nodes reading.now.graph.now)) }
+    ensures some { IfSome result (λ node.
+        IsFirstNode reading.now.graph.now (IsOrphanIn reading.now) node.now) }
+    ensures none { IsNone result →
+        HoldsForNone (IsOrphanIn reading.now) (blank_nodes reading.now.graph.now) }
 {
     for number in 0..reading.roles.len() {
         let Some(label) = reading.roles.node(number) else {
-            return Err(NoMemory);
+            unreachable!();
         };
         if is_part_of_axiom(reading.roles.role(label)) && !has_mark(marks, number) {
-            return Ok(Some(label));
+            return Some(label);
         }
     }
-    Ok(None)
+    None
 }
 
 /// Whether a node of the role is a part of an axiom.

@@ -1,6 +1,6 @@
 //! The axioms that nodes stand for, in a store.
 
-ghost use Rattle.std.specs.Prelude.{◌≡◌, ◌∷◌, [], IfErr, IfOk, List, OnOk, Some, ℕ, slice_get};
+ghost use Rattle.std.specs.Prelude.{◌≡◌, ◌<◌, ◌∷◌, [], IfErr, IfOk, List, OnOk, Some, ℕ, length, slice_get};
 ghost use Rattle.rdf_annotations.specs.Annotations.{IsFaultOfSome, IsNotedTree};
 ghost use Rattle.rdf_graph.specs.declared.term.Term.TheVariants as held;
 ghost use Rattle.rdf_meaning.specs.declared.role.Role.TheVariants as role;
@@ -51,7 +51,8 @@ fn add_node<S: TreeStore>(
     number: usize,
     axioms: &mut Vec<S::Number>,
 ) -> Result<(), TreeFault>
-    requires { IsKnown (S.stands store.old) known.now }
+    requires known { IsKnown (S.stands store.old) known.now }
+    requires number { number < length known.now.annotated.reading.roles.now.nodes }
     ensures added { (label : List ℕ)
         → slice_get (blank_nodes known.now.annotated.reading.graph.now) number ≡ Some label →
         OnOk result (Adds (S.stands store.old) (S.stands store.new)
@@ -65,7 +66,7 @@ fn add_node<S: TreeStore>(
 {
     let roles = known.annotated.reading.roles;
     let Some(label) = roles.node(number) else {
-        return Err(TreeFault::Memory);
+        unreachable!();
     };
     if !is_main(roles.role(label)) {
         return Ok(());

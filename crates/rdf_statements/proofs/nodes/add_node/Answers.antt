@@ -12,7 +12,7 @@ returns-then-not-is_main-clause-added g c = λ label at.
     let stands = g.S.TreeStore.stands c.args.store.now in
     let reading = c.args.known.now.annotated.reading in
     let graph = reading.graph.now in
-    let table = c.requires.annotated.reading.table in
+    let table = c.requires.known.annotated.reading.table in
     let same = label_at graph reading.roles.now table c.args.number c.in-Some.label.now label c.in-Some.ensures at in
     let none =
     ap (λ l. is_role role.Main (role_of graph (Blank l))) (sym same) ∙ ap (is_role role.Main) (sym (c.role.ensures graph table)) ∙ sym c.is_main.ensures ∙ c.if-not-is_main.true in
@@ -24,7 +24,7 @@ returns-clause-added g c = λ label at.
     let reading = c.args.known.now.annotated.reading in
     let graph = reading.graph.now in
     let kinds = reading.kinds.now in
-    let table = c.requires.annotated.reading.table in
+    let table = c.requires.known.annotated.reading.table in
     let same = label_at graph reading.roles.now table c.args.number c.in-Some.label.now label c.in-Some.ensures at in
     let main =
     ap (λ l. is_role role.Main (role_of graph (Blank l))) (sym same) ∙ ap (is_role role.Main) (sym (c.role.ensures graph table)) ∙ sym c.is_main.ensures ∙ c.if-not-is_main.false in

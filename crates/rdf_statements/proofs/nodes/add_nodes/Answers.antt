@@ -3,8 +3,8 @@ use Rattle.rdf_roles.specs.Tables.{blank_nodes}
 use Rattle.rdf_statements.proofs.Adding.{all_nodes, as_many_nodes, known_still, next_node, no_nodes, some_at}
 use Rattle.rdf_statements.proofs.nodes.add_nodes.Goals as goal
 
-pub add_node-requires : goal.add_node-requires
-add_node-requires g c =
+pub add_node-requires-clause-known : goal.add_node-requires-clause-known
+add_node-requires-clause-known g c =
     let stands = g.S.TreeStore.stands in
     known_still (stands c.args.store.now) (stands c.loop-number.store) c.loop-number.invariant.kept c.args.known.now c.requires
 

@@ -1,14 +1,20 @@
-use Rattle.std.specs.Prelude.{ℕ, List}
-use Rattle.std.proofs.Common.{subst}
+use Rattle.std.specs.Prelude.{◌<◌, ℕ, List}
+use Rattle.std.proofs.Common.{subst, sym, ◌∙◌}
 use Rattle.rdf_graph.specs.declared.term.Term.TheVariants.{Blank}
 use Rattle.rdf_annotations.specs.Annotations.{IsSetOf}
-use Rattle.rdf_annotations.proofs.Setting.{one_more_set_of}
+use Rattle.rdf_annotations.proofs.Passing.{passed_by, passed_with}
 use Rattle.rdf_annotations.proofs.annotated.Annotated.add_set.Goals as goal
 
+pub returns-then-not-is_note-clause-sets : goal.returns-then-not-is_note-clause-sets
+returns-then-not-is_note-clause-sets g c = λ passed h.
+    let r = c.args.self.now.reading in
+    passed_by (g.S.TreeStore.stands c.args.store.now) r.graph.now r.kinds.now r.roles.now passed c.args.sets.now.of_nodes.items c.args.sets.now.empty h c.args.number c.in-Some.label.now c.in-Some.ensures
+    (λ note. let is = c.is_note.ensures.1 (c.role.ensures r.graph.now c.requires.annotated.reading.table ∙ note) in let isnt = c.if-not-is_note.true in cc)
+
 pub returns-clause-sets : goal.returns-clause-sets
-returns-clause-sets g c =
+returns-clause-sets g c = λ passed h.
     let r = c.args.self.now.reading in
     let new = g.S.TreeStore.stands c.hold_set.new.store in
-    one_more_set_of (g.S.TreeStore.stands c.args.store.now) new r.graph.now r.kinds.now r.roles.now c.args.sets.now.of_nodes.items c.args.sets.now.empty c.args.number
-    c.in-Some.label.now c.in_ok-set.set c.hold_set.ensures.kept c.requires.sets c.in-Some.ensures
+    passed_with (g.S.TreeStore.stands c.args.store.now) r.graph.now r.kinds.now r.roles.now passed c.args.sets.now.of_nodes.items c.args.sets.now.empty h new c.hold_set.ensures.kept c.args.number
+    c.in-Some.label.now c.in_ok-set.set (subst (λ n. c.args.number < n) (sym c.requires.sets.places) c.requires.number) c.in-Some.ensures
     (subst (λ (label : List ℕ). IsSetOf new r.graph.now r.kinds.now (Blank label) c.in_ok-set.set) c.in_ok-copy.ensures c.in_ok-set.ensures.set)

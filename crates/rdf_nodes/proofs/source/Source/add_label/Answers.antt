@@ -9,7 +9,7 @@ use Rattle.rdf_nodes.proofs.source.Source.add_label.Goals as goal
 pub returns-then-not-is_expression : goal.returns-then-not-is_expression
 returns-then-not-is_expression c = λ trees are h.
     none_put c.args.self.now.graph.now c.args.self.now.kinds.now c.args.self.now.roles.now trees c.args.number c.args.table.now.entries c.in-Some.label.now c.role.result
-    c.in-Some.ensures (c.role.ensures c.args.self.now.graph.now c.requires) (sym c.if-not-is_expression.ensures) h
+    c.in-Some.ensures (c.role.ensures c.args.self.now.graph.now c.requires.table) (sym c.if-not-is_expression.ensures) h
 
 pub returns : goal.returns
 returns c = λ trees are h.
