@@ -101,7 +101,7 @@ write_strings() {
         for (i = 0; i < count; i++) printf \"AnnotationAssertion(rdfs:comment :A%d \\\"%s%010d\\\")\n\", i, filled, differ * i" -v count="$2" -v differ="$3"
 }
 
-# The seconds and kilobytes of the best of the runs from a source to a target.
+# The seconds and kilobytes of the best of the runs from a source to a target; `refused` and the line of a refusal.
 measure() {
     local best='' least='' seconds kilobytes
     for ((run = 0; run < runs; run++)); do
@@ -109,7 +109,10 @@ measure() {
         case $? in
         0) ;;
         124) return ;;
-        *) fail "$1: $(<"$room/note")" ;;
+        *)
+            echo "refused $(<"$room/note")"
+            return
+            ;;
         esac
         read -r seconds kilobytes <"$room/time"
         if [[ -z $best ]] || awk "BEGIN { exit !($seconds < $best) }"; then
@@ -124,8 +127,8 @@ measure() {
 show() {
     local source target
     for source in $sources; do
-        if [[ $source == ttl ]]; then
-            "$program" translate --to ttl "$room/$1.ofn" >"$room/$1.ttl" 2>"$room/note" || fail "$1: $(<"$room/note")"
+        if [[ $source == ttl ]] && ! "$program" translate --to ttl "$room/$1.ofn" >"$room/$1.ttl" 2>"$room/note"; then
+            continue
         fi
         for target in $targets; do
             show_target "$1" "$source" "$target" "${2:-none}"
@@ -139,6 +142,10 @@ show_target() {
     read -r seconds kilobytes <<<"$(measure "$name" "$source" "$target")"
     if [[ -z $seconds ]]; then
         printf '%-26s %s %s not within %d s\n' "$name" "$source" "$target" "$limit"
+        return
+    fi
+    if [[ $seconds == refused ]]; then
+        printf '%-26s %s %s %s\n' "$name" "$source" "$target" "$kilobytes"
         return
     fi
     results[$name $source $target]="$seconds $kilobytes"
