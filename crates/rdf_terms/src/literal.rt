@@ -1,11 +1,13 @@
 //! Literals.
 
-ghost use Rattle.std.specs.Prelude.{◌≡◌, ◌↔◌, ◌⊎◌, IsTrue, IfOk, IfSome, IsNone, IsErrOf, None, Some, true};
+ghost use Rattle.std.specs.Prelude.{◌≡◌, ◌↔◌, ◌⊎◌, ◌++◌, IsTrue, IfOk, IfSome, IsNone, IsErrOf, None, Some, true};
 ghost use Rattle.std.specs.Cmp.{partial_order_from_own_ties, partial_order_from_total};
 ghost use Rattle.std.specs.Option.{option_map};
+ghost use Rattle.std.specs.Cmp.Rules.{hashing};
+ghost use Rattle.std.specs.Hash as fed;
 ghost use Rattle.std.specs.Ordering.{as_partial_cmp};
 ghost use Rattle.std.specs.Str.{chars, encode_utf8_all};
-ghost use Rattle.std.proofs.Common.{refl};
+ghost use Rattle.std.proofs.Common.{refl, rules};
 ghost use Rattle.owl_characters.specs.Names.{IsLanguageTag};
 ghost use Rattle.rdf_terms.specs.Literals.{DenotesLiteral, DenotesTyped, FitsTag, IsLiteral, LiteralParts, PlainForm, PlainParts, lang_string, literal_cmp, literal_eq, of_datatype, plain_literal, string, with_tag};
 ghost use Rattle.rdf_terms.specs.LiteralLaws.{equivalence, only_equals_tie, partial_equivalence, total_order};
@@ -16,8 +18,9 @@ use crate::iri::Iri;
 use crate::language::is_language_tag;
 use crate::vocabulary::{LANG_STRING, PLAIN_LITERAL, STRING};
 use owl_characters::{NoMemory, Text};
-use std::alloc::Global;
+use std::alloc::{AllocError, Global};
 use std::cmp::Ordering;
+use std::hash::{Hash, Hasher};
 use std::marker::Model;
 
 /// A literal, which contracts see as its lexical form, datatype and language
@@ -26,8 +29,15 @@ use std::marker::Model;
 ///
 /// Literals are equal where these three are, and ordered by them, each by its
 /// bytes, and no tag before each tag.
-#[derive(Debug, Drop, Hash)]
+#[derive(Debug, Drop)]
 pub struct Literal {
+    // Behind a pointer, since most terms and atoms are no literals.
+    parts: Box<Parts>,
+}
+
+/// What a literal has.
+#[derive(Debug, Drop)]
+struct Parts {
     lexical: Text,
     datatype: Iri,
     tag: Option<Text>,
@@ -38,14 +48,32 @@ impl Model for Literal {
 
     ghost Value = { LiteralParts };
 
-    ghost view = { λ l. record { lexical = l.lexical; datatype = l.datatype; tag = l.tag } };
+    ghost view = { λ l. record { lexical = l.parts.value.lexical; datatype = l.parts.value.datatype; tag = l.parts.value.tag } };
 
-    ghost invariant = { λ l. IsLiteral (record { lexical = l.lexical; datatype = l.datatype; tag = l.tag }) };
-
-    ghost inverse = { λ l. record { lexical = l.lexical; datatype = l.datatype; tag = l.tag } };
+    ghost invariant = { λ l. IsLiteral (record { lexical = l.parts.value.lexical; datatype = l.parts.value.datatype; tag = l.parts.value.tag }) };
 }
 
 impl Literal {
+    /// The literal of these parts.
+    fn new(
+        alloc: Global,
+        lexical: Text,
+        datatype: Iri,
+        tag: Option<Text>,
+    ) -> Result<Literal, NoMemory>
+        requires { IsLiteral (record { lexical = lexical; datatype = datatype; tag = tag }) }
+        ensures { IfOk result (λ literal. literal ≡
+            record { lexical = lexical; datatype = datatype; tag = tag }) }
+    {
+        let parts = Parts {
+            lexical,
+            datatype,
+            tag,
+        };
+        let parts = Box::new(alloc, parts).map_err(AllocError::from)?;
+        Ok(Literal { parts })
+    }
+
     /// The literal that is written as this form with a datatype, with a
     /// language tag, or with neither (Structural Specification, section 5.7,
     /// and rdf:PlainLiteral, section 3).
@@ -79,7 +107,7 @@ impl Literal {
         ensures chars { chars result.now ≡ self.now.lexical }
         ensures bytes { result.now ≡ encode_utf8_all self.now.lexical }
     {
-        self.lexical.as_str()
+        self.parts.lexical.as_str()
     }
 
     /// The datatype. Takes no memory.
@@ -87,28 +115,24 @@ impl Literal {
         ensures datatype { result.now ≡ self.now.datatype }
         ensures literal { IsLiteral self.now }
     {
-        &self.datatype
+        &self.parts.datatype
     }
 
     /// The language tag, where there is one. Takes no memory.
     pub fn tag(&self) -> Option<&str>
         ensures { option_map (λ tag. chars tag.now) result ≡ self.now.tag }
     {
-        self.tag.as_ref().map(|tag| tag.as_str())
+        self.parts.tag.as_ref().map(|tag| tag.as_str())
     }
 
     /// An equal literal.
     pub fn copy(&self, alloc: Global) -> Result<Literal, NoMemory>
         ensures { IfOk result (λ literal. literal ≡ self.now) }
     {
-        let lexical = Text::of(alloc, self.lexical.as_str())?;
-        let datatype = self.datatype.copy(alloc)?;
-        let tag = copy_of(alloc, &self.tag)?;
-        Ok(Literal {
-            lexical,
-            datatype,
-            tag,
-        })
+        let lexical = Text::of(alloc, self.parts.lexical.as_str())?;
+        let datatype = self.parts.datatype.copy(alloc)?;
+        let tag = copy_of(alloc, &self.parts.tag)?;
+        Ok(Literal::new(alloc, lexical, datatype, tag)?)
     }
 }
 
@@ -121,7 +145,9 @@ impl PartialEq for Literal {
         ensures value { result ≡ literal_eq self.now other.now }
         ensures same { IsTrue result ↔ (self.now ≡ other.now) }
     {
-        self.lexical == other.lexical && self.datatype == other.datatype && self.tag == other.tag
+        self.parts.lexical == other.parts.lexical
+            && self.parts.datatype == other.parts.datatype
+            && self.parts.tag == other.parts.tag
     }
 }
 
@@ -149,10 +175,25 @@ impl Ord for Literal {
     ghost matches_eq = { only_equals_tie };
 
     fn cmp(&self, other: &Literal) -> Ordering {
-        self.lexical
-            .cmp(&other.lexical)
-            .then(self.datatype.cmp(&other.datatype))
-            .then(self.tag.cmp(&other.tag))
+        self.parts
+            .lexical
+            .cmp(&other.parts.lexical)
+            .then(self.parts.datatype.cmp(&other.parts.datatype))
+            .then(self.parts.tag.cmp(&other.parts.tag))
+    }
+}
+
+impl Hash for Literal {
+    ghost hash_input = { λ l. fed.str (encode_utf8_all l.lexical)
+        ++ (fed.str (encode_utf8_all l.datatype)
+        ++ fed.option (λ tag. fed.str (encode_utf8_all tag)) l.tag) };
+
+    ghost respects_eq = { Prim.search (hashing, rules) };
+
+    fn hash<H: Hasher>(&self, state: &mut H) {
+        self.parts.lexical.hash(state);
+        self.parts.datatype.hash(state);
+        self.parts.tag.hash(state);
     }
 }
 
@@ -242,11 +283,7 @@ fn tagged(alloc: Global, lexical: &str, tag: &str) -> Result<Literal, LiteralFau
     let datatype = plain_literal(alloc)?;
     let lexical = Text::of(alloc, lexical)?;
     let tag = Text::of(alloc, tag)?;
-    Ok(Literal {
-        lexical,
-        datatype,
-        tag: Some(tag),
-    })
+    Ok(Literal::new(alloc, lexical, datatype, Some(tag))?)
 }
 
 fn plain_literal(alloc: Global) -> Result<Iri, NoMemory>
@@ -277,9 +314,5 @@ fn typed(alloc: Global, lexical: &str, datatype: Iri) -> Result<Literal, Literal
     ensures memory { IsErrOf result LiteralFault.BadLiteral → ⊥ }
 {
     let lexical = Text::of(alloc, lexical)?;
-    Ok(Literal {
-        lexical,
-        datatype,
-        tag: None,
-    })
+    Ok(Literal::new(alloc, lexical, datatype, None)?)
 }
