@@ -45,7 +45,8 @@ impl Assembler {
         })
     }
 
-    /// The document that was put together. Takes no memory.
+    /// The document that was put together. It needs no
+    /// memory, and is quicker where there is some.
     pub fn finish(self) -> Doc
         ensures prefixes { (m : Written) → Assembles self m
             → IsTableOf m.document.declarations result.prefixes }

@@ -6,6 +6,7 @@ mod expr_id;
 mod grow;
 mod nodes;
 mod order;
+mod ranks;
 mod sets;
 mod shape;
 mod table;

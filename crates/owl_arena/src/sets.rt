@@ -66,7 +66,7 @@ impl Arena {
     }
 
     /// Puts the numbers in order, and keeps repeats.
-    fn order(&self, kids: &mut [ExprId])
+    pub(crate) fn order(&self, kids: &mut [ExprId])
         ensures moved { IsPermutation kids.old kids.new }
         ensures sorted { AreInOrder self.now.trees kids.new }
         ensures long { length kids.new ≡ length kids.old }
@@ -76,7 +76,7 @@ impl Arena {
 
     /// The order of numbers: those of no tree first, then by tree. No two
     /// numbers tie.
-    fn compare_any(&self, a: ExprId, b: ExprId) -> Ordering
+    pub(crate) fn compare_any(&self, a: ExprId, b: ExprId) -> Ordering
         ensures { result ≡ numbers_cmp self.now.trees a b }
     {
         self.compare_held(a, b).then(a.cmp(&b))

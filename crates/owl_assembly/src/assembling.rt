@@ -42,7 +42,7 @@ pub fn assemble(
 {
     let mut builder = Builder::new(alloc, prefixes, arena);
     let filled = fill(&mut builder, head, annotations, axioms);
-    let doc = builder.finish();
+    let doc = builder.finish_by_ranks(alloc);
     // No document is too heavy.
     let _light = doc.axioms();
     filled?;

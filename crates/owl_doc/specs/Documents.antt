@@ -7,7 +7,7 @@ use Rattle.owl_arena.specs.Shared.{heaviest}
 use Rattle.owl_atom.specs.contracts.prefixes.Prefix as prefix
 use Rattle.owl_atom.specs.declared.prefixes.Prefix.{Prefix}
 use Rattle.owl_doc.specs.Heads.{head_code}
-use Rattle.owl_list.specs.Ascending.{AreApart}
+use Rattle.owl_list.specs.Ascending.{AreApart, HoldSame}
 use Rattle.owl_tree.specs.declared.tag.Tag.TheVariants as tag
 use Rattle.owl_tree.specs.Ontologies.{Head, IsOntology, Ontology, OntologyName, canonical_ontology, ontology_weight}
 use Rattle.owl_tree.specs.Tags.{is_axiom}
@@ -53,6 +53,14 @@ pub record IsBegun (d : Document) : Type 0 where
   pub axioms_once : AreApart d.axioms
   pub ontology : IsOntology (ontology_of d)
   pub weight : total_weight d ≤ heaviest
+
+-- a document that is finished has what was added, each once, in canonical form
+pub record IsFinished (begun finished : Document) : Type 0 where
+  pub arena : finished.arena ≡ begun.arena
+  pub prefixes : finished.prefixes ≡ begun.prefixes
+  pub notes : HoldSame finished.notes begun.notes
+  pub axioms : HoldSame finished.axioms begun.axioms
+  pub ontology : ontology_of finished ≡ canonical_ontology (ontology_of begun)
 
 -- nothing but prefixes and an arena
 abbrev pub nothing_yet : List Prefix → Held → Document

@@ -5,13 +5,14 @@ ghost use Rattle.owl_arena.specs.declared.grow.Grow.{Grow};
 ghost use Rattle.owl_arena.specs.Growth.{Adds, IsOneTooMany, IsTooDeep, IsTooHeavy, IsWithin, Lacks};
 ghost use Rattle.owl_arena.specs.Held.{AreHeld, node_over, tree_at, trees_at};
 ghost use Rattle.owl_doc.specs.declared.fault.AddFault.{AddFault};
-ghost use Rattle.owl_doc.specs.Documents.{IsAnnotationAt, IsAxiomAt, IsBegun, PassesWeight, nothing_yet, ontology_of, weight_at, with_arena, with_axiom, with_import, with_name, with_note, with_prefixes};
+ghost use Rattle.owl_doc.specs.Documents.{IsAnnotationAt, IsAxiomAt, IsBegun, IsFinished, PassesWeight, nothing_yet, ontology_of, weight_at, with_arena, with_axiom, with_import, with_name, with_note, with_prefixes};
 ghost use Rattle.owl_doc.specs.Heads.{StandsBeside, name_of};
 ghost use Rattle.owl_doc.specs.Adding.{Collects};
 ghost use Rattle.owl_arena.specs.Shared.{heaviest};
-ghost use Rattle.owl_list.specs.Ascending.{HoldSame};
+ghost use Rattle.owl_list.specs.Ascending.{HoldSame, ascending};
 ghost use Rattle.owl_tree.specs.Canonical.{canonical};
 ghost use Rattle.owl_tree.specs.Ontologies.{canonical_list, canonical_ontology, list_weight};
+ghost use Rattle.owl_tree.specs.Order.{tree_cmp};
 ghost use Rattle.owl_tree.specs.Shape.{IsShaped};
 ghost use Rattle.owl_tree.specs.Trees.{leaf, tag_of, weight};
 ghost use Rattle.owl_tree.specs.declared.tag.Tag.TheVariants as tag;
@@ -205,17 +206,27 @@ impl Builder {
     /// The document: imports in order of their bytes, annotations and axioms in
     /// canonical order, each once. Takes no memory.
     pub fn finish(self) -> Doc
-        ensures arena { result.arena ≡ self.arena }
-        ensures prefixes { result.prefixes ≡ self.prefixes }
-        ensures notes { HoldSame result.notes self.notes }
-        ensures axioms { HoldSame result.axioms self.axioms }
-        ensures ontology { ontology_of result ≡ canonical_ontology (ontology_of self) }
+        ensures { IsFinished self result }
+    {
+        self.finish_with(None)
+    }
+
+    /// The document that `finish` gives, but quicker, where there is memory for it.
+    pub fn finish_by_ranks(self, alloc: Global) -> Doc
+        ensures { IsFinished self result }
+    {
+        self.finish_with(Some(alloc))
+    }
+
+    /// The document, put in order with what memory this gives.
+    fn finish_with(self, alloc: Option<Global>) -> Doc
+        ensures { IsFinished self result }
     {
         let arena = self.arena;
         let mut head = self.head;
         arrange(&mut head.imports);
-        let notes = in_order(&arena, self.notes);
-        let axioms = in_order(&arena, self.axioms);
+        let notes = in_order(alloc, &arena, self.notes);
+        let axioms = in_order(alloc, &arena, self.axioms);
         Doc {
             arena,
             prefixes: self.prefixes,
@@ -267,7 +278,7 @@ fn collect(ids: &mut Collected, total: &mut u64, id: ExprId, weight: u64) -> Res
 }
 
 /// The numbers in canonical order of their trees.
-fn in_order(arena: &Arena, ids: Collected) -> Vec<ExprId>
+fn in_order(alloc: Option<Global>, arena: &Arena, ids: Collected) -> Vec<ExprId>
     requires { AreHeld arena.now.trees ids }
     ensures order { trees_at arena.now.trees result.items ≡ canonical_list (trees_at arena.now.trees ids) }
     ensures same { HoldSame result.items ids }
@@ -277,6 +288,20 @@ fn in_order(arena: &Arena, ids: Collected) -> Vec<ExprId>
     // Equal trees have one number, and each is its own canonical form.
     let _trees = arena.distinct();
     let mut ids = ids.into_list();
-    arena.sort_set(&mut ids);
+    sort_set(alloc, arena, &mut ids);
     ids
+}
+
+/// Puts the trees in ascending order, each once, with what memory this gives.
+fn sort_set(alloc: Option<Global>, arena: &Arena, ids: &mut Vec<ExprId>)
+    requires { AreHeld arena.now.trees ids.old.items }
+    ensures ascending { trees_at arena.now.trees ids.new.items
+        ≡ ascending tree_cmp (trees_at arena.now.trees ids.old.items) }
+    ensures same { HoldSame ids.new.items ids.old.items }
+    ensures held { AreHeld arena.now.trees ids.new.items }
+{
+    match alloc {
+        Some(alloc) => arena.sort_set_by_ranks(alloc, ids),
+        None => arena.sort_set(ids),
+    }
 }

@@ -1,4 +1,5 @@
+pub mod ArrangedLaws
 pub mod Ascending
 pub mod AscendingLaws
-pub mod ArrangedLaws
 pub mod FilterLaws
+pub mod LentLaws

@@ -236,12 +236,13 @@ impl Maker {
     }
 
     /// The document: imports in order of their bytes, annotations and axioms in
-    /// canonical order, each once. Takes no memory.
+    /// canonical order, each once. It is quicker where there is memory, and needs
+    /// none.
     pub fn finish(self) -> Doc
         ensures ontology { ontology_of result ≡ canonical_ontology (ontology_of self.document) }
         ensures prefixes { result.prefixes ≡ self.document.prefixes }
         ensures arena { result.arena ≡ self.document.arena }
     {
-        self.builder.finish()
+        self.builder.finish_by_ranks(self.alloc)
     }
 }

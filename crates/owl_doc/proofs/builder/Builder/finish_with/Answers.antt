@@ -5,7 +5,7 @@ use Rattle.owl_tree.specs.OrderLaws.{only_equal_texts_tie}
 use Rattle.owl_doc.specs.Documents.{Document, ontology_of}
 use Rattle.owl_doc.specs.Kept.{begun_of}
 use Rattle.owl_doc.proofs.Finished.{finished, ontology_finished}
-use Rattle.owl_doc.proofs.builder.Builder.finish.Goals as goal
+use Rattle.owl_doc.proofs.builder.Builder.finish_with.Goals as goal
 
 pub arrange-requires : goal.arrange-requires
 arrange-requires c = only_equal_texts_tie
@@ -25,11 +25,11 @@ invariant_of-result c = record {
   version = c.self.invariant.version;
 }
 
-pub returns-clause-notes : goal.returns-clause-notes
-returns-clause-notes c = subst (λ (d : Document). HoldSame c.in_order-notes.result.items d.notes) c.self.view_is c.in_order-notes.ensures.same
-
-pub returns-clause-axioms : goal.returns-clause-axioms
-returns-clause-axioms c = subst (λ (d : Document). HoldSame c.in_order-axioms.result.items d.axioms) c.self.view_is c.in_order-axioms.ensures.same
-
-pub returns-clause-ontology : goal.returns-clause-ontology
-returns-clause-ontology c = ontology c ∙ ap (λ (d : Document). canonical_ontology (ontology_of d)) c.self.view_is
+pub returns : goal.returns
+returns c = record {
+  arena = ap (λ (d : Document). d.arena) c.self.view_is;
+  prefixes = ap (λ (d : Document). d.prefixes) c.self.view_is;
+  notes = subst (λ (d : Document). HoldSame c.in_order-notes.result.items d.notes) c.self.view_is c.in_order-notes.ensures.same;
+  axioms = subst (λ (d : Document). HoldSame c.in_order-axioms.result.items d.axioms) c.self.view_is c.in_order-axioms.ensures.same;
+  ontology = ontology c ∙ ap (λ (d : Document). canonical_ontology (ontology_of d)) c.self.view_is;
+}
