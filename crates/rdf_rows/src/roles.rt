@@ -166,11 +166,13 @@ fn rank(role: Role) -> u8
 
 /// Whether the triple makes its subject, a node of the role, what it is (Mapping
 /// to RDF Graphs, section 3). Takes no memory.
+#[tactic(auto, unfolding(rdf_meaning::specs::Nodes::words_of))]
 pub fn is_own(role: Role, triple: &Triple) -> bool
     ensures { result ≡ is_own role triple.now }
 {
     match role {
         Role::Facet => is_facet(&triple.predicate),
+        Role::Header | Role::Individual => false,
         _ => match carried_word(triple) {
             Some(word) => is_own_word(role, word),
             None => false,

@@ -44,7 +44,8 @@ const CLASSES: [&[Word]; 21] = [
     &[Word::InverseFunctionalProperty, Word::NegativePropertyAssertion],
 ];
 
-/// The predicates, by how many bytes more than the shortest their IRIs have.
+/// The predicates, by how many bytes more than the shortest their IRIs have. Those
+/// that most graphs have stand in front.
 #[rattlefmt::skip]
 const PREDICATES: [&[Word]; 19] = [
     &[Word::OneOf],
@@ -56,13 +57,13 @@ const PREDICATES: [&[Word]; 19] = [
     &[Word::Cardinality, Word::OnDataRange, Word::TargetValue],
     &[Word::ComplementOf, Word::OnProperties, Word::DisjointWith, Word::Range],
     &[Word::AllValuesFrom, Word::Domain, Word::DifferentFrom],
-    &[Word::IntersectionOf, Word::SomeValuesFrom, Word::MinCardinality, Word::MaxCardinality],
+    &[Word::SomeValuesFrom, Word::IntersectionOf, Word::MinCardinality, Word::MaxCardinality],
     &[
-        Word::DistinctMembers, Word::AnnotatedSource, Word::AnnotatedTarget,
-        Word::EquivalentClass, Word::DisjointUnionOf,
+        Word::EquivalentClass, Word::AnnotatedSource, Word::AnnotatedTarget,
+        Word::DisjointUnionOf, Word::DistinctMembers,
     ],
     &[Word::WithRestrictions, Word::SourceIndividual, Word::TargetIndividual],
-    &[Word::Rest, Word::AssertionProperty, Word::AnnotatedProperty, Word::SubClassOf],
+    &[Word::SubClassOf, Word::Rest, Word::AnnotatedProperty, Word::AssertionProperty],
     &[Word::First, Word::PropertyChainAxiom, Word::EquivalentProperty],
     &[],
     &[
