@@ -24,13 +24,12 @@ module _ (g : List Triple) (k : List Entity) where
     stands : slice_get items place ≡ Some item
     stands = slice_get-get_or items place item within ∙ ap Some (sym is)
 
+    pub goes_on : (IsUntypedPart g k item → ⊥) → HoldsNowhereBelow (IsUntypedPart g k) items place → HoldsNowhereBelow (IsUntypedPart g k) items (place + 1)
+    goes_on typed none j h t at u =
+        nowhere_below_next (IsUntypedPart g k) items place none (λ x here p. typed (subst (IsUntypedPart g k) (sym (same_Some item x (sym stands ∙ here))) p)) j (omega (arith, h)) t at u
+
     pub passes : (b : Bool) → IsTrue b ↔ IsUntyped item → b ≡ false → HoldsNowhereBelow (IsUntypedPart g k) items place → HoldsNowhereBelow (IsUntypedPart g k) items (place + 1)
-    passes b untyped n none j h t at u =
-        nowhere_below_next (IsUntypedPart g k) items place none
-        (λ x here p.
-        let same : item ≡ x = same_Some item x (sym stands ∙ here) in
-        both_ways b n (untyped.1 (subst IsUntyped (sym same) (p.structural, p.untyped))))
-        j (omega (arith, h)) t at u
+    passes b untyped n = goes_on (λ p. both_ways b n (untyped.1 (p.structural, p.untyped)))
 
     pub is_first : (b : Bool) → IsTrue b ↔ IsUntyped item → b ≡ true → HoldsNowhereBelow (IsUntypedPart g k) items place → IsFirstUntyped g k place
     is_first b untyped y none =

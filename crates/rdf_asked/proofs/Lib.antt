@@ -1,3 +1,4 @@
 pub mod OfSort
 pub mod Suited
 pub mod FirstUntyped
+pub mod TypedNodes

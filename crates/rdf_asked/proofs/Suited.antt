@@ -66,7 +66,7 @@ some_from_map f P (x ∷ xs) y m p =
           record { element = s.element; inside = in_tail x xs s.element s.inside; holds = s.holds }
     ]
 
-in_right : {X : Type 0} (xs ys : List X) (x : X) → Contains ys x → Contains (xs ++ ys) x
+pub in_right : {X : Type 0} (xs ys : List X) (x : X) → Contains ys x → Contains (xs ++ ys) x
 in_right [] ys x m = m
 in_right (y ∷ xs) ys x m = in_tail y (xs ++ ys) x (in_right xs ys x m)
 

@@ -178,7 +178,7 @@ fn suits_property(graph: &Graph, roles: &Roles, kinds: &Kinds, row: &Row, triple
 }
 
 /// Whether the object is what is wanted at the parts of the triple.
-fn suits(graph: &Graph, roles: &Roles, kinds: &Kinds, parts: &[Part], triple: &Triple) -> bool
+pub fn suits(graph: &Graph, roles: &Roles, kinds: &Kinds, parts: &[Part], triple: &Triple) -> bool
     requires table { IsTableOf graph.now roles.now }
     requires formed { AreNodesFormed graph.now }
     ensures { IsTrue result ↔ AllByRecursion (SuitsPart graph.now kinds.now triple.now) parts.now }

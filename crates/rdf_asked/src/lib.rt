@@ -4,6 +4,7 @@
 
 mod asked;
 mod lists;
+mod nodes;
 mod sorts;
 mod typed;
 

@@ -1,6 +1,6 @@
 //! Whether the triples of nodes name what they may.
 
-ghost use Rattle.std.specs.Prelude.{◌≡◌, ◌↔◌, IfSome, IsNone, IsTrue, List};
+ghost use Rattle.std.specs.Prelude.{◌≡◌, ◌↔◌, IfSome, IsNone, IsTrue, List, Some, option_map};
 ghost use Rattle.std.specs.Option.{is_some};
 ghost use Rattle.rdf_meaning.specs.Denotation.{literal_leaf};
 ghost use Rattle.rdf_graph.specs.declared.triple.Triple.{Triple};
@@ -12,6 +12,7 @@ ghost use Rattle.rdf_roles.specs.Refusals.{AreNodesFormed, IsFirstUntyped};
 ghost use Rattle.rdf_roles.specs.Tables.{IsTableOf};
 
 use crate::asked::is_asked_for;
+use crate::nodes::is_typed_node;
 use crate::sorts::role_of_term;
 use owl_kind::Kinds;
 use rdf_graph::{Graph, Term, Triple};
@@ -28,12 +29,27 @@ pub fn untyped(graph: &Graph, roles: &Roles, kinds: &Kinds) -> Option<usize>
     ensures some { IfSome result (IsFirstUntyped graph.now kinds.now) }
     ensures none { IsNone result → (t : Triple) → IsUntypedPart graph.now kinds.now t → ⊥ }
 {
+    let mut typed = None;
     for (place, triple) in graph.triples().iter().enumerate() {
-        if is_untyped(graph, roles, kinds, triple) {
-            return Some(place);
+        if !is_of_node(triple, typed) {
+            if is_typed_node(graph, roles, kinds, &triple.subject) {
+                typed = Some(&triple.subject);
+            } else if is_untyped(graph, roles, kinds, triple) {
+                return Some(place);
+            }
         }
     }
     None
+}
+
+/// Whether the triple is one of the node.
+fn is_of_node(triple: &Triple, node: Option<&Term>) -> bool
+    ensures { IsTrue result ↔ (option_map (λ x. x.now) node.entry ≡ Some triple.now.subject) }
+{
+    match node {
+        Some(node) => triple.subject == *node,
+        None => false,
+    }
 }
 
 /// Whether the triple makes its subject what it is, and names what it may not.

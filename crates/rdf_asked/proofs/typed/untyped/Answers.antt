@@ -1,18 +1,33 @@
-use Rattle.std.proofs.Common.{arith}
-use Rattle.rdf_asked.proofs.FirstUntyped.{is_first, none_is, passes}
+use Rattle.std.proofs.Common.{IfSome, arith, refl, subst, sym}
+use Rattle.rdf_asked.specs.Asking.{IsTypedNode}
+use Rattle.rdf_asked.proofs.FirstUntyped.{goes_on, none_is, passes}
+use Rattle.rdf_asked.proofs.TypedNodes.{of_typed}
 use Rattle.rdf_asked.proofs.typed.untyped.Goals as goal
-
-pub returns-then-is_untyped-clause-some : goal.returns-then-is_untyped-clause-some
-returns-then-is_untyped-clause-some c =
-    is_first c.args.graph.now c.args.kinds.now c.triples-triple-items.result.now c.triples-triple-items.ensures.triples c.loop-place.place c.triple-item.result
-    c.loop-place-test.true c.triple-item.is c.is_untyped.result c.is_untyped.ensures c.if-is_untyped.true c.loop-place.invariant
+use Rattle.rdf_asked.proofs.typed.untyped.Goals.{then-not-is_of_node+then-is_typed_node, then-not-is_of_node+else-is_typed_node+else-is_untyped, else-not-is_of_node}
 
 pub loop-place-preserved : goal.loop-place-preserved
 loop-place-preserved c =
-    passes c.args.graph.now c.args.kinds.now c.triples-triple-items.result.now c.triples-triple-items.ensures.triples c.loop-place.place c.triple-item.result
-    c.loop-place-test.true c.triple-item.is c.is_untyped.result c.is_untyped.ensures c.if-is_untyped.false c.loop-place.invariant
+    let g = c.args.graph.now in
+    let k = c.args.kinds.now in
+    let item = c.triple-item.result in
+    let step = goes_on g k c.triples-triple-items.result.now c.triples-triple-items.ensures.triples c.loop-place.place item c.loop-place-test.true c.triple-item.is in
+    let none = c.loop-place.invariant.0 in
+    elim c.if-not-is_of_node.branch [
+      | then-not-is_of_node+then-is_typed_node w ↦
+          let node = w.is_typed_node.ensures w.if-is_typed_node.true in
+          (step (node item refl) none, subst (λ typed. IfSome typed (λ x. IsTypedNode g k x.now)) (sym w.typed-is) node)
+      | then-not-is_of_node+else-is_typed_node+else-is_untyped w ↦ (
+        passes g k c.triples-triple-items.result.now c.triples-triple-items.ensures.triples c.loop-place.place item c.loop-place-test.true c.triple-item.is
+            w.is_untyped.result w.is_untyped.ensures w.if-is_untyped.false none,
+        subst (λ typed. IfSome typed (λ x. IsTypedNode g k x.now)) (sym w.typed-is) c.loop-place.invariant.1,
+      )
+      | else-not-is_of_node w ↦ (
+        step (of_typed g k c.loop-place.typed item c.loop-place.invariant.1 (c.is_of_node.ensures.0 w.if-not-is_of_node.false)) none,
+        subst (λ typed. IfSome typed (λ x. IsTypedNode g k x.now)) (sym w.typed-is) c.loop-place.invariant.1,
+      )
+    ]
 
 pub returns-clause-none : goal.returns-clause-none
 returns-clause-none c e =
     none_is c.args.graph.now c.args.kinds.now c.triples-triple-items.result.now c.triples-triple-items.ensures.triples c.loop-place.place
-    (omega (arith, c.loop-place.auto.place-end, c.loop-place-test.false)) c.loop-place.invariant
+    (omega (arith, c.loop-place.auto.place-end, c.loop-place-test.false)) c.loop-place.invariant.0
