@@ -4,6 +4,7 @@ ghost use Rattle.std.specs.Prelude.{◌≡◌, ◌↔◌, IsTrue, List};
 ghost use Rattle.rdf_faults.specs.Asked.{IsMet, IsTypedAxiom};
 ghost use Rattle.rdf_graph.specs.declared.term.Term.TheVariants as held;
 ghost use Rattle.rdf_graph.specs.declared.triple.Triple.{Triple};
+ghost use Rattle.rdf_meaning.specs.Denotation.{site_of};
 ghost use Rattle.rdf_meaning.specs.Rows.{row_seen};
 ghost use Rattle.rdf_scans.specs.Sorts.{IsReading};
 ghost use Rattle.rdf_scans.specs.Statements.{IsAxiomBy, IsMetBy, IsMetIn};
@@ -23,20 +24,22 @@ pub fn is_typed_axiom(reading: &Reading, triple: &Triple) -> bool
     ensures { IsTrue result
         ↔ IsTypedAxiom reading.now.graph.now reading.now.kinds.now triple.now }
 {
+    let site = site_of(triple);
     'rows: for row in axiom_rows() {
-        if is_axiom_by(reading, row, triple) {
+        if is_axiom_by(reading, site, row, triple) {
             return true;
         }
     }
     false
 }
 
-/// Whether the triple is an axiom by this row.
-fn is_axiom_by(reading: &Reading, row: &Row, triple: &Triple) -> bool
-    requires { IsReading reading.now }
+/// Whether the triple, which has this site, is an axiom by this row.
+fn is_axiom_by(reading: &Reading, site: Site, row: &Row, triple: &Triple) -> bool
+    requires reading { IsReading reading.now }
+    requires site { site ≡ site_of triple.now }
     ensures { IsTrue result ↔ IsAxiomBy reading.now triple.now (row_seen row.now) }
 {
-    is_same_site(row.site, site_of(triple)) && are_met(reading, row.parts, triple)
+    is_same_site(row.site, site) && are_met(reading, row.parts, triple)
 }
 
 /// Whether the sites are the same.
