@@ -1,20 +1,22 @@
 -- What a lexeme of Functional-Style Syntax is and stands for is what `Spells` says of tokens, both ways.
-use Rattle.std.proofs.Common.{◌≡◌, ◌↔◌, ◌⊎◌, inl, inr, ℕ, Bool, true, false, ◌||◌, Some, List, [], ◌∷◌, refl, sym, ap, subst}
-use Rattle.std.specs.Prelude.{◌==◌, codes}
+use Rattle.std.proofs.Common.{◌≡◌, ◌↔◌, ◌⊎◌, inl, inr, ℕ, Bool, true, Some, List, [], ◌∷◌, refl, sym, ap, subst}
+use Rattle.std.specs.Prelude.{codes}
 use Rattle.std.specs.Char.{is_ascii_digit}
+use Rattle.std.specs.List.{AllByRecursion}
+use Rattle.owl_characters.specs.Iri.{is_among}
+use Rattle.owl_characters.specs.Names.{IsRunOf}
 use Rattle.owl_lexer.specs.GapTestLaws.{Stand, spelled_exactly, table_is_language, table_is_prompt}
 use Rattle.owl_lexer.specs.GapTests.{check_gaps, check_quiet}
-use Rattle.owl_lexer.specs.Grammars.{IsLexeme, IsLexemeOf, Terminal, test_of}
-use Rattle.owl_lexer.specs.Languages.{IsLanguage, IsPrompt, IsLexemeWith}
+use Rattle.owl_lexer.specs.Grammars.{IsLexeme, Terminal, test_of}
+use Rattle.owl_lexer.specs.Languages.{IsLanguage, IsPrompt}
 use Rattle.owl_lexer.specs.Languages.IsLexemeWith.{token}
-use Rattle.owl_lexer.specs.PatternLaws.{IsOne, each_is, mark_passes, matches_mark, matches_run, one_is, run_matches}
-use Rattle.owl_lexer.specs.Patterns.{Matches}
-use Rattle.owl_tokens.specs.CharacterLaws.{functional_tests}
+use Rattle.owl_lexer.specs.PatternLaws.{Means, each_is, mark_is, one_is, run_is}
+use Rattle.owl_tokens.specs.CharacterLaws.{◌also◌, functional_tests}
 use Rattle.owl_tokens.specs.FunctionalGrammar.{equals_mark, functional_grammar, non_negative_integer}
 use Rattle.owl_tokens.specs.FunctionalLaws.{functional_knows}
 use Rattle.owl_tokens.specs.FunctionalTable.{functional_automaton, functional_table}
 use Rattle.owl_tokens.specs.SharedPatterns.{digit}
-use Rattle.owl_tokens.specs.SharedSpellingLaws.{IsLexemeFor, SpellsShared, is_gap, lexemes_stand, says_as}
+use Rattle.owl_tokens.specs.SharedSpellingLaws.{IsLexemeFor, Says, SpellsShared, is_gap, lexemes_say, lexemes_stand}
 use Rattle.owl_tokens.specs.Tokens.{Spells}
 use Rattle.owl_tokens.specs.Values.{sign_of, value_of}
 use Rattle.owl_tokens.specs.declared.kinds.TheConstants.{EQUALS, INT}
@@ -29,50 +31,32 @@ own_terminals = record { kind = INT; pattern = non_negative_integer } ∷ record
 abbrev functional_test : ℕ → ℕ → Bool
 functional_test = test_of functional_grammar.sets
 
-digit_is : IsOne functional_test digit is_ascii_digit
-digit_is = one_is functional_test 6 is_ascii_digit functional_tests.digit
+digits_are : Means functional_test non_negative_integer (IsRunOf is_ascii_digit)
+digits_are = run_is functional_test digit is_ascii_digit (one_is functional_test 6 is_ascii_digit (λ c. functional_tests.agrees 6 c refl))
 
-equals_is : IsOne functional_test equals_mark (λ c. (61 == c) || false)
+equals_is : Means functional_test equals_mark (λ cs. cs ≡ codes "=")
 unfolding functional_grammar
-equals_is = one_is functional_test 27 (λ c. (61 == c) || false) (λ c. each_is (codes "=") c)
+equals_is = mark_is functional_test equals_mark 61 (one_is functional_test 27 (λ c. is_among (codes "=") c) (each_is (codes "=")))
 
-integer_says : (cs : List ℕ) → Matches functional_test non_negative_integer cs → IsLexemeWith Spells (value_of INT cs) cs
-unfolding value_of
-integer_says cs m = token (Int cs) refl (run_matches functional_test digit is_ascii_digit digit_is cs m, refl)
-
-equals_says : (cs : List ℕ) → Matches functional_test equals_mark cs → IsLexemeWith Spells (value_of EQUALS cs) cs
+own_say : AllByRecursion (Says functional_test Spells) own_terminals
 unfolding value_of sign_of
-equals_says cs m = token (Sign Equals) refl (mark_passes functional_test equals_mark 61 equals_is cs m)
-
-own_says : (kind : ℕ) (cs : List ℕ) → IsLexemeOf functional_test own_terminals kind cs → IsLexemeWith Spells (value_of kind cs) cs
-own_says kind cs (inl m) = says_as Spells cs INT kind m.0 (integer_says cs m.1)
-own_says kind cs (inr (inl m)) = says_as Spells cs EQUALS kind m.0 (equals_says cs m.1)
-own_says kind cs (inr (inr m)) = elim m [ ]
-
--- from tokens to lexemes
-
-integer_lexeme : (digits cs : List ℕ) → Spells (Int digits) cs → IsLexemeFor functional_test own_terminals (Int digits) cs
-unfolding value_of
-integer_lexeme digits cs h =
-    (INT, inl (refl, subst (Matches functional_test non_negative_integer) (sym h.1) (matches_run functional_test digit is_ascii_digit digit_is digits h.0)), ap (λ (l : List ℕ). value_of INT l) h.1)
-
-equals_lexeme : (cs : List ℕ) → Spells (Sign Equals) cs → IsLexemeFor functional_test own_terminals (Sign Equals) cs
-unfolding value_of sign_of
-equals_lexeme cs h = (EQUALS, inr (inl (refl, subst (Matches functional_test equals_mark) (sym h) (matches_mark functional_test equals_mark 61 equals_is))), refl)
+own_say = (λ cs m. token (Int cs) refl ((digits_are cs).0 m, refl)) also (λ cs m. token (Sign Equals) refl ((equals_is cs).0 m)) also tt
 
 own_token : (t : Token) (cs : List ℕ) → Spells t cs → SpellsShared t cs ⊎ IsLexemeFor functional_test own_terminals t cs
-own_token (Int digits) cs h = inr (integer_lexeme digits cs h)
+unfolding value_of sign_of
+own_token (Int digits) cs h =
+    inr (INT, inl (refl, (digits_are cs).1 (subst (IsRunOf is_ascii_digit) (sym h.1) h.0)), ap (λ (l : List ℕ). value_of INT l) h.1)
 own_token (Dec number) cs h = absurd h
 own_token (Sign Open) cs h = inl (refl, h)
 own_token (Sign Close) cs h = inl (refl, h)
-own_token (Sign Equals) cs h = inr (equals_lexeme cs h)
+own_token (Sign Equals) cs h = inr (EQUALS, inr (inl (refl, (equals_is cs).1 h)), refl)
 own_token (Sign Carets) cs h = inl (refl, h)
 own_token (Sign mark) cs h = absurd h
 own_token t cs h = inl (refl, h)
 
 stand : Stand (IsLexeme functional_grammar) is_gap value_of Spells
 unfolding functional_grammar
-stand = lexemes_stand functional_test own_terminals Spells functional_tests (record { shared = λ t cs h. h.1; says = own_says; token = own_token })
+stand = lexemes_stand functional_test own_terminals Spells functional_tests (record { shared = λ t cs h. h.1; says = lexemes_say functional_test Spells own_terminals own_say; token = own_token })
 
 -- Characters are written for a token exactly where they are a lexeme that stands for it.
 pub functional_spells : (t : Token) (cs : List ℕ) → Spells t cs ↔ ((kind : ℕ) × IsLexeme functional_grammar kind cs × (value_of kind cs ≡ Some t))

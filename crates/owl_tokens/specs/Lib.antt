@@ -11,14 +11,9 @@ pub mod Tokens
 pub mod Values
 pub mod WorkedCases
 pub mod CharacterLaws
-pub mod SpellingLaws
-pub mod LastLaws
 pub mod NamePatternLaws
 pub mod StringPatternLaws
-pub mod IriPatternLaws
 pub mod TagPatternLaws
-pub mod LocalPatternLaws
-pub mod AbbreviatedPatternLaws
 pub mod SharedSpellingLaws
 pub mod FunctionalSpellingLaws
 pub mod ManchesterSpellings

@@ -1,25 +1,26 @@
 -- What a lexeme of Manchester Syntax is and stands for is what `SpellsManchester` says of tokens, both ways.
-use Rattle.std.proofs.Common.{◌≡◌, ◌↔◌, ◌⊎◌, inl, inr, ℕ, Bool, true, false, ◌||◌, Some, List, [], ◌∷◌, ◌++◌, refl, sym, ap, ◌∙◌, subst}
+use Rattle.std.proofs.Common.{◌≡◌, ◌↔◌, ◌⊎◌, inl, inr, ℕ, Bool, true, ◌||◌, Some, List, [], ◌∷◌, ◌++◌, refl, sym, ap, ◌∙◌, subst}
 use Rattle.std.specs.Prelude.{◌==◌, codes}
 use Rattle.std.specs.Char.{is_ascii_digit}
+use Rattle.std.specs.List.{AllByRecursion}
 use Rattle.std.proofs.Math.Bool.{or-false}
-use Rattle.owl_lexer.specs.Grammars.{IsLexeme, IsLexemeOf, Terminal, test_of}
-use Rattle.owl_lexer.specs.Patterns.{Matches, Pattern}
+use Rattle.owl_lexer.specs.Grammars.{IsLexeme, Terminal, test_of}
+use Rattle.owl_lexer.specs.Patterns.{Pattern}
 use Rattle.owl_lexer.specs.PatternWords.{◌or◌, ◌then◌, some}
 use Rattle.owl_characters.specs.Iri.{is_among}
 use Rattle.owl_characters.specs.Names.{IsRunOf}
-use Rattle.owl_tokens.specs.CharacterLaws.{manchester_tests}
+use Rattle.owl_tokens.specs.CharacterLaws.{◌also◌, manchester_agrees, manchester_tests, manchester_words}
 use Rattle.owl_tokens.specs.ManchesterGrammar.{close_brace, close_bracket, comma, decimal_literal, equals_mark, integer_literal, manchester_grammar, open_brace, open_bracket, plus}
 use Rattle.owl_tokens.specs.ManchesterSpellings.{IsDecimal, IsInteger, SpellsManchester}
-use Rattle.owl_lexer.specs.PatternLaws.{IsOne, behind_mark, each_is, mark_before, mark_passes, matches_mark, matches_run, one_as, one_is, or_is, run_matches}
+use Rattle.owl_lexer.specs.PatternLaws.{IsOne, Means, class_is, is_index, mark_is, mark_then, one_as, run_is, word_of}
 use Rattle.owl_tokens.specs.SharedPatterns.{digit, dot, greater, hyphen, less}
 use Rattle.owl_lexer.specs.GapTestLaws.{Stand, spelled_exactly, table_is_language, table_is_prompt}
 use Rattle.owl_lexer.specs.GapTests.{check_gaps, check_quiet}
-use Rattle.owl_lexer.specs.Languages.{IsLanguage, IsPrompt, IsLexemeWith}
+use Rattle.owl_lexer.specs.Languages.{IsLanguage, IsPrompt}
 use Rattle.owl_lexer.specs.Languages.IsLexemeWith.{token}
 use Rattle.owl_tokens.specs.ManchesterLaws.{manchester_knows}
 use Rattle.owl_tokens.specs.ManchesterTable.{manchester_automaton, manchester_table}
-use Rattle.owl_tokens.specs.SharedSpellingLaws.{IsLexemeFor, SpellsShared, is_gap, is_shared_mark, lexemes_stand}
+use Rattle.owl_tokens.specs.SharedSpellingLaws.{IsLexemeFor, Says, SpellsShared, is_gap, is_shared_mark, lexeme_as, lexemes_say, lexemes_stand}
 use Rattle.owl_tokens.specs.Tokens.{Spells}
 use Rattle.owl_tokens.specs.Values.{sign_of, value_of}
 use Rattle.owl_tokens.specs.declared.kinds.TheConstants.{AT_LEAST, AT_MOST, CLOSE_BRACE, CLOSE_BRACKET, COMMA, DEC, GREATER, INT, LESS, OPEN_BRACE, OPEN_BRACKET}
@@ -30,6 +31,10 @@ use Rattle.owl_tokens.specs.declared.token.Token.TheVariants.{Int, Dec, Sign}
 
 abbrev manchester_test : ℕ → ℕ → Bool
 manchester_test = test_of manchester_grammar.sets
+
+-- the same in words
+abbrev manchester : ℕ → ℕ → Bool
+manchester = word_of manchester_words
 
 -- the terminals behind the shared ones
 abbrev own_terminals : List Terminal
@@ -63,119 +68,101 @@ shared_as t cs h = h.1
 
 -- numbers
 
-digit_is : IsOne manchester_test digit is_ascii_digit
-digit_is = one_is manchester_test 6 is_ascii_digit manchester_tests.digit
+digits_are : Means manchester (some digit) (IsRunOf is_ascii_digit)
+digits_are = run_is manchester digit is_ascii_digit (class_is manchester digit refl)
 
-dot_is : IsOne manchester_test dot (λ c. (46 == c) || false)
-dot_is = one_is manchester_test 13 (λ c. (46 == c) || false) manchester_tests.dot
+sign_is : IsOne manchester (plus or hyphen) (λ c. is_among (codes "+-") c)
+sign_is =
+    one_as manchester (plus or hyphen) (λ c. is_among (codes "+") c || is_among (codes "-") c) (λ c. is_among (codes "+-") c)
+    (λ c. ap (λ b. b || is_among (codes "-") c) (or-false (43 == c))) (class_is manchester (plus or hyphen) refl)
 
-plus_or_minus_is : IsOne manchester_test (plus or hyphen) (λ c. is_among (codes "+-") c)
-unfolding manchester_grammar
-plus_or_minus_is =
-    one_as manchester_test (plus or hyphen) (λ c. ((43 == c) || false) || ((45 == c) || false)) (λ c. is_among (codes "+-") c)
-    (λ c. ap (λ b. b || ((45 == c) || false)) (or-false (43 == c)))
-    (or_is manchester_test plus hyphen (λ c. (43 == c) || false) (λ c. (45 == c) || false)
-    (one_is manchester_test 27 (λ c. (43 == c) || false) (λ c. each_is (codes "+") c))
-    (one_is manchester_test 22 (λ c. (45 == c) || false) manchester_tests.hyphen))
-
-integer_matches : (cs : List ℕ) → Matches manchester_test integer_literal cs → IsInteger cs
-integer_matches cs m =
-    let digits = run_matches manchester_test digit is_ascii_digit digit_is m.1 m.3 in
-    elim m.2 [
-      | inl x ↦
-          let o = plus_or_minus_is.passes m.0 x in
-          inr (o.0, m.1, o.1, digits, m.4 ∙ ap (λ (l : List ℕ). l ++ m.1) o.2)
-      | inr x ↦ inl (subst (IsRunOf is_ascii_digit) (sym (m.4 ∙ ap (λ (l : List ℕ). l ++ m.1) x)) digits)
-    ]
-
-matches_integer : (cs : List ℕ) → IsInteger cs → Matches manchester_test integer_literal cs
-matches_integer cs (inl h) = ([], cs, inr refl, matches_run manchester_test digit is_ascii_digit digit_is cs h, refl)
-matches_integer cs (inr h) =
-    (h.0 ∷ [], h.1, inl (plus_or_minus_is.matches h.0 h.2), matches_run manchester_test digit is_ascii_digit digit_is h.1 h.3, h.4)
-
-decimal_matches : (cs : List ℕ) → Matches manchester_test decimal_literal cs → IsDecimal cs
-decimal_matches cs m =
-    let b = behind_mark manchester_test dot (some digit) 46 dot_is m.1 m.3 in
-    record {
-      integer = m.0;
-      digits = b.rest;
-      is_integer = integer_matches m.0 m.2;
-      are_digits = run_matches manchester_test digit is_ascii_digit digit_is b.rest b.matches;
-      parts = m.4 ∙ ap (λ (l : List ℕ). m.0 ++ l) b.is;
-    }
-
-matches_decimal : (cs : List ℕ) → IsDecimal cs → Matches manchester_test decimal_literal cs
-matches_decimal cs h = (
-  h.integer,
-  46 ∷ h.digits,
-  matches_integer h.integer h.is_integer,
-  mark_before manchester_test dot (some digit) 46 dot_is h.digits (matches_run manchester_test digit is_ascii_digit digit_is h.digits h.are_digits),
-  h.parts,
+integer_is : Means manchester integer_literal IsInteger
+integer_is cs = (
+  λ m. elim m.2 [
+    | inl x ↦
+        let o = (sign_is m.0).0 x in
+        inr (o.0, m.1, o.1, (digits_are m.1).0 m.3, m.4 ∙ ap (λ (l : List ℕ). l ++ m.1) o.2)
+    | inr x ↦ inl (subst (IsRunOf is_ascii_digit) (sym (m.4 ∙ ap (λ (l : List ℕ). l ++ m.1) x)) ((digits_are m.1).0 m.3))
+  ],
+  λ h. elim h [
+    | inl x ↦ ([], cs, inr refl, (digits_are cs).1 x, refl)
+    | inr x ↦ (x.0 ∷ [], x.1, inl ((sign_is (x.0 ∷ [])).1 (x.0, x.2, refl)), (digits_are x.1).1 x.3, x.4)
+  ],
 )
+
+decimal_is : Means manchester decimal_literal IsDecimal
+decimal_is cs =
+    let behind = mark_then manchester dot (some digit) 46 (class_is manchester dot refl) in (
+      λ m.
+          let b = (behind m.1).0 m.3 in
+          record {
+            integer = m.0;
+            digits = b.0;
+            is_integer = (integer_is m.0).0 m.2;
+            are_digits = (digits_are b.0).0 b.1;
+            parts = m.4 ∙ ap (λ (l : List ℕ). m.0 ++ l) b.2;
+          },
+      λ h. (h.integer, 46 ∷ h.digits, (integer_is h.integer).1 h.is_integer, (behind (46 ∷ h.digits)).1 (h.digits, (digits_are h.digits).1 h.are_digits, refl), h.parts),
+    )
 
 -- marks
 
-less_is : IsOne manchester_test less (λ c. (60 == c) || false)
-less_is = one_is manchester_test 3 (λ c. (60 == c) || false) manchester_tests.less
+less_is : Means manchester less (λ cs. cs ≡ codes "<")
+less_is = mark_is manchester less 60 (class_is manchester less refl)
 
-greater_is : IsOne manchester_test greater (λ c. (62 == c) || false)
-greater_is = one_is manchester_test 4 (λ c. (62 == c) || false) manchester_tests.greater
+greater_is : Means manchester greater (λ cs. cs ≡ codes ">")
+greater_is = mark_is manchester greater 62 (class_is manchester greater refl)
 
-equals_is : IsOne manchester_test equals_mark (λ c. (61 == c) || false)
-unfolding manchester_grammar
-equals_is = one_is manchester_test 28 (λ c. (61 == c) || false) (λ c. each_is (codes "=") c)
+open_brace_is : Means manchester open_brace (λ cs. cs ≡ codes "{")
+open_brace_is = mark_is manchester open_brace 123 (class_is manchester open_brace refl)
 
-open_brace_is : IsOne manchester_test open_brace (λ c. (123 == c) || false)
-unfolding manchester_grammar
-open_brace_is = one_is manchester_test 29 (λ c. (123 == c) || false) (λ c. each_is (codes "{") c)
+close_brace_is : Means manchester close_brace (λ cs. cs ≡ codes "}")
+close_brace_is = mark_is manchester close_brace 125 (class_is manchester close_brace refl)
 
-close_brace_is : IsOne manchester_test close_brace (λ c. (125 == c) || false)
-unfolding manchester_grammar
-close_brace_is = one_is manchester_test 30 (λ c. (125 == c) || false) (λ c. each_is (codes "}") c)
+open_bracket_is : Means manchester open_bracket (λ cs. cs ≡ codes "[")
+open_bracket_is = mark_is manchester open_bracket 91 (class_is manchester open_bracket refl)
 
-open_bracket_is : IsOne manchester_test open_bracket (λ c. (91 == c) || false)
-unfolding manchester_grammar
-open_bracket_is = one_is manchester_test 31 (λ c. (91 == c) || false) (λ c. each_is (codes "[") c)
+close_bracket_is : Means manchester close_bracket (λ cs. cs ≡ codes "]")
+close_bracket_is = mark_is manchester close_bracket 93 (class_is manchester close_bracket refl)
 
-close_bracket_is : IsOne manchester_test close_bracket (λ c. (93 == c) || false)
-unfolding manchester_grammar
-close_bracket_is = one_is manchester_test 32 (λ c. (93 == c) || false) (λ c. each_is (codes "]") c)
+comma_is : Means manchester comma (λ cs. cs ≡ codes ",")
+comma_is = mark_is manchester comma 44 (class_is manchester comma refl)
 
-comma_is : IsOne manchester_test comma (λ c. (44 == c) || false)
-unfolding manchester_grammar
-comma_is = one_is manchester_test 33 (λ c. (44 == c) || false) (λ c. each_is (codes ",") c)
+or_equal : (p : Pattern) (x : ℕ) → IsOne manchester p (λ c. is_among (x ∷ []) c) → Means manchester (p then equals_mark) (λ cs. cs ≡ x ∷ 61 ∷ [])
+or_equal p x h cs =
+    let equals = mark_is manchester equals_mark 61 (class_is manchester equals_mark refl) in
+    let m = mark_then manchester p equals_mark x h cs in (
+      λ k. let b = m.0 k in b.2 ∙ ap (λ (l : List ℕ). x ∷ l) ((equals b.0).0 b.1),
+      λ e. m.1 (61 ∷ [], (equals (61 ∷ [])).1 refl, e),
+    )
 
-two_pass : (p : Pattern) (x : ℕ) → IsOne manchester_test p (λ c. (x == c) || false) → (cs : List ℕ) → Matches manchester_test (p then equals_mark) cs → cs ≡ x ∷ 61 ∷ []
-two_pass p x h cs m =
-    let b = behind_mark manchester_test p equals_mark x h cs m in
-    b.is ∙ ap (λ (l : List ℕ). x ∷ l) (mark_passes manchester_test equals_mark 61 equals_is b.rest b.matches)
+at_most_is : Means manchester (less then equals_mark) (λ cs. cs ≡ codes "<=")
+at_most_is = or_equal less 60 (class_is manchester less refl)
 
-own_says : (kind : ℕ) (cs : List ℕ) → IsLexemeOf manchester_test own_terminals kind cs → IsLexemeWith SpellsManchester (value_of kind cs) cs
+at_least_is : Means manchester (greater then equals_mark) (λ cs. cs ≡ codes ">=")
+at_least_is = or_equal greater 62 (class_is manchester greater refl)
+
+own_say : AllByRecursion (Says manchester SpellsManchester) own_terminals
 unfolding value_of sign_of
-own_says kind cs (inl m) = token (Int cs) (ap (λ (k : ℕ). value_of k cs) (sym m.0)) (integer_matches cs m.1, refl)
-own_says kind cs (inr (inl m)) = token (Dec cs) (ap (λ (k : ℕ). value_of k cs) (sym m.0)) (decimal_matches cs m.1, refl)
-own_says kind cs (inr (inr (inl m))) = token (Sign OpenBrace) (ap (λ (k : ℕ). value_of k cs) (sym m.0)) (mark_passes manchester_test open_brace 123 open_brace_is cs m.1)
-own_says kind cs (inr (inr (inr (inl m)))) = token (Sign CloseBrace) (ap (λ (k : ℕ). value_of k cs) (sym m.0)) (mark_passes manchester_test close_brace 125 close_brace_is cs m.1)
-own_says kind cs (inr (inr (inr (inr (inl m))))) = token (Sign OpenBracket) (ap (λ (k : ℕ). value_of k cs) (sym m.0)) (mark_passes manchester_test open_bracket 91 open_bracket_is cs m.1)
-own_says kind cs (inr (inr (inr (inr (inr (inl m)))))) = token (Sign CloseBracket) (ap (λ (k : ℕ). value_of k cs) (sym m.0)) (mark_passes manchester_test close_bracket 93 close_bracket_is cs m.1)
-own_says kind cs (inr (inr (inr (inr (inr (inr (inl m))))))) = token (Sign Comma) (ap (λ (k : ℕ). value_of k cs) (sym m.0)) (mark_passes manchester_test comma 44 comma_is cs m.1)
-own_says kind cs (inr (inr (inr (inr (inr (inr (inr (inl m)))))))) = token (Sign Less) (ap (λ (k : ℕ). value_of k cs) (sym m.0)) (mark_passes manchester_test less 60 less_is cs m.1)
-own_says kind cs (inr (inr (inr (inr (inr (inr (inr (inr (inl m))))))))) = token (Sign AtMost) (ap (λ (k : ℕ). value_of k cs) (sym m.0)) (two_pass less 60 less_is cs m.1)
-own_says kind cs (inr (inr (inr (inr (inr (inr (inr (inr (inr (inl m)))))))))) = token (Sign Greater) (ap (λ (k : ℕ). value_of k cs) (sym m.0)) (mark_passes manchester_test greater 62 greater_is cs m.1)
-own_says kind cs (inr (inr (inr (inr (inr (inr (inr (inr (inr (inr (inl m))))))))))) = token (Sign AtLeast) (ap (λ (k : ℕ). value_of k cs) (sym m.0)) (two_pass greater 62 greater_is cs m.1)
-own_says kind cs (inr (inr (inr (inr (inr (inr (inr (inr (inr (inr (inr m))))))))))) = elim m [ ]
+own_say =
+    (λ cs m. token (Int cs) refl ((integer_is cs).0 m, refl))
+    also (λ cs m. token (Dec cs) refl ((decimal_is cs).0 m, refl))
+    also (λ cs m. token (Sign OpenBrace) refl ((open_brace_is cs).0 m))
+    also (λ cs m. token (Sign CloseBrace) refl ((close_brace_is cs).0 m))
+    also (λ cs m. token (Sign OpenBracket) refl ((open_bracket_is cs).0 m))
+    also (λ cs m. token (Sign CloseBracket) refl ((close_bracket_is cs).0 m))
+    also (λ cs m. token (Sign Comma) refl ((comma_is cs).0 m))
+    also (λ cs m. token (Sign Less) refl ((less_is cs).0 m))
+    also (λ cs m. token (Sign AtMost) refl ((at_most_is cs).0 m))
+    also (λ cs m. token (Sign Greater) refl ((greater_is cs).0 m))
+    also (λ cs m. token (Sign AtLeast) refl ((at_least_is cs).0 m))
+    also tt
 
 -- from tokens to lexemes
 
 -- it is a shared token, or a lexeme of this kind stands for it
 abbrev IsOwn : Token → List ℕ → Type 0
-IsOwn t cs = SpellsShared t cs ⊎ IsLexemeFor manchester_test own_terminals t cs
-
-own_lexeme : (t : Token) (cs : List ℕ) (kind : ℕ) → IsLexemeOf manchester_test own_terminals kind cs → value_of kind cs ≡ Some t → IsOwn t cs
-own_lexeme t cs kind m v = inr (kind, m, v)
-
-matches_two : (p : Pattern) (x : ℕ) → IsOne manchester_test p (λ c. (x == c) || false) → Matches manchester_test (p then equals_mark) (x ∷ 61 ∷ [])
-matches_two p x h = mark_before manchester_test p equals_mark x h (61 ∷ []) (matches_mark manchester_test equals_mark 61 equals_is)
+IsOwn t cs = SpellsShared t cs ⊎ IsLexemeFor manchester own_terminals t cs
 
 mark_lexeme : (mark : Mark) (cs : List ℕ) → SpellsManchester (Sign mark) cs → IsOwn (Sign mark) cs
 unfolding value_of sign_of
@@ -183,28 +170,35 @@ mark_lexeme Open cs h = inl (refl, h)
 mark_lexeme Close cs h = inl (refl, h)
 mark_lexeme Equals cs h = absurd h
 mark_lexeme Carets cs h = inl (refl, h)
-mark_lexeme OpenBrace cs h = own_lexeme (Sign OpenBrace) cs OPEN_BRACE (inr (inr (inl (refl, subst (Matches manchester_test (open_brace)) (sym h) (matches_mark manchester_test open_brace 123 open_brace_is))))) refl
-mark_lexeme CloseBrace cs h = own_lexeme (Sign CloseBrace) cs CLOSE_BRACE (inr (inr (inr (inl (refl, subst (Matches manchester_test (close_brace)) (sym h) (matches_mark manchester_test close_brace 125 close_brace_is)))))) refl
-mark_lexeme OpenBracket cs h = own_lexeme (Sign OpenBracket) cs OPEN_BRACKET (inr (inr (inr (inr (inl (refl, subst (Matches manchester_test (open_bracket)) (sym h) (matches_mark manchester_test open_bracket 91 open_bracket_is))))))) refl
-mark_lexeme CloseBracket cs h = own_lexeme (Sign CloseBracket) cs CLOSE_BRACKET (inr (inr (inr (inr (inr (inl (refl, subst (Matches manchester_test (close_bracket)) (sym h) (matches_mark manchester_test close_bracket 93 close_bracket_is)))))))) refl
-mark_lexeme Comma cs h = own_lexeme (Sign Comma) cs COMMA (inr (inr (inr (inr (inr (inr (inl (refl, subst (Matches manchester_test (comma)) (sym h) (matches_mark manchester_test comma 44 comma_is))))))))) refl
-mark_lexeme Less cs h = own_lexeme (Sign Less) cs LESS (inr (inr (inr (inr (inr (inr (inr (inl (refl, subst (Matches manchester_test (less)) (sym h) (matches_mark manchester_test less 60 less_is)))))))))) refl
-mark_lexeme AtMost cs h = own_lexeme (Sign AtMost) cs AT_MOST (inr (inr (inr (inr (inr (inr (inr (inr (inl (refl, subst (Matches manchester_test (less then equals_mark)) (sym h) (matches_two less 60 less_is))))))))))) refl
-mark_lexeme Greater cs h = own_lexeme (Sign Greater) cs GREATER (inr (inr (inr (inr (inr (inr (inr (inr (inr (inl (refl, subst (Matches manchester_test (greater)) (sym h) (matches_mark manchester_test greater 62 greater_is)))))))))))) refl
-mark_lexeme AtLeast cs h = own_lexeme (Sign AtLeast) cs AT_LEAST (inr (inr (inr (inr (inr (inr (inr (inr (inr (inr (inl (refl, subst (Matches manchester_test (greater then equals_mark)) (sym h) (matches_two greater 62 greater_is))))))))))))) refl
+mark_lexeme OpenBrace cs h = inr (OPEN_BRACE, inr (inr (inl (refl, (open_brace_is cs).1 h))), refl)
+mark_lexeme CloseBrace cs h = inr (CLOSE_BRACE, inr (inr (inr (inl (refl, (close_brace_is cs).1 h)))), refl)
+mark_lexeme OpenBracket cs h = inr (OPEN_BRACKET, inr (inr (inr (inr (inl (refl, (open_bracket_is cs).1 h))))), refl)
+mark_lexeme CloseBracket cs h = inr (CLOSE_BRACKET, inr (inr (inr (inr (inr (inl (refl, (close_bracket_is cs).1 h)))))), refl)
+mark_lexeme Comma cs h = inr (COMMA, inr (inr (inr (inr (inr (inr (inl (refl, (comma_is cs).1 h))))))), refl)
+mark_lexeme Less cs h = inr (LESS, inr (inr (inr (inr (inr (inr (inr (inl (refl, (less_is cs).1 h)))))))), refl)
+mark_lexeme AtMost cs h = inr (AT_MOST, inr (inr (inr (inr (inr (inr (inr (inr (inl (refl, (at_most_is cs).1 h))))))))), refl)
+mark_lexeme Greater cs h = inr (GREATER, inr (inr (inr (inr (inr (inr (inr (inr (inr (inl (refl, (greater_is cs).1 h)))))))))), refl)
+mark_lexeme AtLeast cs h = inr (AT_LEAST, inr (inr (inr (inr (inr (inr (inr (inr (inr (inr (inl (refl, (at_least_is cs).1 h))))))))))), refl)
 
 own_token : (t : Token) (cs : List ℕ) → SpellsManchester t cs → IsOwn t cs
 unfolding value_of
-own_token (Int number) cs h =
-    own_lexeme (Int number) cs INT (inl (refl, subst (Matches manchester_test integer_literal) (sym h.1) (matches_integer number h.0))) (ap (λ (l : List ℕ). value_of INT l) h.1)
-own_token (Dec number) cs h =
-    own_lexeme (Dec number) cs DEC (inr (inl (refl, subst (Matches manchester_test decimal_literal) (sym h.1) (matches_decimal number h.0)))) (ap (λ (l : List ℕ). value_of DEC l) h.1)
+own_token (Int number) cs h = inr (INT, inl (refl, (integer_is cs).1 (subst IsInteger (sym h.1) h.0)), ap (λ (l : List ℕ). value_of INT l) h.1)
+own_token (Dec number) cs h = inr (DEC, inr (inl (refl, (decimal_is cs).1 (subst IsDecimal (sym h.1) h.0))), ap (λ (l : List ℕ). value_of DEC l) h.1)
 own_token (Sign mark) cs h = mark_lexeme mark cs h
 own_token t cs h = inl (refl, h)
 
 stand : Stand (IsLexeme manchester_grammar) is_gap value_of SpellsManchester
 unfolding manchester_grammar
-stand = lexemes_stand manchester_test own_terminals SpellsManchester manchester_tests (record { shared = shared_as; says = own_says; token = own_token })
+stand =
+    let known = is_index manchester_words in
+    lexemes_stand manchester_test own_terminals SpellsManchester manchester_tests (record {
+      shared = shared_as;
+      says = λ kind cs m. lexemes_say manchester SpellsManchester own_terminals own_say kind cs (lexeme_as known manchester_test manchester manchester_agrees own_terminals refl kind cs m);
+      token = λ t cs h. elim (own_token t cs h) [
+        | inl x ↦ inl x
+        | inr x ↦ inr (x.0, lexeme_as known manchester manchester_test (λ set c k. sym (manchester_agrees set c k)) own_terminals refl x.0 cs x.1, x.2)
+      ];
+    })
 
 -- Characters are written for a token exactly where they are a lexeme that stands for it.
 pub manchester_spells : (t : Token) (cs : List ℕ) → SpellsManchester t cs ↔ ((kind : ℕ) × IsLexeme manchester_grammar kind cs × (value_of kind cs ≡ Some t))

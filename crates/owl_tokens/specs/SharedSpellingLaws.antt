@@ -1,24 +1,23 @@
 -- What the lexemes that both languages have are and stand for is what `Spells` says of the tokens
 -- that both write alike, both ways.
-use Rattle.std.proofs.Common.{◌≡◌, ◌⊎◌, inl, inr, ℕ, Bool, true, false, ◌||◌, Option, None, Some, List, [], ◌∷◌, ◌++◌, refl, sym, ap, ◌∙◌, subst}
-use Rattle.std.specs.Prelude.{◌==◌, not}
-use Rattle.std.proofs.lemmas.Bool.{eqb-true, or_cases}
+use Rattle.std.proofs.Common.{◌≡◌, ◌↔◌, ◌⊎◌, inl, inr, ℕ, Bool, true, false, ◌||◌, Option, None, Some, List, [], ◌∷◌, ◌++◌, refl, sym, ap, ◌∙◌, subst}
+use Rattle.std.specs.Prelude.{◌==◌, codes}
+use Rattle.std.specs.List.{AllByRecursion, list_all}
+use Rattle.std.proofs.lemmas.Bool.{and_parts, eqb-true, or_cases}
+use Rattle.owl_characters.specs.Names.{IsNameFrom, is_start}
 use Rattle.owl_lexer.specs.GapTestLaws.{Stand}
 use Rattle.owl_lexer.specs.Grammars.{IsLexemeOf, Terminal}
-use Rattle.owl_lexer.specs.Patterns.{Matches}
 use Rattle.owl_lexer.specs.Languages.{IsLexemeWith}
 use Rattle.owl_lexer.specs.Languages.IsLexemeWith.{token, space, comment as comment_text}
-use Rattle.owl_lexer.specs.Splitting.{is_line_end, is_space}
+use Rattle.owl_lexer.specs.PatternLaws.{Means, class_is, comment_is, is_index, mark_is, mark_then, matches_as, run_is, uses_only}
+use Rattle.owl_lexer.specs.Patterns.{Matches}
+use Rattle.owl_tokens.specs.CharacterLaws.{◌also◌, SharedTests, shared, shared_words}
+use Rattle.owl_tokens.specs.NamePatternLaws.{abbreviated_is, blank_is, prefix_value, text_value, word_is}
+use Rattle.owl_tokens.specs.SharedPatterns.{caret, carets, close_mark, comment_character, number_sign, open_mark, shared_terminals, white_character}
+use Rattle.owl_tokens.specs.StringPatternLaws.{iri_is, iri_value, string_is, string_value}
+use Rattle.owl_tokens.specs.TagPatternLaws.{tag_is}
 use Rattle.owl_tokens.specs.Tokens.{Spells}
-use Rattle.owl_tokens.specs.AbbreviatedPatternLaws.{blank_matches, matches_abbreviated, matches_blank, name_matches, prefix_value, text_value}
-use Rattle.owl_tokens.specs.CharacterLaws.{SharedTests}
-use Rattle.owl_tokens.specs.IriPatternLaws.{iri_matches, matches_iri}
-use Rattle.owl_tokens.specs.NamePatternLaws.{matches_word, word_matches}
-use Rattle.owl_lexer.specs.PatternLaws.{IsOne, behind_mark, comment_matches, mark_before, mark_passes, matches_comment, matches_mark, matches_run, one_is, run_matches}
-use Rattle.owl_tokens.specs.SharedPatterns.{abbreviated, caret, carets, close_mark, comment, comment_character, full_iri, language_tag, node_id, number_sign, open_mark, quoted_string, shared_terminals, white_character, white_space, word}
-use Rattle.owl_tokens.specs.StringPatternLaws.{between_ends_is, matches_string, string_matches, string_value}
-use Rattle.owl_tokens.specs.TagPatternLaws.{matches_tag, tag_matches}
-use Rattle.owl_tokens.specs.Values.{between_ends, local_in, prefix_in, sign_of, unescaped, value_of}
+use Rattle.owl_tokens.specs.Values.{local_in, prefix_in, sign_of, unescaped, value_of}
 use Rattle.owl_tokens.specs.declared.kinds.TheConstants.{AT, BLANK, CARETS, CLOSE, COMMENT, IRI, NAME, OPEN, SPACE, STR, WORD}
 use Rattle.owl_tokens.specs.declared.token.Sign.{Sign as Mark}
 use Rattle.owl_tokens.specs.declared.token.Sign.TheVariants.{Open, Close, Carets}
@@ -43,101 +42,66 @@ is_shared t = true
 abbrev pub SpellsShared : Token → List ℕ → Type 0
 SpellsShared t cs = (is_shared t ≡ true) × Spells t cs
 
+-- a lexeme of these terminals stands for the token
+abbrev pub IsLexemeFor : (ℕ → ℕ → Bool) → List Terminal → Token → List ℕ → Type 0
+IsLexemeFor test terminals t cs = (kind : ℕ) × IsLexemeOf test terminals kind cs × (value_of kind cs ≡ Some t)
+
+-- what lexemes of the terminal say
+abbrev pub Says : (ℕ → ℕ → Bool) → (Token → List ℕ → Type 0) → Terminal → Type 0
+Says test spells x = (cs : List ℕ) → Matches test x.pattern cs → IsLexemeWith spells (value_of x.kind cs) cs
+
+pub lexemes_say : (test : ℕ → ℕ → Bool) (spells : Token → List ℕ → Type 0) (xs : List Terminal) → AllByRecursion (Says test spells) xs → (kind : ℕ) (cs : List ℕ) → IsLexemeOf test xs kind cs → IsLexemeWith spells (value_of kind cs) cs
+lexemes_say test spells [] says kind cs m = elim m [ ]
+lexemes_say test spells (x ∷ xs) says kind cs (inl m) = subst (λ (k : ℕ). IsLexemeWith spells (value_of k cs) cs) m.0 (says.0 cs m.1)
+lexemes_say test spells (x ∷ xs) says kind cs (inr m) = lexemes_say test spells xs says.1 kind cs m
+
+pub lexeme_as : (known : ℕ → Bool) (test other : ℕ → ℕ → Bool) → ((set c : ℕ) → known set ≡ true → test set c ≡ other set c) → (xs : List Terminal) → list_all (λ x. uses_only known x.pattern) xs ≡ true → (kind : ℕ) (cs : List ℕ) → IsLexemeOf test xs kind cs → IsLexemeOf other xs kind cs
+lexeme_as known test other same [] h kind cs m = m
+lexeme_as known test other same (x ∷ xs) h kind cs (inl m) =
+    inl (m.0, matches_as known test other same x.pattern (and_parts (uses_only known x.pattern) (list_all (λ x. uses_only known x.pattern) xs) h).0 cs m.1)
+lexeme_as known test other same (x ∷ xs) h kind cs (inr m) =
+    inr (lexeme_as known test other same xs (and_parts (uses_only known x.pattern) (list_all (λ x. uses_only known x.pattern) xs) h).1 kind cs m)
+
+-- values
+
+name_value : (prefix local cs : List ℕ) → Spells (Name prefix local) cs → value_of NAME cs ≡ Some (Name prefix local)
+unfolding value_of
+name_value prefix local cs s =
+    let p : prefix_in cs ≡ prefix = prefix_value prefix local cs s in
+    let l : unescaped (local_in cs) ≡ local = text_value prefix local cs s in
+    λ i. Some (Name (p i) (l i))
+
+open_is : Means shared open_mark (λ cs. cs ≡ codes "(")
+open_is = mark_is shared open_mark 40 (class_is shared open_mark refl)
+
+close_is : Means shared close_mark (λ cs. cs ≡ codes ")")
+close_is = mark_is shared close_mark 41 (class_is shared close_mark refl)
+
+carets_are : Means shared carets (λ cs. cs ≡ codes "^^")
+carets_are cs =
+    let one = class_is shared caret refl in
+    let m = mark_then shared caret caret 94 one cs in (
+      λ k. let b = m.0 k in b.2 ∙ ap (λ (l : List ℕ). 94 ∷ l) ((mark_is shared caret 94 one b.0).0 b.1),
+      λ e. m.1 (94 ∷ [], (mark_is shared caret 94 one (94 ∷ [])).1 refl, e),
+    )
+
 -- from lexemes to tokens
 
-iri_says : (test : ℕ → ℕ → Bool) → SharedTests test → (cs : List ℕ) → Matches test full_iri cs → IsLexemeWith SpellsShared (value_of IRI cs) cs
-unfolding value_of
-iri_says test t cs m =
-    let o = iri_matches test t cs m in
-    let e : between_ends cs ≡ o.iri = ap between_ends o.is ∙ between_ends_is 60 62 o.iri in
-    token (Iri o.iri) (ap (λ (l : List ℕ). Some (Iri l)) e) (refl, (o.fits, o.is))
-
-name_says : (test : ℕ → ℕ → Bool) → SharedTests test → (cs : List ℕ) → Matches test abbreviated cs → IsLexemeWith SpellsShared (value_of NAME cs) cs
-unfolding value_of
-name_says test t cs m =
-    let o = name_matches test t cs m in
-    let p : prefix_in cs ≡ o.prefix = prefix_value cs o.prefix o.written o.names o.is in
-    let l : unescaped (local_in cs) ≡ o.text = text_value cs o.prefix o.written o.text o.names o.spells o.is in
-    token (Name o.prefix o.text) (λ i. Some (Name (p i) (l i))) (refl, (o.written, o.names, o.spells, o.is))
-
-blank_says : (test : ℕ → ℕ → Bool) → SharedTests test → (cs : List ℕ) → Matches test node_id cs → IsLexemeWith SpellsShared (value_of BLANK cs) cs
-unfolding value_of
-blank_says test t cs m =
-    let o = blank_matches test t cs m in
-    token (Blank o.label) (ap (λ (l : List ℕ). value_of BLANK l) o.is) (refl, (o.fits, o.is))
-
-string_says : (test : ℕ → ℕ → Bool) → SharedTests test → (cs : List ℕ) → Matches test quoted_string cs → IsLexemeWith SpellsShared (value_of STR cs) cs
-unfolding value_of
-string_says test t cs m =
-    let o = string_matches test t cs m in
-    token (Str o.text) (ap (λ (l : List ℕ). Some (Str l)) (string_value cs o.text o.is)) (refl, o.is)
-
-tag_says : (test : ℕ → ℕ → Bool) → SharedTests test → (cs : List ℕ) → Matches test language_tag cs → IsLexemeWith SpellsShared (value_of AT cs) cs
-unfolding value_of
-tag_says test t cs m =
-    let o = tag_matches test t cs m in
-    token (At o.tag) (ap (λ (l : List ℕ). value_of AT l) o.is) (refl, (o.fits, o.is))
-
-word_says : (test : ℕ → ℕ → Bool) → SharedTests test → (cs : List ℕ) → Matches test word cs → IsLexemeWith SpellsShared (value_of WORD cs) cs
-unfolding value_of
-word_says test t cs m = token (Word cs) refl (refl, (word_matches test t cs m, refl))
-
-open_is : (test : ℕ → ℕ → Bool) → SharedTests test → IsOne test open_mark (λ c. (40 == c) || false)
-open_is test t = one_is test 23 (λ c. (40 == c) || false) t.open_mark
-
-close_is : (test : ℕ → ℕ → Bool) → SharedTests test → IsOne test close_mark (λ c. (41 == c) || false)
-close_is test t = one_is test 24 (λ c. (41 == c) || false) t.close_mark
-
-caret_is : (test : ℕ → ℕ → Bool) → SharedTests test → IsOne test caret (λ c. (94 == c) || false)
-caret_is test t = one_is test 25 (λ c. (94 == c) || false) t.caret
-
-open_says : (test : ℕ → ℕ → Bool) → SharedTests test → (cs : List ℕ) → Matches test open_mark cs → IsLexemeWith SpellsShared (value_of OPEN cs) cs
+shared_say : AllByRecursion (Says shared SpellsShared) shared_terminals
 unfolding value_of sign_of
-open_says test t cs m = token (Sign Open) refl (refl, mark_passes test open_mark 40 (open_is test t) cs m)
-
-close_says : (test : ℕ → ℕ → Bool) → SharedTests test → (cs : List ℕ) → Matches test close_mark cs → IsLexemeWith SpellsShared (value_of CLOSE cs) cs
-unfolding value_of sign_of
-close_says test t cs m = token (Sign Close) refl (refl, mark_passes test close_mark 41 (close_is test t) cs m)
-
-carets_say : (test : ℕ → ℕ → Bool) → SharedTests test → (cs : List ℕ) → Matches test carets cs → IsLexemeWith SpellsShared (value_of CARETS cs) cs
-unfolding value_of sign_of
-carets_say test t cs m =
-    let b = behind_mark test caret caret 94 (caret_is test t) cs m in
-    token (Sign Carets) refl (refl, b.is ∙ ap (λ (l : List ℕ). 94 ∷ l) (mark_passes test caret 94 (caret_is test t) b.rest b.matches))
-
-white_is : (test : ℕ → ℕ → Bool) → SharedTests test → IsOne test white_character is_space
-white_is test t = one_is test 0 is_space t.white_character
-
-space_says : (test : ℕ → ℕ → Bool) → SharedTests test → (cs : List ℕ) → Matches test white_space cs → IsLexemeWith SpellsShared (value_of SPACE cs) cs
-unfolding value_of sign_of
-space_says test t cs m = space refl (run_matches test white_character is_space (white_is test t) cs m)
-
-number_sign_is : (test : ℕ → ℕ → Bool) → SharedTests test → IsOne test number_sign (λ c. (35 == c) || false)
-number_sign_is test t = one_is test 1 (λ c. (35 == c) || false) t.number_sign
-
-comment_is : (test : ℕ → ℕ → Bool) → SharedTests test → IsOne test comment_character (λ c. not (is_line_end c))
-comment_is test t = one_is test 2 (λ c. not (is_line_end c)) t.comment_character
-
-comment_says : (test : ℕ → ℕ → Bool) → SharedTests test → (cs : List ℕ) → Matches test comment cs → IsLexemeWith SpellsShared (value_of COMMENT cs) cs
-unfolding value_of sign_of
-comment_says test t cs m = comment_text refl (comment_matches test number_sign comment_character (number_sign_is test t) (comment_is test t) cs m)
-
-pub says_as : (spells : Token → List ℕ → Type 0) (cs : List ℕ) (kind other : ℕ) → kind ≡ other → IsLexemeWith spells (value_of kind cs) cs → IsLexemeWith spells (value_of other cs) cs
-says_as spells cs kind other e h = subst (λ (k : ℕ). IsLexemeWith spells (value_of k cs) cs) e h
-
-shared_says : (test : ℕ → ℕ → Bool) → SharedTests test → (kind : ℕ) (cs : List ℕ) → IsLexemeOf test shared_terminals kind cs → IsLexemeWith SpellsShared (value_of kind cs) cs
-shared_says test t kind cs (inl m) = says_as SpellsShared cs SPACE kind m.0 (space_says test t cs m.1)
-shared_says test t kind cs (inr (inl m)) = says_as SpellsShared cs COMMENT kind m.0 (comment_says test t cs m.1)
-shared_says test t kind cs (inr (inr (inl m))) = says_as SpellsShared cs IRI kind m.0 (iri_says test t cs m.1)
-shared_says test t kind cs (inr (inr (inr (inl m)))) = says_as SpellsShared cs NAME kind m.0 (name_says test t cs m.1)
-shared_says test t kind cs (inr (inr (inr (inr (inl m))))) = says_as SpellsShared cs BLANK kind m.0 (blank_says test t cs m.1)
-shared_says test t kind cs (inr (inr (inr (inr (inr (inl m)))))) = says_as SpellsShared cs STR kind m.0 (string_says test t cs m.1)
-shared_says test t kind cs (inr (inr (inr (inr (inr (inr (inl m))))))) = says_as SpellsShared cs AT kind m.0 (tag_says test t cs m.1)
-shared_says test t kind cs (inr (inr (inr (inr (inr (inr (inr (inl m)))))))) = says_as SpellsShared cs WORD kind m.0 (word_says test t cs m.1)
-shared_says test t kind cs (inr (inr (inr (inr (inr (inr (inr (inr (inl m))))))))) = says_as SpellsShared cs OPEN kind m.0 (open_says test t cs m.1)
-shared_says test t kind cs (inr (inr (inr (inr (inr (inr (inr (inr (inr (inl m)))))))))) = says_as SpellsShared cs CLOSE kind m.0 (close_says test t cs m.1)
-shared_says test t kind cs (inr (inr (inr (inr (inr (inr (inr (inr (inr (inr (inl m))))))))))) = says_as SpellsShared cs CARETS kind m.0 (carets_say test t cs m.1)
-shared_says test t kind cs (inr (inr (inr (inr (inr (inr (inr (inr (inr (inr (inr m))))))))))) = elim m [ ]
+shared_say =
+    (λ cs m. space refl ((run_is shared white_character (shared 0) (class_is shared white_character refl) cs).0 m))
+    also (λ cs m. comment_text refl ((comment_is shared number_sign comment_character (class_is shared number_sign refl) (class_is shared comment_character refl) cs).0 m))
+    also (λ cs m. let o = (iri_is cs).0 m in token (Iri o.0) (ap (λ (l : List ℕ). Some (Iri l)) (iri_value o.0 cs o.1)) (refl, o.1))
+    also (λ cs m. let o = (abbreviated_is cs).0 m in token (Name o.0 o.1) (name_value o.0 o.1 cs o.2) (refl, o.2))
+    also (λ cs m. let o = (blank_is cs).0 m in token (Blank o.0) (ap (λ (l : List ℕ). value_of BLANK l) o.1.1) (refl, o.1))
+    also (λ cs m. let o = (string_is cs).0 m in token (Str o.0) (ap (λ (l : List ℕ). Some (Str l)) (string_value o.0 cs o.1)) (refl, o.1))
+    also (λ cs m. let o = (tag_is cs).0 m in token (At o.0) (ap (λ (l : List ℕ). value_of AT l) o.1.1) (refl, o.1))
+    also (λ cs m. token (Word cs) refl (refl, ((word_is cs).0 m, refl)))
+    also (λ cs m. token (Sign Open) refl (refl, (open_is cs).0 m))
+    also (λ cs m. token (Sign Close) refl (refl, (close_is cs).0 m))
+    also (λ cs m. token (Sign Carets) refl (refl, (carets_are cs).0 m))
+    also tt
 
 -- what is spelled in one way is spelled in another
 says_more : (one other : Token → List ℕ → Type 0) → ((t : Token) (cs : List ℕ) → one t cs → other t cs) → (value : Option Token) (cs : List ℕ) → IsLexemeWith one value cs → IsLexemeWith other value cs
@@ -159,93 +123,29 @@ gaps_are_none kind cs h = elim (or_cases (kind == SPACE) (kind == COMMENT) h) [
 
 -- from tokens to lexemes
 
--- a lexeme of these terminals stands for the token
-abbrev pub IsLexemeFor : (ℕ → ℕ → Bool) → List Terminal → Token → List ℕ → Type 0
-IsLexemeFor test terminals t cs = (kind : ℕ) × IsLexemeOf test terminals kind cs × (value_of kind cs ≡ Some t)
-
-iri_lexeme : (test : ℕ → ℕ → Bool) → SharedTests test → (iri cs : List ℕ) → Spells (Iri iri) cs → IsLexemeFor test shared_terminals (Iri iri) cs
-unfolding value_of
-iri_lexeme test t iri cs h = (
-  IRI,
-  inr (inr (inl (refl, subst (Matches test full_iri) (sym h.1) (matches_iri test t iri h.0)))),
-  ap (λ (l : List ℕ). Some (Iri l)) (ap between_ends h.1 ∙ between_ends_is 60 62 iri),
-)
-
-name_lexeme : (test : ℕ → ℕ → Bool) → SharedTests test → (prefix local cs : List ℕ) → Spells (Name prefix local) cs → IsLexemeFor test shared_terminals (Name prefix local) cs
-unfolding value_of
-name_lexeme test t prefix local cs h =
-    let p : prefix_in cs ≡ prefix = prefix_value cs prefix h.0 h.1 h.3 in
-    let l : unescaped (local_in cs) ≡ local = text_value cs prefix h.0 local h.1 h.2 h.3 in (
-      NAME,
-      inr (inr (inr (inl (refl, subst (Matches test abbreviated) (sym h.3) (matches_abbreviated test t prefix h.0 local h.1 h.2))))),
-      λ i. Some (Name (p i) (l i)),
-    )
-
-blank_lexeme : (test : ℕ → ℕ → Bool) → SharedTests test → (label cs : List ℕ) → Spells (Blank label) cs → IsLexemeFor test shared_terminals (Blank label) cs
-unfolding value_of
-blank_lexeme test t label cs h =
-    (BLANK, inr (inr (inr (inr (inl (refl, subst (Matches test node_id) (sym h.1) (matches_blank test t label h.0)))))), ap (λ (l : List ℕ). value_of BLANK l) h.1)
-
-string_lexeme : (test : ℕ → ℕ → Bool) → SharedTests test → (text cs : List ℕ) → Spells (Str text) cs → IsLexemeFor test shared_terminals (Str text) cs
-unfolding value_of
-string_lexeme test t text cs h =
-    (STR, inr (inr (inr (inr (inr (inl (refl, subst (Matches test quoted_string) (sym h) (matches_string test t text))))))), ap (λ (l : List ℕ). Some (Str l)) (string_value cs text h))
-
-tag_lexeme : (test : ℕ → ℕ → Bool) → SharedTests test → (tag cs : List ℕ) → Spells (At tag) cs → IsLexemeFor test shared_terminals (At tag) cs
-unfolding value_of
-tag_lexeme test t tag cs h =
-    (AT, inr (inr (inr (inr (inr (inr (inl (refl, subst (Matches test language_tag) (sym h.1) (matches_tag test t tag h.0)))))))), ap (λ (l : List ℕ). value_of AT l) h.1)
-
-word_lexeme : (test : ℕ → ℕ → Bool) → SharedTests test → (name cs : List ℕ) → Spells (Word name) cs → IsLexemeFor test shared_terminals (Word name) cs
-unfolding value_of
-word_lexeme test t name cs h =
-    (WORD, inr (inr (inr (inr (inr (inr (inr (inl (refl, subst (Matches test word) (sym h.1) (matches_word test t name h.0))))))))), ap (λ (l : List ℕ). value_of WORD l) h.1)
-
-open_lexeme : (test : ℕ → ℕ → Bool) → SharedTests test → (cs : List ℕ) → Spells (Sign Open) cs → IsLexemeFor test shared_terminals (Sign Open) cs
+shared_lexeme : (t : Token) (cs : List ℕ) → SpellsShared t cs → IsLexemeFor shared shared_terminals t cs
 unfolding value_of sign_of
-open_lexeme test t cs h = (OPEN, inr (inr (inr (inr (inr (inr (inr (inr (inl (refl, subst (Matches test open_mark) (sym h) (matches_mark test open_mark 40 (open_is test t))))))))))), refl)
-
-close_lexeme : (test : ℕ → ℕ → Bool) → SharedTests test → (cs : List ℕ) → Spells (Sign Close) cs → IsLexemeFor test shared_terminals (Sign Close) cs
-unfolding value_of sign_of
-close_lexeme test t cs h = (CLOSE, inr (inr (inr (inr (inr (inr (inr (inr (inr (inl (refl, subst (Matches test close_mark) (sym h) (matches_mark test close_mark 41 (close_is test t)))))))))))), refl)
-
-carets_lexeme : (test : ℕ → ℕ → Bool) → SharedTests test → (cs : List ℕ) → Spells (Sign Carets) cs → IsLexemeFor test shared_terminals (Sign Carets) cs
-unfolding value_of sign_of
-carets_lexeme test t cs h =
-    let both_carets : Matches test carets (94 ∷ 94 ∷ []) = mark_before test caret caret 94 (caret_is test t) (94 ∷ []) (matches_mark test caret 94 (caret_is test t)) in
-    (CARETS, inr (inr (inr (inr (inr (inr (inr (inr (inr (inr (inl (refl, subst (Matches test carets) (sym h) both_carets))))))))))), refl)
-
-shared_mark_lexeme : (test : ℕ → ℕ → Bool) → SharedTests test → (mark : Mark) (cs : List ℕ) → is_shared_mark mark ≡ true → Spells (Sign mark) cs → IsLexemeFor test shared_terminals (Sign mark) cs
-shared_mark_lexeme test t Open cs e h = open_lexeme test t cs h
-shared_mark_lexeme test t Close cs e h = close_lexeme test t cs h
-shared_mark_lexeme test t Carets cs e h = carets_lexeme test t cs h
-shared_mark_lexeme test t mark cs e h = absurd (cc)
-
-shared_lexeme : (test : ℕ → ℕ → Bool) → SharedTests test → (token : Token) (cs : List ℕ) → SpellsShared token cs → IsLexemeFor test shared_terminals token cs
-shared_lexeme test t (Iri iri) cs h = iri_lexeme test t iri cs h.1
-shared_lexeme test t (Name prefix local) cs h = name_lexeme test t prefix local cs h.1
-shared_lexeme test t (Blank label) cs h = blank_lexeme test t label cs h.1
-shared_lexeme test t (Str text) cs h = string_lexeme test t text cs h.1
-shared_lexeme test t (At tag) cs h = tag_lexeme test t tag cs h.1
-shared_lexeme test t (Word name) cs h = word_lexeme test t name cs h.1
-shared_lexeme test t (Sign mark) cs h = shared_mark_lexeme test t mark cs h.0 h.1
-shared_lexeme test t other cs h = let e = h.0 in absurd (cc)
+shared_lexeme (Iri iri) cs h = (IRI, inr (inr (inl (refl, (iri_is cs).1 (iri, h.1)))), ap (λ (l : List ℕ). Some (Iri l)) (iri_value iri cs h.1))
+shared_lexeme (Name prefix local) cs h = (NAME, inr (inr (inr (inl (refl, (abbreviated_is cs).1 (prefix, local, h.1))))), name_value prefix local cs h.1)
+shared_lexeme (Blank label) cs h = (BLANK, inr (inr (inr (inr (inl (refl, (blank_is cs).1 (label, h.1)))))), ap (λ (l : List ℕ). value_of BLANK l) h.1.1)
+shared_lexeme (Str text) cs h = (STR, inr (inr (inr (inr (inr (inl (refl, (string_is cs).1 (text, h.1))))))), ap (λ (l : List ℕ). Some (Str l)) (string_value text cs h.1))
+shared_lexeme (At tag) cs h = (AT, inr (inr (inr (inr (inr (inr (inl (refl, (tag_is cs).1 (tag, h.1)))))))), ap (λ (l : List ℕ). value_of AT l) h.1.1)
+shared_lexeme (Word name) cs h =
+    (WORD, inr (inr (inr (inr (inr (inr (inr (inl (refl, (word_is cs).1 (subst (IsNameFrom is_start) (sym h.1.1) h.1.0))))))))), ap (λ (l : List ℕ). value_of WORD l) h.1.1)
+shared_lexeme (Sign Open) cs h = (OPEN, inr (inr (inr (inr (inr (inr (inr (inr (inl (refl, (open_is cs).1 h.1))))))))), refl)
+shared_lexeme (Sign Close) cs h = (CLOSE, inr (inr (inr (inr (inr (inr (inr (inr (inr (inl (refl, (close_is cs).1 h.1)))))))))), refl)
+shared_lexeme (Sign Carets) cs h = (CARETS, inr (inr (inr (inr (inr (inr (inr (inr (inr (inr (inl (refl, (carets_are cs).1 h.1))))))))))), refl)
+shared_lexeme t cs h = let e = h.0 in absurd (cc)
 
 -- terminals of two lists
 
-one_of_both : (test : ℕ → ℕ → Bool) (xs ys : List Terminal) (kind : ℕ) (cs : List ℕ) → IsLexemeOf test (xs ++ ys) kind cs → IsLexemeOf test xs kind cs ⊎ IsLexemeOf test ys kind cs
-one_of_both test [] ys kind cs m = inr m
-one_of_both test (x ∷ xs) ys kind cs (inl m) = inl (inl m)
-one_of_both test (x ∷ xs) ys kind cs (inr m) = elim (one_of_both test xs ys kind cs m) [ inl l ↦ inl (inr l) | inr r ↦ inr r ]
-
-of_first : (test : ℕ → ℕ → Bool) (xs ys : List Terminal) (kind : ℕ) (cs : List ℕ) → IsLexemeOf test xs kind cs → IsLexemeOf test (xs ++ ys) kind cs
-of_first test [] ys kind cs m = elim m [ ]
-of_first test (x ∷ xs) ys kind cs (inl m) = inl m
-of_first test (x ∷ xs) ys kind cs (inr m) = inr (of_first test xs ys kind cs m)
-
-of_second : (test : ℕ → ℕ → Bool) (xs ys : List Terminal) (kind : ℕ) (cs : List ℕ) → IsLexemeOf test ys kind cs → IsLexemeOf test (xs ++ ys) kind cs
-of_second test [] ys kind cs m = m
-of_second test (x ∷ xs) ys kind cs m = inr (of_second test xs ys kind cs m)
+one_of_both : (test : ℕ → ℕ → Bool) (xs ys : List Terminal) (kind : ℕ) (cs : List ℕ) → IsLexemeOf test (xs ++ ys) kind cs ↔ (IsLexemeOf test xs kind cs ⊎ IsLexemeOf test ys kind cs)
+one_of_both test [] ys kind cs = (λ m. inr m, λ m. elim m [ inl x ↦ elim x [ ] | inr y ↦ y ])
+one_of_both test (x ∷ xs) ys kind cs =
+    let others = one_of_both test xs ys kind cs in (
+      λ m. elim m [ inl h ↦ inl (inl h) | inr k ↦ elim (others.0 k) [ inl l ↦ inl (inr l) | inr r ↦ inr r ] ],
+      λ m. elim m [ inl h ↦ elim h [ inl k ↦ inl k | inr l ↦ inr (others.1 (inl l)) ] | inr r ↦ inr (others.1 (inr r)) ],
+    )
 
 -- What a language has behind the shared terminals: its own ones, and tokens that are shared or lexemes of these.
 pub record OwnTerminals (test : ℕ → ℕ → Bool) (own : List Terminal) (spells : Token → List ℕ → Type 0) : Type 0 where
@@ -256,17 +156,19 @@ pub record OwnTerminals (test : ℕ → ℕ → Bool) (own : List Terminal) (spe
 -- The lexemes of all terminals stand for the tokens.
 pub lexemes_stand : (test : ℕ → ℕ → Bool) (own : List Terminal) (spells : Token → List ℕ → Type 0) → SharedTests test → OwnTerminals test own spells → Stand (IsLexemeOf test (shared_terminals ++ own)) is_gap value_of spells
 lexemes_stand test own spells t o =
-    let front = of_first test shared_terminals own in
+    let known = is_index shared_words in
+    let both = one_of_both test shared_terminals own in
+    let front = λ (kind : ℕ) (cs : List ℕ) (m : IsLexemeOf shared shared_terminals kind cs). (both kind cs).1 (inl (lexeme_as known shared test (λ set c k. sym (t.agrees set c k)) shared_terminals refl kind cs m)) in
     record {
-      says = λ kind cs m. elim (one_of_both test shared_terminals own kind cs m) [
-        | inl x ↦ says_more SpellsShared spells o.shared (value_of kind cs) cs (shared_says test t kind cs x)
+      says = λ kind cs m. elim ((both kind cs).0 m) [
+        | inl x ↦ says_more SpellsShared spells o.shared (value_of kind cs) cs (lexemes_say shared SpellsShared shared_terminals shared_say kind cs (lexeme_as known test shared t.agrees shared_terminals refl kind cs x))
         | inr x ↦ o.says kind cs x
       ];
       token = λ token cs h. elim (o.token token cs h) [
-        | inl x ↦ let l = shared_lexeme test t token cs x in (l.0, front l.0 cs l.1, l.2)
-        | inr x ↦ (x.0, of_second test shared_terminals own x.0 cs x.1, x.2)
+        | inl x ↦ let l = shared_lexeme token cs x in (l.0, front l.0 cs l.1, l.2)
+        | inr x ↦ (x.0, (both x.0 cs).1 (inr x.1), x.2)
       ];
-      space = λ cs h. (SPACE, front SPACE cs (inl (refl, matches_run test white_character is_space (white_is test t) cs h)));
-      comment = λ cs h. (COMMENT, front COMMENT cs (inr (inl (refl, matches_comment test number_sign comment_character (number_sign_is test t) (comment_is test t) cs h))));
+      space = λ cs h. (SPACE, front SPACE cs (inl (refl, (run_is shared white_character (shared 0) (class_is shared white_character refl) cs).1 h)));
+      comment = λ cs h. (COMMENT, front COMMENT cs (inr (inl (refl, (comment_is shared number_sign comment_character (class_is shared number_sign refl) (class_is shared comment_character refl) cs).1 h))));
       none = gaps_are_none;
     }

@@ -6,7 +6,8 @@ use Rattle.std.proofs.lemmas.Bool.{and_parts, or_cases, or_left, or_right}
 use Rattle.std.proofs.lemmas.Bool.Decides.{nat_tests}
 use Rattle.owl_lexer.specs.Grammars.{CharacterSet, has, is_in_ranges, test_of}
 use Rattle.owl_lexer.specs.Grammars.CharacterSet.{inside}
-use Rattle.owl_lexer.specs.Patterns.{Joins, Matches, Pattern}
+use Rattle.owl_lexer.specs.PatternLaws.{joins_as}
+use Rattle.owl_lexer.specs.Patterns.{Matches, Pattern}
 use Rattle.owl_lexer.specs.Patterns.Pattern.{empty, one, both, either, many}
 use Rattle.owl_lexer.specs.TableTests.{lies_in_one}
 
@@ -53,10 +54,6 @@ has_within set other c h k = absurd (cc)
 
 -- patterns
 
-joins_within : (P Q : List ℕ → Type 0) → ((cs : List ℕ) → P cs → Q cs) → (parts : List (List ℕ)) (cs : List ℕ) → Joins P parts cs → Joins Q parts cs
-joins_within P Q each [] cs j = j
-joins_within P Q each (part ∷ parts) cs j = (j.0, each part j.1, j.2, joins_within P Q each parts j.0 j.3)
-
 pub matches_within : (sets others : List CharacterSet) (p a : Pattern) → is_within sets others p a ≡ true → (cs : List ℕ) → Matches (test_of sets) p cs → Matches (test_of others) a cs
 matches_within sets others empty empty h cs m = m
 matches_within sets others (one s) (one n) h cs m =
@@ -65,7 +62,7 @@ matches_within sets others (both p q) (both a b) h cs m =
     let parts = and_parts (is_within sets others p a) (is_within sets others q b) h in
     (m.0, m.1, matches_within sets others p a parts.0 m.0 m.2, matches_within sets others q b parts.1 m.1 m.3, m.4)
 matches_within sets others (many p) (many a) h cs m =
-    (m.0, joins_within (Matches (test_of sets) p) (Matches (test_of others) a) (matches_within sets others p a h) m.0 cs m.1)
+    (m.0, joins_as (Matches (test_of sets) p) (Matches (test_of others) a) (matches_within sets others p a h) m.0 cs m.1)
 matches_within sets others (either p q) a h cs (inl m) =
     matches_within sets others p a (and_parts (is_within sets others p a) (is_within sets others q a) h).0 cs m
 matches_within sets others (either p q) a h cs (inr m) =

@@ -8,11 +8,11 @@ use Rattle.owl_characters.specs.NameCharacterLaws.{local_fits}
 use Rattle.owl_characters.specs.Names.{IsLabel, IsLanguageTag, IsPrefixName}
 use Rattle.owl_lexer.specs.Grammars.{IsLexemeOf, Terminal, test_of}
 use Rattle.owl_lexer.specs.Patterns.{Matches, Pattern}
-use Rattle.owl_tokens.specs.AbbreviatedPatternLaws.{blank_matches, name_matches}
-use Rattle.owl_tokens.specs.CharacterLaws.{functional_tests}
+use Rattle.owl_tokens.specs.CharacterLaws.{as_shared, functional_tests}
 use Rattle.owl_tokens.specs.FunctionalGrammar.{functional_grammar}
 use Rattle.owl_tokens.specs.SharedPatterns.{abbreviated, language_tag, node_id, prefix_name}
-use Rattle.owl_tokens.specs.TagPatternLaws.{tag_matches}
+use Rattle.owl_tokens.specs.NamePatternLaws.{abbreviated_is, blank_is}
+use Rattle.owl_tokens.specs.TagPatternLaws.{tag_is}
 use Rattle.ttl_tokens.specs.NameLaws.{local_is_read, prefix_is_read}
 use Rattle.ttl_tokens.specs.PatternWithinLaws.{matches_within}
 use Rattle.ttl_tokens.specs.TokenForms.{IsFormed}
@@ -55,20 +55,21 @@ name_is_functional cs (inr m) = (cs, [], prefix_is_functional cs m, inr refl, sy
 
 label_formed : (cs : List ℕ) → Matches in_turtle blank_node_label cs → IsLabel (drop 2 cs)
 label_formed cs m =
-    let o = blank_matches in_functional functional_tests cs (label_is_functional cs m) in
-    subst (λ (l : List ℕ). IsLabel (drop 2 l)) (sym o.is) o.fits
+    let o = (blank_is cs).0 ((as_shared in_functional functional_tests node_id refl cs).0 (label_is_functional cs m)) in
+    subst (λ (l : List ℕ). IsLabel (drop 2 l)) (sym o.1.1) o.1.0
 
 tag_formed : (cs : List ℕ) → Matches in_turtle langtag cs → IsLanguageTag (drop 1 cs)
 tag_formed cs m =
-    let o = tag_matches in_functional functional_tests cs (tag_is_functional cs m) in
-    subst (λ (l : List ℕ). IsLanguageTag (drop 1 l)) (sym o.is) o.fits
+    let o = (tag_is cs).0 ((as_shared in_functional functional_tests language_tag refl cs).0 (tag_is_functional cs m)) in
+    subst (λ (l : List ℕ). IsLanguageTag (drop 1 l)) (sym o.1.1) o.1.0
 
 name_formed : (cs : List ℕ) → Matches in_turtle prefixed_name cs → IsPrefixName (prefix_text cs) × AllAre is_iri_character (local_text cs)
 name_formed cs m =
-    let o = name_matches in_functional functional_tests cs (name_is_functional cs m) in
-    let prefix = ap (λ (l : List ℕ). prefix_text l) o.is ∙ prefix_is_read o.prefix o.written o.names in
-    let local = ap (λ (l : List ℕ). local_text l) o.is ∙ local_is_read o.prefix o.written o.text o.names o.spells in
-    (subst IsPrefixName (sym prefix) o.names, subst (AllAre is_iri_character) (sym local) (local_fits o.written o.text o.spells))
+    let o = (abbreviated_is cs).0 ((as_shared in_functional functional_tests abbreviated refl cs).0 (name_is_functional cs m)) in
+    let s = o.2 in
+    let prefix = ap (λ (l : List ℕ). prefix_text l) s.3 ∙ prefix_is_read o.0 s.0 s.1 in
+    let local = ap (λ (l : List ℕ). local_text l) s.3 ∙ local_is_read o.0 s.0 o.1 s.1 s.2 in
+    (subst IsPrefixName (sym prefix) s.1, subst (AllAre is_iri_character) (sym local) (local_fits s.0 o.1 s.2))
 
 -- terminals
 

@@ -2,6 +2,8 @@
 use Rattle.std.proofs.Common.{◌≡◌, inl, inr, ℕ, Bool, true, false, not, ◌||◌, Option, None, Some, List, [], ◌∷◌, refl, sym, ap, ◌∙◌}
 use Rattle.std.specs.Prelude.{◌==◌, codes}
 use Rattle.std.specs.List.{list_all}
+use Rattle.std.proofs.Math.Bool.{or_assoc, or_comm}
+use Rattle.owl_characters.specs.Iri.{is_among}
 use Rattle.std.proofs.lemmas.Bool.{and_parts, eqb-true, or_cases}
 use Rattle.owl_characters.specs.Names.{IsRunOf}
 use Rattle.owl_lexer.specs.GapTestLaws.{Stand, table_is_language}
@@ -9,8 +11,9 @@ use Rattle.owl_lexer.specs.GapTests.{check_gaps}
 use Rattle.owl_lexer.specs.Grammars.{IsLexeme, IsLexemeOf, Terminal, test_of}
 use Rattle.owl_lexer.specs.Languages.{IsCommentText, IsLanguage, IsLexemeWith}
 use Rattle.owl_lexer.specs.Languages.IsLexemeWith.{token, space, comment}
-use Rattle.owl_lexer.specs.PatternLaws.{IsOne, comment_matches, each_is, matches_comment, matches_run, one_is, run_matches}
-use Rattle.owl_lexer.specs.Patterns.Pattern.{one}
+use Rattle.owl_lexer.specs.PatternLaws.{Means, comment_is, each_is, one_is, run_is}
+use Rattle.owl_lexer.specs.Patterns.Pattern.{both, many, one}
+use Rattle.owl_lexer.specs.PatternWords.{some}
 use Rattle.owl_lexer.specs.Splitting.{is_line_end, is_space}
 use Rattle.owl_lexer.specs.Tables.{automaton_of}
 use Rattle.ttl_tokens.specs.TurtleGrammar.{comment_kind, turtle_grammar, white_space_kind}
@@ -25,32 +28,18 @@ in_turtle = test_of turtle_grammar.sets
 
 -- white space and comments
 
-swapped : (x y : Bool) → (x || (y || false)) ≡ (y || (x || false))
-swapped true true = refl
-swapped true false = refl
-swapped false true = refl
-swapped false false = refl
-
-white_is : IsOne in_turtle (one 22) is_space
+white_space_is : Means in_turtle (some (one 22)) (IsRunOf is_space)
 unfolding turtle_grammar
-white_is =
-    one_is in_turtle 22 is_space (λ c. each_is (32 ∷ 9 ∷ 13 ∷ 10 ∷ []) c ∙ ap (λ b. (32 == c) || ((9 == c) || b)) (swapped (13 == c) (10 == c)))
+white_space_is =
+    run_is in_turtle (one 22) is_space
+    (one_is in_turtle 22 is_space (λ c. each_is (32 ∷ 9 ∷ 13 ∷ 10 ∷ []) c
+    ∙ ap (λ b. (32 == c) || ((9 == c) || b)) (sym (or_assoc (13 == c) (10 == c) false) ∙ ap (λ b. b || false) (or_comm (13 == c) (10 == c)) ∙ or_assoc (10 == c) (13 == c) false)))
 
-hash_is : IsOne in_turtle (one 7) (λ c. (35 == c) || false)
+comment_text_is : Means in_turtle (both (one 7) (many (one 23))) IsCommentText
 unfolding turtle_grammar
-hash_is = one_is in_turtle 7 (λ c. (35 == c) || false) (λ c. each_is (codes "#") c)
-
-in_line_is : IsOne in_turtle (one 23) (λ c. not (is_line_end c))
-unfolding turtle_grammar
-in_line_is = one_is in_turtle 23 (λ c. not (is_line_end c)) (λ c. ap not (each_is (10 ∷ 13 ∷ []) c))
-
-space_lexeme : (cs : List ℕ) → IsRunOf is_space cs → IsLexeme turtle_grammar white_space_kind cs
-unfolding turtle_grammar
-space_lexeme cs h = inl (refl, matches_run in_turtle (one 22) is_space white_is cs h)
-
-comment_lexeme : (cs : List ℕ) → IsCommentText cs → IsLexeme turtle_grammar comment_kind cs
-unfolding turtle_grammar
-comment_lexeme cs h = inr (inl (refl, matches_comment in_turtle (one 7) (one 23) hash_is in_line_is cs h))
+comment_text_is =
+    comment_is in_turtle (one 7) (one 23) (one_is in_turtle 7 (λ c. is_among (35 ∷ []) c) (each_is (codes "#")))
+    (one_is in_turtle 23 (λ c. not (is_line_end c)) (λ c. ap not (each_is (10 ∷ 13 ∷ []) c)))
 
 abbrev pub is_gap : ℕ → Bool
 is_gap kind = (kind == white_space_kind) || (kind == comment_kind)
@@ -94,8 +83,8 @@ says_token kind cs m other =
 
 says : (kind : ℕ) (cs : List ℕ) → IsLexeme turtle_grammar kind cs → IsLexemeWith Spells (token_of kind cs) cs
 unfolding turtle_grammar
-says kind cs (inl m) = space (ap (λ (k : ℕ). token_of k cs) (sym m.0)) (run_matches in_turtle (one 22) is_space white_is cs m.1)
-says kind cs (inr (inl m)) = comment (ap (λ (k : ℕ). token_of k cs) (sym m.0)) (comment_matches in_turtle (one 7) (one 23) hash_is in_line_is cs m.1)
+says kind cs (inl m) = space (ap (λ (k : ℕ). token_of k cs) (sym m.0)) ((white_space_is cs).0 m.1)
+says kind cs (inr (inl m)) = comment (ap (λ (k : ℕ). token_of k cs) (sym m.0)) ((comment_text_is cs).0 m.1)
 says kind cs (inr (inr m)) = says_token kind cs (inr (inr m)) m
 
 gaps_pass : check_gaps is_gap turtle_table ≡ true
@@ -103,11 +92,12 @@ unfolding turtle_table
 gaps_pass = refl
 
 lexemes_stand : Stand (IsLexeme turtle_grammar) is_gap token_of Spells
+unfolding turtle_grammar
 lexemes_stand = record {
   says = says;
   token = λ t cs h. h;
-  space = λ cs h. (white_space_kind, space_lexeme cs h);
-  comment = λ cs h. (comment_kind, comment_lexeme cs h);
+  space = λ cs h. (white_space_kind, inl (refl, (white_space_is cs).1 h));
+  comment = λ cs h. (comment_kind, inr (inl (refl, (comment_text_is cs).1 h)));
   none = gaps_are_none;
 }
 
