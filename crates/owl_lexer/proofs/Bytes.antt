@@ -1,5 +1,5 @@
 -- What a byte makes of what is in hand.
-use Rattle.std.proofs.Common.{◌≡◌, ◌↔◌, ◌⊎◌, inl, inr, ℕ, ◌+◌, ◌<◌, ◌≤◌, Bool, true, false, Option, None, Some, List, [], ◌∷◌, ◌++◌, length, refl, sym, ap, ◌∙◌, subst, arith, add-zero, if◌then◌else◌}
+use Rattle.std.proofs.Common.{◌≡◌, ◌⊎◌, inl, inr, ℕ, ◌+◌, ◌<◌, ◌≤◌, Bool, true, false, Option, None, Some, List, [], ◌∷◌, ◌++◌, length, refl, sym, ap, ◌∙◌, subst, arith, add-zero, if◌then◌else◌}
 use Rattle.std.specs.Prelude.{◌&&◌}
 use Rattle.std.specs.Char.{IsScalar, encode_utf8, len_utf8}
 use Rattle.std.specs.Str.{encode_utf8_all}
@@ -9,14 +9,14 @@ use Rattle.std.proofs.lemmas.Str.{encode_ascii, length-encode}
 use lib.Utf8.{low_scalar}
 use Rattle.owl_characters.specs.Feeding.{BeginsNone, Feeding, IsUnfinished, Steps}
 use Rattle.owl_characters.specs.declared.utf8_step.Utf8Step.TheVariants.{Char}
-use Rattle.owl_characters.specs.Utf8.{behind_mark, is_mark, mark_size}
+use Rattle.owl_characters.specs.Utf8.{is_mark, mark_size}
 use Rattle.owl_characters.specs.Utf8.{BeginsNoCharacter, Decodes, size}
 use Rattle.owl_characters.specs.Utf8Laws.{no_bytes}
 use Rattle.owl_lexer.specs.declared.fault.LexFault.{LexFault}
 use Rattle.owl_lexer.specs.declared.fault.LexFault.TheVariants.{BadUtf8}
 use Rattle.owl_lexer.specs.Automata.{Automaton, Spells}
 use Rattle.owl_lexer.specs.BytesGiving.{BegunBytes, ContinuesBytes, CutsBehindMark, EndsBytesAt, GivesBytes, GivesSomeBytes, end_of_bytes}
-use Rattle.owl_lexer.specs.BytesLaws.{decodes_first, decodes_none, first_decoded, none_decoded, same_continues_bytes, unfinished_begins_none}
+use Rattle.owl_lexer.specs.BytesLaws.{decodes_first, decodes_none, unfinished_begins_none}
 use Rattle.owl_lexer.specs.Cutting.{Cuts, Lexeme, Stops}
 use Rattle.owl_lexer.specs.DecodingLaws.{decode}
 use Rattle.owl_lexer.specs.Giving.{Begun, Continues, EndsAt, Gives, GivesSome, end_of}
@@ -42,41 +42,31 @@ if_false {A = A} b x y e = subst (λ (c : Bool). (if c then x else y) ≡ y) (sy
 if_true : {A : Type 0} → (b : Bool) (x y : A) → b ≡ true → (if b then x else y) ≡ x
 if_true {A = A} b x y e = subst (λ (c : Bool). (if c then x else y) ≡ x) (sym e) refl
 
--- where no byte order mark stands first, all characters are cut
-no_mark : (a : Automaton) (at c : ℕ) (cs tail : List ℕ) (xs : List Lexeme) (e : Option LexFault) → is_mark c ≡ false → CutsBehindMark true a at (c ∷ cs) tail xs e ↔ Cuts (Spells a) at (c ∷ cs) tail xs e
-no_mark a at c cs tail xs e h =
-    let place : at + mark_size (c ∷ cs) ≡ at = ap (λ (n : ℕ). at + n) (if_false (is_mark c) 3 0 h) ∙ add-zero at in
-    let behind : behind_mark (c ∷ cs) ≡ c ∷ cs = if_false (is_mark c) cs (c ∷ cs) h in (
-      λ k. subst (λ (p : ℕ). Cuts (Spells a) p (c ∷ cs) tail xs e) place (subst (λ (l : List ℕ). Cuts (Spells a) (at + mark_size (c ∷ cs)) l tail xs e) behind k),
-      λ k. subst (λ (l : List ℕ). Cuts (Spells a) (at + mark_size (c ∷ cs)) l tail xs e) (sym behind) (subst (λ (p : ℕ). Cuts (Spells a) p (c ∷ cs) tail xs e) (sym place) k),
-    )
-
 -- where nothing but a byte order mark could be begun, none is
-plain : (fresh : Bool) (a : Automaton) (at : ℕ) (held : List ℕ) (c : ℕ) (cs tail : List ℕ) (xs : List Lexeme) (e : Option LexFault) → (fresh && is_mark c) ≡ false → (fresh ≡ true → held ≡ []) → CutsBehindMark fresh a at (held ++ c ∷ cs) tail xs e ↔ Cuts (Spells a) at (held ++ c ∷ cs) tail xs e
-plain false a at held c cs tail xs e h first = (λ k. k, λ k. k)
-plain true a at held c cs tail xs e h first =
+
+no_mark : (a : Automaton) (at c : ℕ) (cs tail : List ℕ) (xs : List Lexeme) (e : Option LexFault) → is_mark c ≡ false → Cuts (Spells a) at (c ∷ cs) tail xs e → CutsBehindMark true a at (c ∷ cs) tail xs e
+no_mark a at c cs tail xs e h k =
+    let place : at ≡ at + mark_size (c ∷ cs) = sym (ap (λ (n : ℕ). at + n) (if_false (is_mark c) 3 0 h) ∙ add-zero at) in
+    subst (λ (l : List ℕ). Cuts (Spells a) (at + mark_size (c ∷ cs)) l tail xs e) (sym (if_false (is_mark c) cs (c ∷ cs) h)) (subst (λ (p : ℕ). Cuts (Spells a) p (c ∷ cs) tail xs e) place k)
+
+plain : (fresh : Bool) (a : Automaton) (at : ℕ) (held : List ℕ) (c : ℕ) (cs tail : List ℕ) (xs : List Lexeme) (e : Option LexFault) → (fresh && is_mark c) ≡ false → (fresh ≡ true → held ≡ []) → Cuts (Spells a) at (held ++ c ∷ cs) tail xs e → CutsBehindMark fresh a at (held ++ c ∷ cs) tail xs e
+plain false a at held c cs tail xs e h first k = k
+plain true a at held c cs tail xs e h first k =
     let none = first refl in
-    let both = no_mark a at c cs tail xs e h in (
-      λ k. subst (λ (l : List ℕ). Cuts (Spells a) at (l ++ c ∷ cs) tail xs e) (sym none) (both.0 (subst (λ (l : List ℕ). CutsBehindMark true a at (l ++ c ∷ cs) tail xs e) none k)),
-      λ k. subst (λ (l : List ℕ). CutsBehindMark true a at (l ++ c ∷ cs) tail xs e) (sym none) (both.1 (subst (λ (l : List ℕ). Cuts (Spells a) at (l ++ c ∷ cs) tail xs e) none k)),
-    )
+    subst (λ (l : List ℕ). CutsBehindMark true a at (l ++ c ∷ cs) tail xs e) (sym none) (no_mark a at c cs tail xs e h (subst (λ (l : List ℕ). Cuts (Spells a) at (l ++ c ∷ cs) tail xs e) none k))
 
 -- the same where no character follows
-plain_last : (fresh : Bool) (a : Automaton) (at : ℕ) (held tail : List ℕ) (xs : List Lexeme) (e : Option LexFault) → (fresh ≡ true → held ≡ []) → CutsBehindMark fresh a at (held ++ []) tail xs e ↔ Cuts (Spells a) at (held ++ []) tail xs e
-plain_last false a at held tail xs e first = (λ k. k, λ k. k)
-plain_last true a at held tail xs e first =
-    let none = first refl in (
-      λ k. subst (λ (l : List ℕ). Cuts (Spells a) at (l ++ []) tail xs e) (sym none) (subst (λ (p : ℕ). Cuts (Spells a) p [] tail xs e) (add-zero at) (subst (λ (l : List ℕ). CutsBehindMark true a at (l ++ []) tail xs e) none k)),
-      λ k. subst (λ (l : List ℕ). CutsBehindMark true a at (l ++ []) tail xs e) (sym none) (subst (λ (p : ℕ). Cuts (Spells a) p [] tail xs e) (sym (add-zero at)) (subst (λ (l : List ℕ). Cuts (Spells a) at (l ++ []) tail xs e) none k)),
-    )
+plain_last : (fresh : Bool) (a : Automaton) (at : ℕ) (held tail : List ℕ) (xs : List Lexeme) (e : Option LexFault) → (fresh ≡ true → held ≡ []) → Cuts (Spells a) at (held ++ []) tail xs e → CutsBehindMark fresh a at (held ++ []) tail xs e
+plain_last false a at held tail xs e first k = k
+plain_last true a at held tail xs e first k =
+    let none = first refl in
+    subst (λ (l : List ℕ). CutsBehindMark true a at (l ++ []) tail xs e) (sym none) (subst (λ (p : ℕ). Cuts (Spells a) p [] tail xs e) (sym (add-zero at)) (subst (λ (l : List ℕ). Cuts (Spells a) at (l ++ []) tail xs e) none k))
 
 -- a byte that makes no character whole
 
 gives_unfinished : (a : Automaton) (at : ℕ) (held bytes : List ℕ) (fresh : Bool) (b : ℕ) → GivesBytes a (record { at = at; held = held; bytes = bytes; fresh = fresh }) (b ∷ []) [] (record { at = at; held = held; bytes = bytes ++ b ∷ []; fresh = fresh })
-gives_unfinished a at held bytes fresh b = record {
-  all = λ more xs e k. (xs, refl, record { characters = k.characters; tail = k.tail; decodes = subst (λ (l : List ℕ). Decodes l k.characters k.tail) (sym (append_assoc bytes (b ∷ []) more)) k.decodes; cuts = k.cuts });
-  only = λ more xs e k. record { characters = k.characters; tail = k.tail; decodes = subst (λ (l : List ℕ). Decodes l k.characters k.tail) (append_assoc bytes (b ∷ []) more) k.decodes; cuts = k.cuts };
-}
+gives_unfinished a at held bytes fresh b more xs e k =
+    record { characters = k.characters; tail = k.tail; decodes = subst (λ (l : List ℕ). Decodes l k.characters k.tail) (append_assoc bytes (b ∷ []) more) k.decodes; cuts = k.cuts }
 
 pub takes_unfinished : {T : Type 0} → (a : Automaton) (value : ℕ → List ℕ → Option T) (hand : Hand) (old new : Feeding) (fresh : Bool) (b : ℕ) (before : List (Placed T)) → IsOpen a (record { hand = hand; feed = old; fresh = fresh }) → IsUnfinished (old.held ++ b ∷ []) → new ≡ record { at = old.at; held = old.held ++ b ∷ []; bad = false } → TakesBytes a value (record { hand = hand; feed = old; fresh = fresh }) (b ∷ []) before before (record { hand = hand; feed = new; fresh = fresh })
 takes_unfinished a value hand old new fresh b before r u e =
@@ -98,20 +88,8 @@ takes_unfinished a value hand old new fresh b before r u e =
 
 -- a byte that makes a character whole
 
--- what comes of a character that is whole, and of others behind it
-record WholeFirst (a : Automaton) (old : BegunBytes) (c : ℕ) (more : List ℕ) (xs : List Lexeme) (e : Option LexFault) : Type 0 where
-  others : List ℕ
-  tail : List ℕ
-  decodes : Decodes more others tail
-  cuts : CutsBehindMark old.fresh a old.at (old.held ++ c ∷ others) tail xs e
-
 whole_bytes : (bytes : List ℕ) (b c : ℕ) (more : List ℕ) → encode_utf8 c ≡ bytes ++ b ∷ [] → bytes ++ b ∷ more ≡ encode_utf8 c ++ more
 whole_bytes bytes b c more e = sym (append_assoc bytes (b ∷ []) more) ∙ ap (λ (l : List ℕ). l ++ more) (sym e)
-
-whole_first : (a : Automaton) (old : BegunBytes) (b c : ℕ) (more : List ℕ) (xs : List Lexeme) (e : Option LexFault) → IsScalar c → encode_utf8 c ≡ old.bytes ++ b ∷ [] → ContinuesBytes a old (b ∷ more) xs e → WholeFirst a old c more xs e
-whole_first a old b c more xs e scalar is k =
-    let d = first_decoded c more k.characters k.tail scalar (subst (λ (l : List ℕ). Decodes l k.characters k.tail) (whole_bytes old.bytes b c more is) k.decodes) in
-    record { others = d.others; tail = k.tail; decodes = d.decodes; cuts = subst (λ (l : List ℕ). CutsBehindMark old.fresh a old.at (old.held ++ l) k.tail xs e) d.is k.cuts }
 
 first_whole : (a : Automaton) (old : BegunBytes) (b c : ℕ) (more others tail : List ℕ) (xs : List Lexeme) (e : Option LexFault) → IsScalar c → encode_utf8 c ≡ old.bytes ++ b ∷ [] → Decodes more others tail → CutsBehindMark old.fresh a old.at (old.held ++ c ∷ others) tail xs e → ContinuesBytes a old (b ∷ more) xs e
 first_whole a old b c more others tail xs e scalar is d k = record {
@@ -133,26 +111,21 @@ pub record IsWhole (old : BegunBytes) (b c : ℕ) : Type 0 where
   pub first : old.fresh ≡ true → old.held ≡ []
 
 gives_whole : (a : Automaton) (old : BegunBytes) (b c : ℕ) (given : List Lexeme) (new : Begun) → IsWhole old b c → Gives a (characters_of old) (c ∷ []) given new → GivesBytes a old (b ∷ []) given (whole_behind new)
-gives_whole a old b c given new w g = record {
-  all = λ more xs e k.
-      let f = whole_first a old b c more xs e w.scalar w.is k in
-      let o = g.all f.others f.tail xs e ((plain old.fresh a old.at old.held c f.others f.tail xs e w.no_mark w.first).0 f.cuts) in
-      (o.0, o.1, record { characters = f.others; tail = f.tail; decodes = f.decodes; cuts = o.2 });
-  only = λ more rest e k.
-      first_whole a old b c more k.characters k.tail (given ++ rest) e w.scalar w.is k.decodes
-      ((plain old.fresh a old.at old.held c k.characters k.tail (given ++ rest) e w.no_mark w.first).1 (g.only k.characters k.tail rest e k.cuts));
-}
+gives_whole a old b c given new w g more rest e k =
+    first_whole a old b c more k.characters k.tail (given ++ rest) e w.scalar w.is k.decodes
+    (plain old.fresh a old.at old.held c k.characters k.tail (given ++ rest) e w.no_mark w.first (g k.characters k.tail rest e k.cuts))
 
 some_whole : (a : Automaton) (old : BegunBytes) (b c : ℕ) (given : List Lexeme) → IsWhole old b c → GivesSome a (characters_of old) (c ∷ []) given → GivesSomeBytes a old (b ∷ []) given
-some_whole a old b c given w g more xs e k =
-    let f = whole_first a old b c more xs e w.scalar w.is k in
-    g f.others f.tail xs e ((plain old.fresh a old.at old.held c f.others f.tail xs e w.no_mark w.first).0 f.cuts)
+some_whole a old b c given w g more =
+    let d = decode more in
+    let o = g d.characters d.tail in
+    (o.0, o.1, first_whole a old b c more d.characters d.tail (given ++ o.0) o.1 w.scalar w.is d.decodes (plain old.fresh a old.at old.held c d.characters d.tail (given ++ o.0) o.1 w.no_mark w.first o.2))
 
 ends_whole : (a : Automaton) (old : BegunBytes) (b c : ℕ) (given : List Lexeme) (fault : LexFault) → IsWhole old b c → EndsAt a (characters_of old) (c ∷ []) given fault → EndsBytesAt a old (b ∷ []) given fault
 ends_whole a old b c given fault w g more =
     let d = decode more in
     first_whole a old b c more d.characters d.tail given (Some fault) w.scalar w.is d.decodes
-    ((plain old.fresh a old.at old.held c d.characters d.tail given (Some fault) w.no_mark w.first).1 (g d.characters d.tail))
+    (plain old.fresh a old.at old.held c d.characters d.tail given (Some fault) w.no_mark w.first (g d.characters d.tail))
 
 -- what a character makes of the feed
 pub record FeedsWhole (old new : Feeding) (b c : ℕ) : Type 0 where
@@ -224,23 +197,14 @@ moved_front a hand none f = front_at hand.front f
         let nothing : length hand.held.items ≡ 0 = ap (λ (l : List ℕ). length l) none in
         absurd (omega arith)
 
-behind_first : (a : Automaton) (at c : ℕ) (cs tail : List ℕ) (xs : List Lexeme) (e : Option LexFault) → is_mark c ≡ true → CutsBehindMark true a at (c ∷ cs) tail xs e ↔ Cuts (Spells a) (at + 3) cs tail xs e
-behind_first a at c cs tail xs e h =
-    let place : at + mark_size (c ∷ cs) ≡ at + 3 = ap (λ (n : ℕ). at + n) (if_true (is_mark c) 3 0 h) in
-    let behind : behind_mark (c ∷ cs) ≡ cs = if_true (is_mark c) cs (c ∷ cs) h in (
-      λ k. subst (λ (p : ℕ). Cuts (Spells a) p cs tail xs e) place (subst (λ (l : List ℕ). Cuts (Spells a) (at + mark_size (c ∷ cs)) l tail xs e) behind k),
-      λ k. subst (λ (l : List ℕ). Cuts (Spells a) (at + mark_size (c ∷ cs)) l tail xs e) (sym behind) (subst (λ (p : ℕ). Cuts (Spells a) p cs tail xs e) (sym place) k),
-    )
+behind_first : (a : Automaton) (at c : ℕ) (cs tail : List ℕ) (xs : List Lexeme) (e : Option LexFault) → is_mark c ≡ true → Cuts (Spells a) (at + 3) cs tail xs e → CutsBehindMark true a at (c ∷ cs) tail xs e
+behind_first a at c cs tail xs e h k =
+    subst (λ (l : List ℕ). Cuts (Spells a) (at + mark_size (c ∷ cs)) l tail xs e) (sym (if_true (is_mark c) cs (c ∷ cs) h))
+    (subst (λ (n : ℕ). Cuts (Spells a) (at + n) cs tail xs e) (sym (if_true (is_mark c) 3 0 h)) k)
 
 gives_mark : (a : Automaton) (at : ℕ) (bytes : List ℕ) (b c : ℕ) → IsScalar c → encode_utf8 c ≡ bytes ++ b ∷ [] → is_mark c ≡ true → GivesBytes a (record { at = at; held = []; bytes = bytes; fresh = true }) (b ∷ []) [] (record { at = at + 3; held = []; bytes = []; fresh = false })
-gives_mark a at bytes b c scalar is mark =
-    let old : BegunBytes = record { at = at; held = []; bytes = bytes; fresh = true } in
-    record {
-      all = λ more xs e k.
-          let f = whole_first a old b c more xs e scalar is k in
-          (xs, refl, record { characters = f.others; tail = f.tail; decodes = f.decodes; cuts = (behind_first a at c f.others f.tail xs e mark).0 f.cuts });
-      only = λ more rest e k. first_whole a old b c more k.characters k.tail rest e scalar is k.decodes ((behind_first a at c k.characters k.tail rest e mark).1 k.cuts);
-    }
+gives_mark a at bytes b c scalar is mark more rest e k =
+    first_whole a (record { at = at; held = []; bytes = bytes; fresh = true }) b c more k.characters k.tail rest e scalar is k.decodes (behind_first a at c k.characters k.tail rest e mark k.cuts)
 
 pub takes_mark : {T : Type 0} → (a : Automaton) (value : ℕ → List ℕ → Option T) (old new : Source) (b c : ℕ) (before : List (Placed T)) → IsOpen a old → FeedsWhole old.feed new.feed b c → (old.fresh && is_mark c) ≡ true → new.fresh ≡ false → new.hand ≡ record old.hand { at = old.hand.at + 3; end = old.hand.end + 3 } → TakesBytes a value old (b ∷ []) before before new
 takes_mark a value old new b c before r f passes fresh moved =
@@ -282,18 +246,12 @@ takes_mark a value old new b c before r f passes fresh moved =
 
 -- no character is begun, and none follows
 
-last_characters : (a : Automaton) (old : BegunBytes) (more : List ℕ) (xs : List Lexeme) (e : Option LexFault) → (old.fresh ≡ true → old.held ≡ []) → BeginsNoCharacter (old.bytes ++ more) → ContinuesBytes a old more xs e → Continues a (characters_of old) [] (old.bytes ++ more) xs e
-last_characters a old more xs e first none k =
-    let d = none_decoded (old.bytes ++ more) k.characters k.tail none k.decodes in
-    let cuts = subst (λ (l : List ℕ). CutsBehindMark old.fresh a old.at (old.held ++ l) k.tail xs e) d.none k.cuts in
-    subst (λ (t : List ℕ). Cuts (Spells a) old.at (old.held ++ []) t xs e) (sym d.all) ((plain_last old.fresh a old.at old.held k.tail xs e first).0 cuts)
-
 last_bytes : (a : Automaton) (old : BegunBytes) (more : List ℕ) (xs : List Lexeme) (e : Option LexFault) → (old.fresh ≡ true → old.held ≡ []) → BeginsNoCharacter (old.bytes ++ more) → Continues a (characters_of old) [] (old.bytes ++ more) xs e → ContinuesBytes a old more xs e
 last_bytes a old more xs e first none k = record {
   characters = [];
   tail = old.bytes ++ more;
   decodes = decodes_none (old.bytes ++ more) none;
-  cuts = (plain_last old.fresh a old.at old.held (old.bytes ++ more) xs e first).1 k;
+  cuts = plain_last old.fresh a old.at old.held (old.bytes ++ more) xs e first k;
 }
 
 begins_none : (bytes : List ℕ) (b : ℕ) (more : List ℕ) → BeginsNone (bytes ++ b ∷ []) → BeginsNoCharacter (bytes ++ b ∷ more)
@@ -314,8 +272,7 @@ some_bytes : (front : List ℕ) (b : ℕ) (more : List ℕ) → 0 < length (fron
 some_bytes front b more = let size = length-append front (b ∷ more) in omega arith
 
 ends_some_bytes : (a : Automaton) (old : BegunBytes) (bytes : List ℕ) (xs : List Lexeme) (fault : LexFault) → EndsBytesAt a old bytes xs fault → GivesSomeBytes a old bytes xs
-ends_some_bytes a old bytes xs fault h more lexemes e k =
-    ([], (same_continues_bytes a old (bytes ++ more) lexemes xs e (Some fault) k (h more)).lexemes ∙ sym (append-nil xs))
+ends_some_bytes a old bytes xs fault h more = ([], Some fault, subst (λ (l : List Lexeme). ContinuesBytes a old (bytes ++ more) l (Some fault)) (sym (append-nil xs)) (h more))
 
 pub refuses_bad : {T : Type 0} → (a : Automaton) (value : ℕ → List ℕ → Option T) (old : Source) (hand : Hand) (b at : ℕ) (before after : List (Placed T)) → IsOpen a old → at ≡ old.hand.end → BeginsNone (old.feed.held ++ b ∷ []) → Finishes a value old.hand before after hand → RefusesBytes a value (begun_in old) (b ∷ []) before after (BadUtf8 at)
 refuses_bad a value old hand b at before after r e n f =
@@ -332,7 +289,9 @@ refuses_last a value old b before after fault r n f = record {
   some = record {
     given = f.some.given;
     added = f.some.added;
-    next = λ more xs e k. f.some.next (old.feed.held ++ b ∷ more) xs e (last_characters a (begun_in old) (b ∷ more) xs e r.first (begins_none old.feed.held b more n) k);
+    next = λ more.
+        let o = f.some.next (old.feed.held ++ b ∷ more) in
+        (o.0, o.1, last_bytes a (begun_in old) (b ∷ more) (f.some.given ++ o.0) o.1 r.first (begins_none old.feed.held b more n) o.2);
   };
   bad = λ ne.
       let bad = f.bad ne in
@@ -382,7 +341,7 @@ ends_cut a value old hand at before after r e u f =
       some = record {
         given = f.adds.given;
         added = f.adds.added;
-        next = λ xs g k. ([], (same_continues_bytes a (begun_in old) [] xs f.adds.given g (Some (BadUtf8 at)) k last).lexemes ∙ sym (append-nil f.adds.given));
+        next = ([], Some (BadUtf8 at), subst (λ (l : List Lexeme). ContinuesBytes a (begun_in old) [] l (Some (BadUtf8 at))) (sym (append-nil f.adds.given)) last);
       };
       bad = λ ne. record { given = f.adds.given; added = f.adds.added; last = last };
     }
@@ -394,7 +353,7 @@ ends_badly a value old before after fault r n f =
       some = record {
         given = f.some.given;
         added = f.some.added;
-        next = λ xs e k. f.some.next (old.feed.held ++ []) xs e (last_characters a (begun_in old) [] xs e r.first none k);
+        next = let o = f.some.next (old.feed.held ++ []) in (o.0, o.1, last_bytes a (begun_in old) [] (f.some.given ++ o.0) o.1 r.first none o.2);
       };
       bad = λ ne. let bad = f.bad ne in record { given = bad.given; added = bad.added; last = last_bytes a (begun_in old) [] bad.given (Some fault) r.first none (bad.ends (old.feed.held ++ [])) };
     }

@@ -1,16 +1,17 @@
 -- What the end makes of what is in hand.
-use Rattle.std.proofs.Common.{◌≡◌, ℕ, ◌+◌, ◌<◌, ◌≤◌, Option, None, List, [], ◌∷◌, ◌++◌, length, take, drop, refl, sym, ap, ◌∙◌, subst, arith}
+use Rattle.std.proofs.Common.{◌≡◌, ℕ, ◌+◌, ◌<◌, ◌≤◌, Option, None, Some, List, [], ◌∷◌, ◌++◌, length, take, drop, refl, sym, ap, ◌∙◌, subst, arith}
 use Rattle.std.proofs.lemmas.List.{append_assoc, append-nil, length-append}
 use Rattle.owl_characters.specs.Utf8.{size}
 use Rattle.owl_lexer.specs.declared.fault.LexFault.{LexFault}
 use Rattle.owl_lexer.specs.declared.fault.LexFault.TheVariants.{BadToken, Memory}
 use Rattle.owl_lexer.specs.Adding.{placed_at, tokens_of}
 use Rattle.owl_lexer.specs.AddingLaws.{added_both}
-use Rattle.owl_lexer.specs.Automata.{Automaton}
-use Rattle.owl_lexer.specs.Cutting.{Lexeme}
-use Rattle.owl_lexer.specs.Giving.{Begun, EndsAt, EndsLastAt, Gives, GivesLast, GivesSome, GivesSomeLast, end_of}
-use Rattle.owl_lexer.specs.GivingLaws.{behind_front, ends_some_last, front_of, last_ends_front, last_ends_stop, last_front, last_here, last_nothing, last_some_front, last_some_stop, some_none_last}
+use Rattle.owl_lexer.specs.Automata.{Automaton, Spells}
+use Rattle.owl_lexer.specs.Cutting.{Lexeme, Stops}
+use Rattle.owl_lexer.specs.Giving.{Begun, Continues, EndsAt, EndsLastAt, Gives, GivesSome}
+use Rattle.owl_lexer.specs.GivingLaws.{behind_front, comes_before, ends_some_last, front_of, last_here}
 use Rattle.owl_lexer.specs.Hands.{Finishes, FinishesBadly, IsFrontOf, IsReady, Refuses, Takes, begun_of}
+use Rattle.owl_lexer.specs.TotalLaws.{cut}
 use Rattle.owl_lexer.specs.Holding.{LeadsTo, NoneBeyond}
 use Rattle.owl_lexer.specs.declared.hand.Front.{Front}
 use Rattle.owl_lexer.specs.declared.hand.Hand.{Hand}
@@ -22,9 +23,7 @@ pub record Turns {T : Type 0} (a : Automaton) (value : ℕ → List ℕ → Opti
   pub ready : IsReady a now
   pub given : List Lexeme
   pub added : after ≡ before ++ tokens_of value given
-  pub last : (lexemes : List Lexeme) → GivesLast a (begun_of now) lexemes → GivesLast a (begun_of first) (given ++ lexemes)
-  pub some : (lexemes : List Lexeme) → GivesSomeLast a (begun_of now) lexemes → GivesSomeLast a (begun_of first) (given ++ lexemes)
-  pub ends : (lexemes : List Lexeme) (fault : LexFault) → EndsLastAt a (begun_of now) lexemes fault → EndsLastAt a (begun_of first) (given ++ lexemes) fault
+  pub comes : (tail : List ℕ) (lexemes : List Lexeme) (ending : Option LexFault) → Continues a (begun_of now) [] tail lexemes ending → Continues a (begun_of first) [] tail (given ++ lexemes) ending
   pub few : length after + first.at ≤ length before + now.at
   pub end : now.end ≡ first.end
 
@@ -56,18 +55,14 @@ turns_more {T = T} a value first now mid new front cs before so_far between afte
     let now_end = g.old_ready.end in
     let first_end = turns.end in
     let new_end = t.ready.end in
-    let place : end_of (begun_of new) ≡ now.at + size now.held.items = omega arith in
-    let regroup = λ (zs : List Lexeme). append_assoc turns.given (lexeme ∷ t.adds.given) zs in
     record {
       ready = t.ready;
       given = turns.given ++ lexeme ∷ t.adds.given;
       added = added_both value before so_far after turns.given (lexeme ∷ t.adds.given) turns.added (front_added a value now mid front so_far between after t.adds.given g t.adds.added);
-      last = λ zs h. subst (λ (l : List Lexeme). GivesLast a (begun_of first) l) (sym (regroup zs))
-          (turns.last (lexeme ∷ (t.adds.given ++ zs)) (last_front a now.at now.held.items now.state front.length front.kind t.adds.given zs (begun_of new) g.old_ready.leads here.0 place gives h));
-      some = λ zs h. subst (λ (l : List Lexeme). GivesSomeLast a (begun_of first) l) (sym (regroup zs))
-          (turns.some (lexeme ∷ (t.adds.given ++ zs)) (last_some_front a now.at now.held.items now.state front.length front.kind t.adds.given zs (begun_of new) g.old_ready.leads here.0 gives h));
-      ends = λ zs fault h. subst (λ (l : List Lexeme). EndsLastAt a (begun_of first) l fault) (sym (regroup zs))
-          (turns.ends (lexeme ∷ (t.adds.given ++ zs)) fault (last_ends_front a now.at now.held.items now.state front.length front.kind t.adds.given zs (begun_of new) fault g.old_ready.leads here.0 gives h));
+      comes = λ tail zs e k.
+          subst (λ (l : List Lexeme). Continues a (begun_of first) [] tail l e) (sym (append_assoc turns.given (lexeme ∷ t.adds.given) zs))
+          (turns.comes tail (lexeme ∷ (t.adds.given ++ zs)) e
+          (comes_before a now.at now.held.items now.state front.length front.kind [] tail (t.adds.given ++ zs) e g.old_ready.leads here.0 tt (gives [] tail zs e k)));
       few = omega arith;
       end = omega arith;
     }
@@ -95,7 +90,8 @@ turns_finish a value first now before after old turns none =
       adds = record {
         given = turns.given ++ [];
         added = turns.added ∙ ap (λ l. before ++ tokens_of value l) (sym (append-nil turns.given));
-        last = turns.last [] (subst (λ (b : Begun). GivesLast a b []) (sym begun) (last_nothing a first.end));
+        last = λ tail e stops.
+            turns.comes tail [] e (subst (λ (b : Begun). Continues a b [] tail [] e) (sym begun) (subst (λ (p : ℕ). Stops (Spells a) p [] tail e) (sym old.end) stops));
       };
       few = omega arith;
     }
@@ -107,7 +103,8 @@ ends_held a at (c ∷ held) state some h n = last_here a at c held state h n
 
 pub turns_bad : {T : Type 0} → (a : Automaton) (value : ℕ → List ℕ → Option T) (first now : Hand) (before after : List (Placed T)) → Turns a value first before after now → 0 < length now.held.items → IsFrontOf a now.at now.held.items None → FinishesBadly a value (begun_of first) before after (BadToken now.at)
 turns_bad a value first now before after turns some front =
-    let ends = turns.ends [] (BadToken now.at) (ends_held a now.at now.held.items now.state some turns.ready.leads front) in
+    let ends : EndsLastAt a (begun_of first) (turns.given ++ []) (BadToken now.at) =
+    λ tail. turns.comes tail [] (Some (BadToken now.at)) (ends_held a now.at now.held.items now.state some turns.ready.leads front tail) in
     let added = turns.added ∙ ap (λ l. before ++ tokens_of value l) (sym (append-nil turns.given)) in
     record {
       some = record { given = turns.given ++ []; added = added; next = ends_some_last a (begun_of first) (turns.given ++ []) (BadToken now.at) ends };
@@ -118,9 +115,9 @@ turns_bad a value first now before after turns some front =
 pub turns_memory : {T : Type 0} → (a : Automaton) (value : ℕ → List ℕ → Option T) (first now : Hand) (before so_far after : List (Placed T)) (fault : LexFault) → Turns a value first before so_far now → fault ≡ Memory → after ≡ so_far → FinishesBadly a value (begun_of first) before after fault
 turns_memory a value first now before so_far after fault turns e same = record {
   some = record {
-    given = turns.given ++ [];
-    added = same ∙ turns.added ∙ ap (λ l. before ++ tokens_of value l) (sym (append-nil turns.given));
-    next = turns.some [] (some_none_last a (begun_of now));
+    given = turns.given;
+    added = same ∙ turns.added;
+    next = λ tail. let o = cut a now.at (now.held.items ++ []) tail in (o.lexemes, o.ending, turns.comes tail o.lexemes o.ending o.cuts);
   };
   bad = λ ne. absurd (ne e);
 }
@@ -131,21 +128,23 @@ turns_refused a value first now mid front cs before so_far between after fault t
     let here = g.is in
     let lexeme = front_of now.at now.held.items front.length front.kind in
     let behind = behind_front now.at now.held.items front.length in
+    let behind_held = λ (tail : List ℕ) (xs : List Lexeme) (e : Option LexFault) (k : Continues a behind (drop front.length now.held.items ++ []) tail xs e). turns.comes tail (lexeme ∷ xs) e (comes_before a now.at now.held.items now.state front.length front.kind [] tail xs e g.old_ready.leads here.0 tt k) in
+    let moved_some = subst (λ (l : List ℕ). GivesSome a behind l r.some.given) is (subst (λ (b : Begun). GivesSome a b cs r.some.given) (mid_is a value now mid front so_far between g) r.some.next) in
     record {
       some = record {
         given = turns.given ++ lexeme ∷ r.some.given;
         added = added_both value before so_far after turns.given (lexeme ∷ r.some.given) turns.added (front_added a value now mid front so_far between after r.some.given g r.some.added);
-        next = turns.some (lexeme ∷ r.some.given)
-            (last_some_stop a now.at now.held.items now.state front.length front.kind r.some.given g.old_ready.leads here.0
-            (subst (λ (l : List ℕ). GivesSome a behind l r.some.given) is (subst (λ (b : Begun). GivesSome a b cs r.some.given) (mid_is a value now mid front so_far between g) r.some.next)));
+        next = λ tail.
+            let o = moved_some [] tail in
+            let k = behind_held tail (r.some.given ++ o.0) o.1 o.2 in
+            (o.0, o.1, subst (λ (l : List Lexeme). Continues a (begun_of first) [] tail l o.1) (sym (append_assoc turns.given (lexeme ∷ r.some.given) o.0)) k);
       };
       bad = λ ne.
           let bad = r.bad ne in
+          let moved_ends = subst (λ (l : List ℕ). EndsAt a behind l bad.given fault) is (subst (λ (b : Begun). EndsAt a b cs bad.given fault) (mid_is a value now mid front so_far between g) bad.ends) in
           record {
             given = turns.given ++ lexeme ∷ bad.given;
             added = added_both value before so_far after turns.given (lexeme ∷ bad.given) turns.added (front_added a value now mid front so_far between after bad.given g bad.added);
-            ends = turns.ends (lexeme ∷ bad.given) fault
-                (last_ends_stop a now.at now.held.items now.state front.length front.kind bad.given fault g.old_ready.leads here.0
-                (subst (λ (l : List ℕ). EndsAt a behind l bad.given fault) is (subst (λ (b : Begun). EndsAt a b cs bad.given fault) (mid_is a value now mid front so_far between g) bad.ends)));
+            ends = λ tail. behind_held tail bad.given (Some fault) (moved_ends [] tail);
           };
     }

@@ -1,5 +1,5 @@
 -- What a run of ASCII characters makes of what is in hand, in bytes.
-use Rattle.std.proofs.Common.{◌≡◌, inl, ℕ, ◌+◌, ◌-◌, ◌<◌, true, false, Option, List, [], ◌∷◌, ◌++◌, length, take, drop, get_or, refl, sym, ap, ◌∙◌, subst, arith}
+use Rattle.std.proofs.Common.{◌≡◌, inl, ℕ, ◌+◌, ◌-◌, ◌<◌, true, false, Option, List, [], ◌∷◌, ◌++◌, length, take, drop, get_or, sym, ap, ◌∙◌, subst, arith}
 use Rattle.std.proofs.lemmas.List.{append_assoc, append-nil, length-drop, take-append-drop, take_rest}
 use Rattle.std.proofs.lemmas.Str.{encodes-append}
 use Rattle.std.proofs.Math.Seq.{take-add}
@@ -17,7 +17,7 @@ use Rattle.owl_lexer.specs.declared.hand.Hand.{Hand}
 use Rattle.owl_lexer.specs.Cutting.{Cuts}
 use Rattle.owl_lexer.specs.Hands.{HoldsRun, Refuses, Takes, begun_of}
 use Rattle.owl_lexer.specs.Lexing.{KeepsEnd}
-use Rattle.owl_lexer.specs.LexingLaws.{all_decoded, decodes_all}
+use Rattle.owl_lexer.specs.LexingLaws.{comes, decodes_all}
 use Rattle.owl_lexer.specs.Sources.{IsOpen, RefusesBytes, TakesBytes, begun_in, bytes_in}
 use Rattle.owl_lexer.specs.declared.placed.Placed.{Placed}
 use Rattle.owl_lexer.specs.declared.source.Source.{Source}
@@ -26,17 +26,11 @@ use Rattle.owl_lexer.proofs.BytesFeeding.{refuses_in_bytes, takes_both_bytes, ta
 use Rattle.owl_lexer.proofs.Hands.{run_bytes, run_scalars, run_size}
 
 gives_run : (a : Automaton) (at : ℕ) (held cs : List ℕ) → all_scalars cs ≡ true → encode_utf8_all cs ≡ cs → GivesBytes a (record { at = at; held = held; bytes = []; fresh = false }) cs [] (record { at = at; held = held ++ cs; bytes = []; fresh = false })
-gives_run a at held cs scalars bytes = record {
-  all = λ more xs e k.
-      let d = all_decoded cs more k.characters k.tail scalars (subst (λ (l : List ℕ). Decodes (l ++ more) k.characters k.tail) (sym bytes) k.decodes) in
-      let is : held ++ k.characters ≡ (held ++ cs) ++ d.others = ap (λ (l : List ℕ). held ++ l) d.is ∙ sym (append_assoc held cs d.others) in
-      (xs, refl, record { characters = d.others; tail = k.tail; decodes = d.decodes; cuts = subst (λ (l : List ℕ). Cuts (Spells a) at l k.tail xs e) is k.cuts });
-  only = λ more rest e k. record {
-    characters = cs ++ k.characters;
-    tail = k.tail;
-    decodes = subst (λ (l : List ℕ). Decodes (l ++ more) (cs ++ k.characters) k.tail) bytes (decodes_all cs more k.characters k.tail scalars k.decodes);
-    cuts = subst (λ (l : List ℕ). Cuts (Spells a) at l k.tail rest e) (append_assoc held cs k.characters) k.cuts;
-  };
+gives_run a at held cs scalars bytes more rest e k = record {
+  characters = cs ++ k.characters;
+  tail = k.tail;
+  decodes = subst (λ (l : List ℕ). Decodes (l ++ more) (cs ++ k.characters) k.tail) bytes (decodes_all cs more k.characters k.tail scalars k.decodes);
+  cuts = subst (λ (l : List ℕ). Cuts (Spells a) at l k.tail rest e) (append_assoc held cs k.characters) k.cuts;
 }
 
 keeps_run : (a : Automaton) (old new : Source) (cs : List ℕ) → old.feed.held ≡ [] → new.feed.held ≡ [] → new.fresh ≡ false → HoldsRun a old.hand cs new.hand → KeepsEnd (bytes_in old) cs (bytes_in new)
@@ -106,10 +100,10 @@ refuses_run a value old mid bytes place before after fault t e = record {
   some = record {
     given = t.adds.given;
     added = t.adds.added;
-    next = λ more xs ending k.
+    next = λ more.
         let is : bytes ++ more ≡ take place bytes ++ (drop place bytes ++ more) = ap (λ (l : List ℕ). l ++ more) (sym (take-append-drop place bytes)) ∙ append_assoc (take place bytes) (drop place bytes) more in
-        let o = t.adds.gives.all (drop place bytes ++ more) xs ending (subst (λ (l : List ℕ). ContinuesBytes a (begun_in old) l xs ending) is k) in
-        (o.0, o.1);
+        let o = comes a (begun_in mid) (drop place bytes ++ more) in
+        (o.lexemes, o.ending, subst (λ (l : List ℕ). ContinuesBytes a (begun_in old) l (t.adds.given ++ o.lexemes) o.ending) (sym is) (t.adds.gives (drop place bytes ++ more) o.lexemes o.ending o.continues));
   };
   bad = λ ne. absurd (ne e);
 }

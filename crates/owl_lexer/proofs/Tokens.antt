@@ -10,7 +10,8 @@ use Rattle.owl_lexer.specs.Automata.{Automaton}
 use Rattle.owl_lexer.specs.BytesGiving.{AddsBytes, AddsSomeBytes, AddsSomeLastBytes, BegunBytes, end_of_bytes}
 use Rattle.owl_lexer.specs.Languages.{AreSpelled, IsLanguage}
 use Rattle.owl_lexer.specs.Lexing.{Adds, AddsSome, AddsSomeLast, Begun, Continues, end_of, nothing_begun}
-use Rattle.owl_lexer.specs.LexingLaws.{IsSound, always_split, bytes_of, lexemes_continue, split_spelled, tokens_continue}
+use Rattle.owl_lexer.specs.LexingLaws.{IsSound, always_split, bytes_of, comes, lexemes_continue, split_spelled}
+use Rattle.owl_lexer.specs.OneWayLaws.{same_continues}
 use Rattle.owl_lexer.specs.Sources.{EndsBytes, EndsBytesBadly, EndsPieces, EndsPiecesBadly, IsOpen, RefusesBytes, RefusesPiece, TakesBytes, TakesPiece, begun_in, bytes_in}
 use Rattle.owl_lexer.specs.declared.fault.LexFault.{LexFault}
 use Rattle.owl_lexer.specs.declared.placed.Placed.{Placed}
@@ -28,24 +29,29 @@ adds_tokens {T = T} a value spells l old new bytes before after s t g = record {
   added = g.added;
   gives = record {
     all = λ more tokens e k.
-        let o = tokens_continue a value spells l old s (bytes ++ more) tokens e k in
-        let rest = g.gives.all more o.lexemes e o.continues in
-        (tokens_of value rest.0, sym o.are ∙ ap (tokens_of value) rest.1 ∙ tokens-append value g.given rest.0, lexemes_continue a value spells l new t more rest.0 e rest.2);
-    only = λ more rest e k.
-        let o = tokens_continue a value spells l new t more rest e k in
-        subst (λ (ts : List (Placed T)). Continues spells (bytes_of old) (bytes ++ more) ts e) (tokens-append value g.given o.lexemes ∙ ap (λ (ts : List (Placed T)). tokens_of value g.given ++ ts) o.are)
-        (lexemes_continue a value spells l old s (bytes ++ more) (g.given ++ o.lexemes) e (g.gives.only more o.lexemes e o.continues));
+        let o = always_split a value spells l new.fresh new.at ((bytes_of new).held ++ more) in
+        let same = same_continues a value spells l (bytes_of old) (bytes ++ more) tokens (tokens_of value g.given ++ o.tokens) e o.ending k (only more o.tokens o.ending o.splits) in
+        (o.tokens, same.0, subst (λ (f : Option LexFault). Continues spells (bytes_of new) more o.tokens f) (sym same.1) o.splits);
+    only = only;
   };
 }
+  where
+    only : (more : List ℕ) (rest : List (Placed T)) (e : Option LexFault) → Continues spells (bytes_of new) more rest e → Continues spells (bytes_of old) (bytes ++ more) (tokens_of value g.given ++ rest) e
+    only more rest e k =
+        let o = comes a new more in
+        let same = same_continues a value spells l (bytes_of new) more (tokens_of value o.lexemes) rest o.ending e (lexemes_continue a value spells l new t more o.lexemes o.ending o.continues) k in
+        subst (λ (ts : List (Placed T)). Continues spells (bytes_of old) (bytes ++ more) ts e) (tokens-append value g.given o.lexemes ∙ ap (λ (ts : List (Placed T)). tokens_of value g.given ++ ts) same.0)
+        (subst (λ (f : Option LexFault). Continues spells (bytes_of old) (bytes ++ more) (tokens_of value (g.given ++ o.lexemes)) f) same.1
+        (lexemes_continue a value spells l old s (bytes ++ more) (g.given ++ o.lexemes) o.ending (g.gives more o.lexemes o.ending o.continues)))
 
 some_tokens : {T : Type 0} → (a : Automaton) (value : ℕ → List ℕ → Option T) (spells : T → List ℕ → Type 0) → IsLanguage a value spells → (old : BegunBytes) (bytes : List ℕ) (before after : List (Placed T)) → IsSound old → AddsSomeBytes a value old bytes before after → AddsSome spells (bytes_of old) bytes before after
 some_tokens a value spells l old bytes before after s g = record {
   given = tokens_of value g.given;
   added = g.added;
   next = λ more tokens e k.
-      let o = tokens_continue a value spells l old s (bytes ++ more) tokens e k in
-      let rest = g.next more o.lexemes e o.continues in
-      (tokens_of value rest.0, sym o.are ∙ ap (tokens_of value) rest.1 ∙ tokens-append value g.given rest.0);
+      let o = g.next more in
+      let same = same_continues a value spells l (bytes_of old) (bytes ++ more) tokens (tokens_of value (g.given ++ o.0)) e o.1 k (lexemes_continue a value spells l old s (bytes ++ more) (g.given ++ o.0) o.1 o.2) in
+      (tokens_of value o.0, same.0 ∙ tokens-append value g.given o.0);
 }
 
 some_last_tokens : {T : Type 0} → (a : Automaton) (value : ℕ → List ℕ → Option T) (spells : T → List ℕ → Type 0) → IsLanguage a value spells → (old : BegunBytes) (before after : List (Placed T)) → IsSound old → AddsSomeLastBytes a value old before after → AddsSomeLast spells (bytes_of old) before after
@@ -53,9 +59,9 @@ some_last_tokens a value spells l old before after s g = record {
   given = tokens_of value g.given;
   added = g.added;
   next = λ tokens e k.
-      let o = tokens_continue a value spells l old s [] tokens e k in
-      let rest = g.next o.lexemes e o.continues in
-      (tokens_of value rest.0, sym o.are ∙ ap (tokens_of value) rest.1 ∙ tokens-append value g.given rest.0);
+      let o = g.next in
+      let same = same_continues a value spells l (bytes_of old) [] tokens (tokens_of value (g.given ++ o.0)) e o.1 k (lexemes_continue a value spells l old s [] (g.given ++ o.0) o.1 o.2) in
+      (tokens_of value o.0, same.0 ∙ tokens-append value g.given o.0);
 }
 
 -- what is added is spelled

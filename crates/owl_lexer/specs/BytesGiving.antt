@@ -36,16 +36,16 @@ pub record ContinuesBytes (a : Automaton) (begun : BegunBytes) (more : List ℕ)
   pub decodes : Decodes (begun.bytes ++ more) characters tail
   pub cuts : CutsBehindMark begun.fresh a begun.at (begun.held ++ characters) tail lexemes ending
 
--- These bytes make new of old, and give these lexemes: whatever follows, the lexemes that come of old, the bytes and what
--- follows are these, and then those that come of new and what follows.
-pub record GivesBytes (a : Automaton) (old : BegunBytes) (bytes : List ℕ) (given : List Lexeme) (new : BegunBytes) : Type 0 where
-  pub all : (more : List ℕ) (lexemes : List Lexeme) (ending : Option LexFault) → ContinuesBytes a old (bytes ++ more) lexemes ending → (rest : List Lexeme) × (lexemes ≡ given ++ rest) × ContinuesBytes a new more rest ending
-  pub only : (more : List ℕ) (rest : List Lexeme) (ending : Option LexFault) → ContinuesBytes a new more rest ending → ContinuesBytes a old (bytes ++ more) (given ++ rest) ending
+-- These bytes make new of old, and give these lexemes: whatever follows, they stand before what comes of new, and that
+-- comes of old, the bytes and what follows.
+abbrev pub GivesBytes : Automaton → BegunBytes → List ℕ → List Lexeme → BegunBytes → Type 0
+GivesBytes a old bytes given new =
+    (more : List ℕ) (rest : List Lexeme) (ending : Option LexFault) → ContinuesBytes a new more rest ending → ContinuesBytes a old (bytes ++ more) (given ++ rest) ending
 
 -- whatever follows these bytes, these lexemes stand first
 abbrev pub GivesSomeBytes : Automaton → BegunBytes → List ℕ → List Lexeme → Type 0
 GivesSomeBytes a old bytes given =
-    (more : List ℕ) (lexemes : List Lexeme) (ending : Option LexFault) → ContinuesBytes a old (bytes ++ more) lexemes ending → (rest : List Lexeme) × (lexemes ≡ given ++ rest)
+    (more : List ℕ) → (rest : List Lexeme) × (ending : Option LexFault) × ContinuesBytes a old (bytes ++ more) (given ++ rest) ending
 
 -- whatever follows these bytes, these are the lexemes, and they end at this fault
 abbrev pub EndsBytesAt : Automaton → BegunBytes → List ℕ → List Lexeme → LexFault → Type 0
@@ -79,4 +79,4 @@ pub record AddsLastBytes {T : Type 0} (a : Automaton) (value : ℕ → List ℕ 
 pub record AddsSomeLastBytes {T : Type 0} (a : Automaton) (value : ℕ → List ℕ → Option T) (old : BegunBytes) (before after : List (Placed T)) : Type 0 where
   pub given : List Lexeme
   pub added : after ≡ before ++ tokens_of value given
-  pub next : (lexemes : List Lexeme) (ending : Option LexFault) → ContinuesBytes a old [] lexemes ending → (rest : List Lexeme) × (lexemes ≡ given ++ rest)
+  pub next : (rest : List Lexeme) × (ending : Option LexFault) × ContinuesBytes a old [] (given ++ rest) ending

@@ -1,5 +1,5 @@
 -- Bytes in UTF-8: which characters come of what is begun.
-use Rattle.std.proofs.Common.{◌≡◌, ℕ, ◌+◌, Bool, true, false, Option, Some, List, [], ◌∷◌, ◌++◌, length, refl, sym, ap, ◌∙◌, subst, arith}
+use Rattle.std.proofs.Common.{◌≡◌, ℕ, ◌+◌, Option, Some, List, [], ◌∷◌, ◌++◌, length, refl, sym, ap, ◌∙◌, subst, arith}
 use Rattle.std.specs.Char.{IsScalar, encode_utf8}
 use Rattle.std.specs.Str.{encode_utf8_all}
 use Rattle.std.proofs.lemmas.Bool.{and_from, and_parts}
@@ -8,10 +8,9 @@ use Rattle.std.proofs.lemmas.Str.{encode_same}
 use Rattle.owl_characters.specs.Feeding.{IsUnfinished}
 use Rattle.owl_characters.specs.Utf8.{BeginsNoCharacter, Decodes}
 use Rattle.owl_lexer.specs.declared.fault.LexFault.{LexFault}
-use Rattle.owl_lexer.specs.Automata.{Automaton, Spells}
-use Rattle.owl_lexer.specs.BytesGiving.{BegunBytes, ContinuesBytes, CutsBehindMark, EndsBytesAt, GivesBytes, GivesSomeBytes}
+use Rattle.owl_lexer.specs.Automata.{Automaton}
+use Rattle.owl_lexer.specs.BytesGiving.{BegunBytes, ContinuesBytes, EndsBytesAt, GivesBytes, GivesSomeBytes}
 use Rattle.owl_lexer.specs.Cutting.{Lexeme}
-use Rattle.owl_lexer.specs.CuttingLaws.{SameCuts, automata_are_apart, same_cuts}
 
 -- decoding
 
@@ -82,43 +81,25 @@ same_decoded bytes (c ∷ cs) ds s t h k =
     let rest = same_decoded more cs o.others s t (record { parts = refl; scalars = (and_parts _ _ h.scalars).1; stops = h.stops }) o.decodes in
     record { characters = ap (λ (l : List ℕ). c ∷ l) rest.characters ∙ sym o.is; tail = rest.tail }
 
--- one thing comes of what is begun at most
-
-same_behind_mark : (fresh : Bool) (a : Automaton) (place : ℕ) (cs tail : List ℕ) (xs ys : List Lexeme) (e f : Option LexFault) → CutsBehindMark fresh a place cs tail xs e → CutsBehindMark fresh a place cs tail ys f → SameCuts xs ys e f
-same_behind_mark true a place cs tail xs ys e f = same_cuts (Spells a) (automata_are_apart a) _ _ tail xs ys e f
-same_behind_mark false a place cs tail xs ys e f = same_cuts (Spells a) (automata_are_apart a) place cs tail xs ys e f
-
-pub same_continues_bytes : (a : Automaton) (begun : BegunBytes) (more : List ℕ) (xs ys : List Lexeme) (e f : Option LexFault) → ContinuesBytes a begun more xs e → ContinuesBytes a begun more ys f → SameCuts xs ys e f
-same_continues_bytes a begun more xs ys e f h k =
-    let same = same_decoded (begun.bytes ++ more) k.characters h.characters k.tail h.tail k.decodes h.decodes in
-    let moved = subst (λ (t : List ℕ). CutsBehindMark begun.fresh a begun.at (begun.held ++ h.characters) t ys f) same.tail
-    (subst (λ (cs : List ℕ). CutsBehindMark begun.fresh a begun.at (begun.held ++ cs) k.tail ys f) same.characters k.cuts) in
-    same_behind_mark begun.fresh a begun.at (begun.held ++ h.characters) h.tail xs ys e f h.cuts moved
-
 -- bytes one behind another
 
 move : (a : Automaton) (begun : BegunBytes) (bs ds : List ℕ) (xs : List Lexeme) (e : Option LexFault) → bs ≡ ds → ContinuesBytes a begun bs xs e → ContinuesBytes a begun ds xs e
 move a begun bs ds xs e same h = subst (λ (l : List ℕ). ContinuesBytes a begun l xs e) same h
 
 pub gives_both_bytes : (a : Automaton) (old mid new : BegunBytes) (bs ds : List ℕ) (xs ys : List Lexeme) → GivesBytes a old bs xs mid → GivesBytes a mid ds ys new → GivesBytes a old (bs ++ ds) (xs ++ ys) new
-gives_both_bytes a old mid new bs ds xs ys g h = record {
-  all = λ more lexemes e k.
-      let first = g.all (ds ++ more) lexemes e (move a old ((bs ++ ds) ++ more) (bs ++ (ds ++ more)) lexemes e (append_assoc bs ds more) k) in
-      let second = h.all more first.0 e first.2 in
-      (second.0, first.1 ∙ ap (λ (l : List Lexeme). xs ++ l) second.1 ∙ sym (append_assoc xs ys second.0), second.2);
-  only = λ more rest e k.
-      subst (λ (l : List Lexeme). ContinuesBytes a old ((bs ++ ds) ++ more) l e) (sym (append_assoc xs ys rest))
-      (move a old (bs ++ (ds ++ more)) ((bs ++ ds) ++ more) (xs ++ (ys ++ rest)) e (sym (append_assoc bs ds more)) (g.only (ds ++ more) (ys ++ rest) e (h.only more rest e k)));
-}
+gives_both_bytes a old mid new bs ds xs ys g h more rest e k =
+    subst (λ (l : List Lexeme). ContinuesBytes a old ((bs ++ ds) ++ more) l e) (sym (append_assoc xs ys rest))
+    (move a old (bs ++ (ds ++ more)) ((bs ++ ds) ++ more) (xs ++ (ys ++ rest)) e (sym (append_assoc bs ds more)) (g (ds ++ more) (ys ++ rest) e (h more rest e k)))
+
+comes_behind : (a : Automaton) (old mid : BegunBytes) (bs ds es more : List ℕ) (xs ys : List Lexeme) (e : Option LexFault) → GivesBytes a old bs xs mid → ContinuesBytes a mid (ds ++ (es ++ more)) ys e → ContinuesBytes a old ((bs ++ (ds ++ es)) ++ more) (xs ++ ys) e
+comes_behind a old mid bs ds es more xs ys e g k =
+    let same : (bs ++ (ds ++ es)) ++ more ≡ bs ++ (ds ++ (es ++ more)) = append_assoc bs (ds ++ es) more ∙ ap (λ (l : List ℕ). bs ++ l) (append_assoc ds es more) in
+    move a old (bs ++ (ds ++ (es ++ more))) ((bs ++ (ds ++ es)) ++ more) (xs ++ ys) e (sym same) (g (ds ++ (es ++ more)) ys e k)
 
 pub some_behind_bytes : (a : Automaton) (old mid : BegunBytes) (bs ds es : List ℕ) (xs ys : List Lexeme) → GivesBytes a old bs xs mid → GivesSomeBytes a mid ds ys → GivesSomeBytes a old (bs ++ (ds ++ es)) (xs ++ ys)
-some_behind_bytes a old mid bs ds es xs ys g h more lexemes e k =
-    let same : (bs ++ (ds ++ es)) ++ more ≡ bs ++ (ds ++ (es ++ more)) = append_assoc bs (ds ++ es) more ∙ ap (λ (l : List ℕ). bs ++ l) (append_assoc ds es more) in
-    let first = g.all (ds ++ (es ++ more)) lexemes e (move a old ((bs ++ (ds ++ es)) ++ more) (bs ++ (ds ++ (es ++ more))) lexemes e same k) in
-    let second = h (es ++ more) first.0 e first.2 in
-    (second.0, first.1 ∙ ap (λ (l : List Lexeme). xs ++ l) second.1 ∙ sym (append_assoc xs ys second.0))
+some_behind_bytes a old mid bs ds es xs ys g h more =
+    let o = h (es ++ more) in
+    (o.0, o.1, subst (λ (l : List Lexeme). ContinuesBytes a old ((bs ++ (ds ++ es)) ++ more) l o.1) (sym (append_assoc xs ys o.0)) (comes_behind a old mid bs ds es more xs (ys ++ o.0) o.1 g o.2))
 
 pub ends_behind_bytes : (a : Automaton) (old mid : BegunBytes) (bs ds es : List ℕ) (xs ys : List Lexeme) (fault : LexFault) → GivesBytes a old bs xs mid → EndsBytesAt a mid ds ys fault → EndsBytesAt a old (bs ++ (ds ++ es)) (xs ++ ys) fault
-ends_behind_bytes a old mid bs ds es xs ys fault g h more =
-    let same : (bs ++ (ds ++ es)) ++ more ≡ bs ++ (ds ++ (es ++ more)) = append_assoc bs (ds ++ es) more ∙ ap (λ (l : List ℕ). bs ++ l) (append_assoc ds es more) in
-    move a old (bs ++ (ds ++ (es ++ more))) ((bs ++ (ds ++ es)) ++ more) (xs ++ ys) (Some fault) (sym same) (g.only (ds ++ (es ++ more)) ys (Some fault) (h (es ++ more)))
+ends_behind_bytes a old mid bs ds es xs ys fault g h more = comes_behind a old mid bs ds es more xs ys (Some fault) g (h (es ++ more))

@@ -1,5 +1,5 @@
 -- What is begun, and what can still come of it.
-use Rattle.std.specs.Prelude.{◌≡◌, ℕ, ◌+◌, List, [], ◌++◌, Option, Some}
+use Rattle.std.specs.Prelude.{ℕ, ◌+◌, List, [], ◌++◌, Option, Some}
 use Rattle.owl_characters.specs.Utf8.{size}
 use Rattle.owl_lexer.specs.declared.fault.LexFault.{LexFault}
 use Rattle.owl_lexer.specs.Automata.{Automaton, Spells}
@@ -23,16 +23,16 @@ end_of begun = begun.at + size begun.held
 abbrev pub Continues : Automaton → Begun → List ℕ → List ℕ → List Lexeme → Option LexFault → Type 0
 Continues a begun more tail lexemes ending = Cuts (Spells a) begun.at (begun.held ++ more) tail lexemes ending
 
--- These characters make new of old, and give these lexemes: whatever follows, the lexemes that come of old, the characters
--- and what follows are these, and then those that come of new and what follows.
-pub record Gives (a : Automaton) (old : Begun) (cs : List ℕ) (given : List Lexeme) (new : Begun) : Type 0 where
-  pub all : (more tail : List ℕ) (lexemes : List Lexeme) (ending : Option LexFault) → Continues a old (cs ++ more) tail lexemes ending → (rest : List Lexeme) × (lexemes ≡ given ++ rest) × Continues a new more tail rest ending
-  pub only : (more tail : List ℕ) (rest : List Lexeme) (ending : Option LexFault) → Continues a new more tail rest ending → Continues a old (cs ++ more) tail (given ++ rest) ending
+-- These characters make new of old, and give these lexemes: whatever follows, they stand before what comes of new, and that
+-- comes of old, the characters and what follows. One thing comes of them at most, and one at least.
+abbrev pub Gives : Automaton → Begun → List ℕ → List Lexeme → Begun → Type 0
+Gives a old cs given new =
+    (more tail : List ℕ) (rest : List Lexeme) (ending : Option LexFault) → Continues a new more tail rest ending → Continues a old (cs ++ more) tail (given ++ rest) ending
 
 -- whatever follows these characters, these lexemes stand first
 abbrev pub GivesSome : Automaton → Begun → List ℕ → List Lexeme → Type 0
 GivesSome a old cs given =
-    (more tail : List ℕ) (lexemes : List Lexeme) (ending : Option LexFault) → Continues a old (cs ++ more) tail lexemes ending → (rest : List Lexeme) × (lexemes ≡ given ++ rest)
+    (more tail : List ℕ) → (rest : List Lexeme) × (ending : Option LexFault) × Continues a old (cs ++ more) tail (given ++ rest) ending
 
 -- whatever follows these characters, these are the lexemes, and they end at this fault
 abbrev pub EndsAt : Automaton → Begun → List ℕ → List Lexeme → LexFault → Type 0
@@ -46,7 +46,7 @@ GivesLast a old given =
 -- where no character follows, these lexemes stand first
 abbrev pub GivesSomeLast : Automaton → Begun → List Lexeme → Type 0
 GivesSomeLast a old given =
-    (tail : List ℕ) (lexemes : List Lexeme) (ending : Option LexFault) → Continues a old [] tail lexemes ending → (rest : List Lexeme) × (lexemes ≡ given ++ rest)
+    (tail : List ℕ) → (rest : List Lexeme) × (ending : Option LexFault) × Continues a old [] tail (given ++ rest) ending
 
 -- where no character follows, these are the lexemes, and they end at this fault
 abbrev pub EndsLastAt : Automaton → Begun → List Lexeme → LexFault → Type 0

@@ -14,7 +14,7 @@ use Rattle.owl_lexer.specs.DecodingLaws.{decode}
 use Rattle.owl_lexer.specs.Languages.{AreSpelled, IsLanguage}
 use Rattle.owl_lexer.specs.Lexing.{Begun, Continues, SplitsBehind}
 use Rattle.owl_lexer.specs.Splitting.{SplitsFrom}
-use Rattle.owl_lexer.specs.TokenLaws.{lexemes_are_tokens, tokens_are_lexemes}
+use Rattle.owl_lexer.specs.TokenLaws.{lexemes_are_tokens}
 use Rattle.owl_lexer.specs.TotalLaws.{cut}
 use Rattle.owl_lexer.specs.declared.fault.LexFault.{LexFault}
 use Rattle.owl_lexer.specs.declared.placed.Placed.{Placed}
@@ -87,11 +87,22 @@ all_decoded (c ∷ held) more cs tail s d =
     let o = all_decoded held more one.others tail parts.1 one.decodes in
     record { others = o.others; is = one.is ∙ ap (λ (l : List ℕ). c ∷ l) o.is; decodes = o.decodes }
 
--- The lexemes that come of what is begun when these bytes follow, and then the end, stand for these tokens.
-pub record ContinuesFor {T : Type 0} (a : Automaton) (value : ℕ → List ℕ → Option T) (begun : BegunBytes) (more : List ℕ) (tokens : List (Placed T)) (ending : Option LexFault) : Type 0 where
+-- some lexemes come of what is begun
+
+pub record Comes (a : Automaton) (begun : BegunBytes) (more : List ℕ) : Type 0 where
   pub lexemes : List Lexeme
+  pub ending : Option LexFault
   pub continues : ContinuesBytes a begun more lexemes ending
-  pub are : tokens_of value lexemes ≡ tokens
+
+cut_behind_mark : (fresh : Bool) (a : Automaton) (place : ℕ) (cs tail : List ℕ) → (xs : List Lexeme) × (e : Option LexFault) × CutsBehindMark fresh a place cs tail xs e
+cut_behind_mark true a place cs tail = let o = cut a (place + mark_size cs) (behind_mark cs) tail in (o.lexemes, o.ending, o.cuts)
+cut_behind_mark false a place cs tail = let o = cut a place cs tail in (o.lexemes, o.ending, o.cuts)
+
+pub comes : (a : Automaton) (begun : BegunBytes) (more : List ℕ) → Comes a begun more
+comes a begun more =
+    let d = decode (begun.bytes ++ more) in
+    let o = cut_behind_mark begun.fresh a begun.at (begun.held ++ d.characters) d.tail in
+    record { lexemes = o.0; ending = o.1; continues = record { characters = d.characters; tail = d.tail; decodes = d.decodes; cuts = o.2 } }
 
 splits_cut : {T : Type 0} → (a : Automaton) (value : ℕ → List ℕ → Option T) (spells : T → List ℕ → Type 0) → IsLanguage a value spells → (fresh : Bool) (place : ℕ) (bytes cs tail : List ℕ) (xs : List Lexeme) (e : Option LexFault) → (fresh ≡ true → place ≡ 0) → Decodes bytes cs tail → CutsBehindMark fresh a place cs tail xs e → SplitsBehind spells fresh place bytes (tokens_of value xs) e
 splits_cut a value spells l true place bytes cs tail xs e first d h =
@@ -100,24 +111,6 @@ splits_cut a value spells l true place bytes cs tail xs e first d h =
 splits_cut a value spells l false place bytes cs tail xs e first d h =
     record { characters = cs; tail = tail; decodes = d; splits = lexemes_are_tokens a value spells l place cs tail xs e h }
 
--- tokens of bytes stand for lexemes of their characters
-record CutsToo {T : Type 0} (a : Automaton) (value : ℕ → List ℕ → Option T) (fresh : Bool) (place : ℕ) (bytes : List ℕ) (tokens : List (Placed T)) (ending : Option LexFault) : Type 0 where
-  characters : List ℕ
-  tail : List ℕ
-  decodes : Decodes bytes characters tail
-  lexemes : List Lexeme
-  cuts : CutsBehindMark fresh a place characters tail lexemes ending
-  are : tokens_of value lexemes ≡ tokens
-
-cuts_split : {T : Type 0} → (a : Automaton) (value : ℕ → List ℕ → Option T) (spells : T → List ℕ → Type 0) → IsLanguage a value spells → (fresh : Bool) (place : ℕ) (bytes : List ℕ) (tokens : List (Placed T)) (e : Option LexFault) → (fresh ≡ true → place ≡ 0) → SplitsBehind spells fresh place bytes tokens e → CutsToo a value fresh place bytes tokens e
-cuts_split a value spells l true place bytes tokens e first h =
-    let here : mark_size h.characters ≡ place + mark_size h.characters = sym (ap (λ (p : ℕ). p + mark_size h.characters) (first refl) ∙ zero-add (mark_size h.characters)) in
-    let o = tokens_are_lexemes a value spells l (mark_size h.characters) (behind_mark h.characters) h.tail tokens e h.splits in
-    record { characters = h.characters; tail = h.tail; decodes = h.decodes; lexemes = o.lexemes; cuts = subst (λ (p : ℕ). Cuts (Spells a) p (behind_mark h.characters) h.tail o.lexemes e) here o.cuts; are = o.are }
-cuts_split a value spells l false place bytes tokens e first h =
-    let o = tokens_are_lexemes a value spells l place h.characters h.tail tokens e h.splits in
-    record { characters = h.characters; tail = h.tail; decodes = h.decodes; lexemes = o.lexemes; cuts = o.cuts; are = o.are }
-
 -- the tokens that lexemes stand for come of what is begun
 pub lexemes_continue : {T : Type 0} → (a : Automaton) (value : ℕ → List ℕ → Option T) (spells : T → List ℕ → Type 0) → IsLanguage a value spells → (begun : BegunBytes) → IsSound begun → (more : List ℕ) (xs : List Lexeme) (e : Option LexFault) → ContinuesBytes a begun more xs e → Continues spells (bytes_of begun) more (tokens_of value xs) e
 lexemes_continue a value spells l begun sound more xs e h =
@@ -125,15 +118,3 @@ lexemes_continue a value spells l begun sound more xs e h =
     (subst (λ (bytes : List ℕ). Decodes bytes (begun.held ++ h.characters) h.tail) (sym (append_assoc (encode_utf8_all begun.held) begun.bytes more))
     (decodes_all begun.held (begun.bytes ++ more) h.characters h.tail sound.scalars h.decodes))
     h.cuts
-
--- the tokens that come of what is begun are those that lexemes stand for
-pub tokens_continue : {T : Type 0} → (a : Automaton) (value : ℕ → List ℕ → Option T) (spells : T → List ℕ → Type 0) → IsLanguage a value spells → (begun : BegunBytes) → IsSound begun → (more : List ℕ) (tokens : List (Placed T)) (e : Option LexFault) → Continues spells (bytes_of begun) more tokens e → ContinuesFor a value begun more tokens e
-tokens_continue a value spells l begun sound more tokens e h =
-    let o = cuts_split a value spells l begun.fresh begun.at ((encode_utf8_all begun.held ++ begun.bytes) ++ more) tokens e sound.first h in
-    let d = all_decoded begun.held (begun.bytes ++ more) o.characters o.tail sound.scalars
-    (subst (λ (bytes : List ℕ). Decodes bytes o.characters o.tail) (append_assoc (encode_utf8_all begun.held) begun.bytes more) o.decodes) in
-    record {
-      lexemes = o.lexemes;
-      continues = record { characters = d.others; tail = o.tail; decodes = d.decodes; cuts = subst (λ (cs : List ℕ). CutsBehindMark begun.fresh a begun.at cs o.tail o.lexemes e) d.is o.cuts };
-      are = o.are;
-    }

@@ -4,7 +4,6 @@ pub mod Automata
 pub mod Cutting
 pub mod Giving
 pub mod Holding
-pub mod CuttingLaws
 pub mod HoldingLaws
 pub mod GivingLaws
 pub mod TotalLaws

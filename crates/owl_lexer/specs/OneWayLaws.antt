@@ -4,9 +4,8 @@ use Rattle.std.specs.Prelude.{◌==◌}
 use Rattle.std.proofs.lemmas.Bool.{eqb-true, or_cases}
 use Rattle.owl_characters.specs.CutLaws.{both, same_seam}
 use Rattle.owl_characters.specs.Utf8.{behind_mark, mark_size, size}
-use Rattle.owl_lexer.specs.Automata.{Automaton}
+use Rattle.owl_lexer.specs.Automata.{Automaton, Spells}
 use Rattle.owl_lexer.specs.BytesLaws.{same_decoded}
-use Rattle.owl_lexer.specs.CuttingLaws.{automata_are_apart}
 use Rattle.owl_lexer.specs.Languages.{BeginsNoGap, IsLanguage}
 use Rattle.owl_lexer.specs.Lexing.{Begun, Continues, SplitsBehind}
 use Rattle.owl_lexer.specs.Splitting.{BeginsToken, Ends, IsComment, IsGap, Splits, SplitsFrom, Stops, is_comment_start, is_line_end, is_space}
@@ -71,11 +70,15 @@ stops_no_gap spells place (c ∷ cs) tail e h = (h.0, h.1)
 -- tokens
 
 -- one spelling is of one token
+
+one_kind : (a : Automaton) (kind other : ℕ) (cs : List ℕ) → Spells a kind cs → Spells a other cs → kind ≡ other
+one_kind a kind other cs h k = let e : Some kind ≡ Some other = sym h ∙ k in cc
+
 same_token : {T : Type 0} → (a : Automaton) (value : ℕ → List ℕ → Option T) (spells : T → List ℕ → Type 0) → IsLanguage a value spells → (t u : T) (cs : List ℕ) → spells t cs → spells u cs → t ≡ u
 same_token a value spells l t u cs h k =
     let one = l.token t cs h in
     let other = l.token u cs k in
-    let kinds = automata_are_apart a one.0 other.0 cs one.1 other.1 in
+    let kinds = one_kind a one.0 other.0 cs one.1 other.1 in
     let values : Some t ≡ Some u = sym one.2 ∙ ap (λ (kind : ℕ). value kind cs) kinds ∙ other.2 in
     cc
 

@@ -11,9 +11,7 @@ use Rattle.owl_lexer.specs.Cutting.{CutsFirst, Cuts, Lexeme, Stands, Stops as Le
 use Rattle.owl_lexer.specs.GapLaws.{EndsLine, IsGapBefore, comment_before, spaces_before, splits_behind}
 use Rattle.owl_lexer.specs.Languages.{IsCommentText, IsLanguage, IsLexemeWith}
 use Rattle.owl_lexer.specs.Languages.IsLexemeWith.{token, space, comment}
-use Rattle.owl_lexer.specs.OneWayLaws.{same_splits_from}
 use Rattle.owl_lexer.specs.Splitting.{BeginsToken, SplitsFrom, Stops, is_comment_start, is_line_end, is_space}
-use Rattle.owl_lexer.specs.TotalLaws.{cut}
 use Rattle.owl_lexer.specs.declared.fault.LexFault.{LexFault}
 use Rattle.owl_lexer.specs.declared.placed.Placed.{Placed}
 
@@ -80,16 +78,3 @@ lexemes_are_tokens a value spells l place cs tail [] e h =
     record { gap = []; rest = cs; parts = refl; is_gap = tt; stops = subst (λ (p : ℕ). Stops spells p cs tail e) (here place) (stops_too a value spells l place cs tail e h) }
 lexemes_are_tokens a value spells l place cs tail (x ∷ xs) e h =
     one_more a value spells l place cs tail x h.0 (tokens_of value xs) e h.1 (l.says x.kind x.spelling h.1.stands.spelled) (lexemes_are_tokens a value spells l (place + size x.spelling) h.0 tail xs e h.2)
-
--- Characters are cut into lexemes that stand for these tokens.
-pub record CutsFor {T : Type 0} (a : Automaton) (value : ℕ → List ℕ → Option T) (place : ℕ) (cs tail : List ℕ) (tokens : List (Placed T)) (ending : Option LexFault) : Type 0 where
-  pub lexemes : List Lexeme
-  pub cuts : Cuts (Spells a) place cs tail lexemes ending
-  pub are : tokens_of value lexemes ≡ tokens
-
--- tokens of the characters are those that lexemes stand for
-pub tokens_are_lexemes : {T : Type 0} → (a : Automaton) (value : ℕ → List ℕ → Option T) (spells : T → List ℕ → Type 0) → IsLanguage a value spells → (place : ℕ) (cs tail : List ℕ) (tokens : List (Placed T)) (e : Option LexFault) → SplitsFrom spells place cs tail tokens e → CutsFor a value place cs tail tokens e
-tokens_are_lexemes a value spells l place cs tail tokens e h =
-    let it = cut a place cs tail in
-    let same = same_splits_from a value spells l place cs tail (tokens_of value it.lexemes) tokens it.ending e (lexemes_are_tokens a value spells l place cs tail it.lexemes it.ending it.cuts) h in
-    record { lexemes = it.lexemes; cuts = subst (Cuts (Spells a) place cs tail it.lexemes) same.1 it.cuts; are = same.0 }

@@ -16,6 +16,18 @@ push-returns-in-Some-clause-ok g t c =
     takes_held g.L.TokenLanguage.automaton g.L.TokenLanguage.value_of c.args.hand.now c.hold.new.hand c.args.c c.args.into.now.items c.in_ok-hold.ensures.ready
     (record { at = c.in_ok-hold.ensures.at; held = c.in_ok-hold.ensures.held; end = c.in_ok-hold.ensures.end; scalar = search rules })
 
+pub push-returns-in_err-hold-clause-err : goal.push-returns-in_err-hold-clause-err
+push-returns-in_err-hold-clause-err g t c =
+    IfErr-weaker c.from_residual.result _ _
+    (λ fault e. refuses_memory g.L.TokenLanguage.automaton g.L.TokenLanguage.value_of (begun_of c.args.hand.now) (c.args.c ∷ []) c.args.into.now.items c.args.into.now.items fault e refl)
+    (search rules)
+
+pub push-returns-in_err-give_all-in-Some-kind-clause-err : goal.push-returns-in_err-give_all-in-Some-kind-clause-err
+push-returns-in_err-give_all-in-Some-kind-clause-err g t c =
+    IfErr-weaker c.from_residual-in_err-give_all-in-Some-kind.result _ _
+    (λ fault e. refuses_memory g.L.TokenLanguage.automaton g.L.TokenLanguage.value_of (begun_of c.args.hand.now) (c.args.c ∷ []) c.args.into.now.items c.give_all.new.into.items fault e c.in_err-give_all-in-Some-kind.ensures.err)
+    (search rules)
+
 pub push-returns-in_ok-give_all-in-Some-kind-clause-ok : goal.push-returns-in_ok-give_all-in-Some-kind-clause-ok
 push-returns-in_ok-give_all-in-Some-kind-clause-ok g t c =
     on_ok_weaker c.begin.result
@@ -35,6 +47,12 @@ push-returns-in_ok-give_all-in-Some-kind-clause-err g t c =
 pub turn_back-returns-in_default-clause-err : goal.turn_back-returns-in_default-clause-err
 turn_back-returns-in_default-clause-err g t c =
     refuses_here g.L.TokenLanguage.automaton g.L.TokenLanguage.value_of c.args.hand.now c.args.c c.args.into.now.items c.requires.ready (search rules) (subst (IsFrontOf g.L.TokenLanguage.automaton c.args.hand.now.at c.args.hand.now.held.items) c.in_default.is (c.requires.ready.front c.requires.none))
+
+pub turn_back-returns-in_err-behind-clause-err : goal.turn_back-returns-in_err-behind-clause-err
+turn_back-returns-in_err-behind-clause-err g t c =
+    IfErr-weaker c.from_residual.result _ _
+    (λ fault e. refuses_memory g.L.TokenLanguage.automaton g.L.TokenLanguage.value_of (begun_of c.args.hand.now) (c.args.c ∷ []) c.args.into.now.items c.give.new.into.items fault e c.in_err-behind.ensures.err)
+    (search rules)
 
 pub turn_back-returns-in_err-add-clause-err : goal.turn_back-returns-in_err-add-clause-err
 turn_back-returns-in_err-add-clause-err g t c =
