@@ -107,27 +107,6 @@ decimal_is cs =
 
 -- marks
 
-less_is : Means manchester less (λ cs. cs ≡ codes "<")
-less_is = mark_is manchester less 60 (class_is manchester less refl)
-
-greater_is : Means manchester greater (λ cs. cs ≡ codes ">")
-greater_is = mark_is manchester greater 62 (class_is manchester greater refl)
-
-open_brace_is : Means manchester open_brace (λ cs. cs ≡ codes "{")
-open_brace_is = mark_is manchester open_brace 123 (class_is manchester open_brace refl)
-
-close_brace_is : Means manchester close_brace (λ cs. cs ≡ codes "}")
-close_brace_is = mark_is manchester close_brace 125 (class_is manchester close_brace refl)
-
-open_bracket_is : Means manchester open_bracket (λ cs. cs ≡ codes "[")
-open_bracket_is = mark_is manchester open_bracket 91 (class_is manchester open_bracket refl)
-
-close_bracket_is : Means manchester close_bracket (λ cs. cs ≡ codes "]")
-close_bracket_is = mark_is manchester close_bracket 93 (class_is manchester close_bracket refl)
-
-comma_is : Means manchester comma (λ cs. cs ≡ codes ",")
-comma_is = mark_is manchester comma 44 (class_is manchester comma refl)
-
 or_equal : (p : Pattern) (x : ℕ) → IsOne manchester p (λ c. is_among (x ∷ []) c) → Means manchester (p then equals_mark) (λ cs. cs ≡ x ∷ 61 ∷ [])
 or_equal p x h cs =
     let equals = mark_is manchester equals_mark 61 (class_is manchester equals_mark refl) in
@@ -136,26 +115,20 @@ or_equal p x h cs =
       λ e. m.1 (61 ∷ [], (equals (61 ∷ [])).1 refl, e),
     )
 
-at_most_is : Means manchester (less then equals_mark) (λ cs. cs ≡ codes "<=")
-at_most_is = or_equal less 60 (class_is manchester less refl)
-
-at_least_is : Means manchester (greater then equals_mark) (λ cs. cs ≡ codes ">=")
-at_least_is = or_equal greater 62 (class_is manchester greater refl)
-
 own_say : AllByRecursion (Says manchester SpellsManchester) own_terminals
 unfolding value_of sign_of
 own_say =
     (λ cs m. token (Int cs) refl ((integer_is cs).0 m, refl))
     also (λ cs m. token (Dec cs) refl ((decimal_is cs).0 m, refl))
-    also (λ cs m. token (Sign OpenBrace) refl ((open_brace_is cs).0 m))
-    also (λ cs m. token (Sign CloseBrace) refl ((close_brace_is cs).0 m))
-    also (λ cs m. token (Sign OpenBracket) refl ((open_bracket_is cs).0 m))
-    also (λ cs m. token (Sign CloseBracket) refl ((close_bracket_is cs).0 m))
-    also (λ cs m. token (Sign Comma) refl ((comma_is cs).0 m))
-    also (λ cs m. token (Sign Less) refl ((less_is cs).0 m))
-    also (λ cs m. token (Sign AtMost) refl ((at_most_is cs).0 m))
-    also (λ cs m. token (Sign Greater) refl ((greater_is cs).0 m))
-    also (λ cs m. token (Sign AtLeast) refl ((at_least_is cs).0 m))
+    also (λ cs m. token (Sign OpenBrace) refl ((mark_is manchester open_brace 123 (class_is manchester open_brace refl) cs).0 m))
+    also (λ cs m. token (Sign CloseBrace) refl ((mark_is manchester close_brace 125 (class_is manchester close_brace refl) cs).0 m))
+    also (λ cs m. token (Sign OpenBracket) refl ((mark_is manchester open_bracket 91 (class_is manchester open_bracket refl) cs).0 m))
+    also (λ cs m. token (Sign CloseBracket) refl ((mark_is manchester close_bracket 93 (class_is manchester close_bracket refl) cs).0 m))
+    also (λ cs m. token (Sign Comma) refl ((mark_is manchester comma 44 (class_is manchester comma refl) cs).0 m))
+    also (λ cs m. token (Sign Less) refl ((mark_is manchester less 60 (class_is manchester less refl) cs).0 m))
+    also (λ cs m. token (Sign AtMost) refl ((or_equal less 60 (class_is manchester less refl) cs).0 m))
+    also (λ cs m. token (Sign Greater) refl ((mark_is manchester greater 62 (class_is manchester greater refl) cs).0 m))
+    also (λ cs m. token (Sign AtLeast) refl ((or_equal greater 62 (class_is manchester greater refl) cs).0 m))
     also tt
 
 -- from tokens to lexemes
@@ -170,15 +143,15 @@ mark_lexeme Open cs h = inl (refl, h)
 mark_lexeme Close cs h = inl (refl, h)
 mark_lexeme Equals cs h = absurd h
 mark_lexeme Carets cs h = inl (refl, h)
-mark_lexeme OpenBrace cs h = inr (OPEN_BRACE, inr (inr (inl (refl, (open_brace_is cs).1 h))), refl)
-mark_lexeme CloseBrace cs h = inr (CLOSE_BRACE, inr (inr (inr (inl (refl, (close_brace_is cs).1 h)))), refl)
-mark_lexeme OpenBracket cs h = inr (OPEN_BRACKET, inr (inr (inr (inr (inl (refl, (open_bracket_is cs).1 h))))), refl)
-mark_lexeme CloseBracket cs h = inr (CLOSE_BRACKET, inr (inr (inr (inr (inr (inl (refl, (close_bracket_is cs).1 h)))))), refl)
-mark_lexeme Comma cs h = inr (COMMA, inr (inr (inr (inr (inr (inr (inl (refl, (comma_is cs).1 h))))))), refl)
-mark_lexeme Less cs h = inr (LESS, inr (inr (inr (inr (inr (inr (inr (inl (refl, (less_is cs).1 h)))))))), refl)
-mark_lexeme AtMost cs h = inr (AT_MOST, inr (inr (inr (inr (inr (inr (inr (inr (inl (refl, (at_most_is cs).1 h))))))))), refl)
-mark_lexeme Greater cs h = inr (GREATER, inr (inr (inr (inr (inr (inr (inr (inr (inr (inl (refl, (greater_is cs).1 h)))))))))), refl)
-mark_lexeme AtLeast cs h = inr (AT_LEAST, inr (inr (inr (inr (inr (inr (inr (inr (inr (inr (inl (refl, (at_least_is cs).1 h))))))))))), refl)
+mark_lexeme OpenBrace cs h = inr (OPEN_BRACE, inr (inr (inl (refl, (mark_is manchester open_brace 123 (class_is manchester open_brace refl) cs).1 h))), refl)
+mark_lexeme CloseBrace cs h = inr (CLOSE_BRACE, inr (inr (inr (inl (refl, (mark_is manchester close_brace 125 (class_is manchester close_brace refl) cs).1 h)))), refl)
+mark_lexeme OpenBracket cs h = inr (OPEN_BRACKET, inr (inr (inr (inr (inl (refl, (mark_is manchester open_bracket 91 (class_is manchester open_bracket refl) cs).1 h))))), refl)
+mark_lexeme CloseBracket cs h = inr (CLOSE_BRACKET, inr (inr (inr (inr (inr (inl (refl, (mark_is manchester close_bracket 93 (class_is manchester close_bracket refl) cs).1 h)))))), refl)
+mark_lexeme Comma cs h = inr (COMMA, inr (inr (inr (inr (inr (inr (inl (refl, (mark_is manchester comma 44 (class_is manchester comma refl) cs).1 h))))))), refl)
+mark_lexeme Less cs h = inr (LESS, inr (inr (inr (inr (inr (inr (inr (inl (refl, (mark_is manchester less 60 (class_is manchester less refl) cs).1 h)))))))), refl)
+mark_lexeme AtMost cs h = inr (AT_MOST, inr (inr (inr (inr (inr (inr (inr (inr (inl (refl, (or_equal less 60 (class_is manchester less refl) cs).1 h))))))))), refl)
+mark_lexeme Greater cs h = inr (GREATER, inr (inr (inr (inr (inr (inr (inr (inr (inr (inl (refl, (mark_is manchester greater 62 (class_is manchester greater refl) cs).1 h)))))))))), refl)
+mark_lexeme AtLeast cs h = inr (AT_LEAST, inr (inr (inr (inr (inr (inr (inr (inr (inr (inr (inl (refl, (or_equal greater 62 (class_is manchester greater refl) cs).1 h))))))))))), refl)
 
 own_token : (t : Token) (cs : List ℕ) → SpellsManchester t cs → IsOwn t cs
 unfolding value_of
