@@ -7,7 +7,7 @@ use Rattle.std.specs.Char.{is_ascii_hexdigit}
 use Rattle.owl_characters.specs.Names.{AreLocalPieces, IsPieceOf, IsPrefixName, Piece, SpellsLocal, is_base, is_escapable, is_inner, is_local_inner, is_local_start, piece_spelling, piece_text}
 use Rattle.owl_characters.specs.Names.Piece.{plain, percent, escaped}
 use Rattle.owl_characters.specs.Iri.{AllAre}
-use Rattle.ttl_tokens.specs.StringLaws.{differs}
+use Rattle.owl_tokens.specs.CharacterLaws.{differs}
 use Rattle.ttl_tokens.specs.TurtleValues.{is_backslash, is_colon, local_text, prefix_text}
 
 -- prefixes

@@ -1,11 +1,16 @@
 -- Each string that the grammar has stands for a text: its escapes are all of characters.
-use Rattle.std.proofs.Common.{◌≡◌, inl, inr, ℕ, zero, suc, ◌+◌, ◌-◌, ◌*◌, ◌<◌, ◌≤◌, ◌==◌, nat_lt, nat_le, Bool, true, false, not, ◌&&◌, ◌||◌, if◌then◌else◌, Option, None, Some, List, [], ◌∷◌, ◌++◌, length, take, drop, refl, sym, ap, ◌∙◌, subst, arith, append_assoc, lit<, map, zero-add, unwrap_or, length-append}
+use Rattle.std.proofs.Common.{◌≡◌, inl, inr, ℕ, zero, suc, ◌+◌, ◌-◌, ◌*◌, ◌<◌, ◌≤◌, ◌==◌, nat_lt, nat_le, Bool, true, false, not, ◌&&◌, ◌||◌, if◌then◌else◌, Option, None, Some, List, [], ◌∷◌, ◌++◌, length, take, drop, refl, sym, ap, ◌∙◌, subst, arith, append_assoc, map, unwrap_or, length-append}
 use Rattle.std.proofs.lemmas.List.{append-nil}
 use Rattle.std.proofs.Math.Seq.{take-append_seam, drop-append_seam}
-use Rattle.std.proofs.lemmas.Bool.{and_parts, eq-eqb, eqb-true, leb-true, le-leb}
-use Rattle.std.specs.Char.{digit_value, is_digit}
-use Rattle.std.specs.Int.{is_in_range}
-use Rattle.owl_lexer.specs.Grammars.{IsLexeme, IsLexemeOf, Terminal, is_in_ranges, test_of}
+use Rattle.std.proofs.lemmas.Bool.{and_parts, eq-eqb, eqb-true, leb-true}
+use Rattle.std.specs.Prelude.{slice_index_or}
+use Rattle.std.specs.List.{list_all}
+use Rattle.std.proofs.lemmas.Bool.Decides.{nat_tests}
+use Rattle.owl_characters.specs.Iri.{is_among}
+use Rattle.owl_tokens.specs.CharacterLaws.{differs}
+use Rattle.owl_lexer.specs.GapTestLaws.{passes_among}
+use Rattle.owl_lexer.specs.Grammars.{CharacterSet, IsLexeme, IsLexemeOf, Terminal, has, is_in_ranges, test_of}
+use Rattle.owl_lexer.specs.Grammars.CharacterSet.{inside as of_ranges, outside as but_ranges}
 use Rattle.owl_lexer.specs.Patterns.{Joins, Matches, Pattern}
 use Rattle.owl_lexer.specs.Patterns.Pattern.{empty, one, both, either, many}
 use Rattle.std.specs.Int.Digits.{number_from_digits_after}
@@ -57,9 +62,6 @@ parts_text IsPart each (part ∷ parts) cs h =
 
 -- tests of characters
 
-pub differs : (test : ℕ → Bool) (c d : ℕ) → test c ≡ true → test d ≡ false → (c == d) ≡ false
-differs test c d h k = grind (arith, h, k)
-
 abbrev all_pass : ℕ → (ℕ → Bool) → Bool
 all_pass zero test = true
 all_pass (suc n) test = test n && all_pass n test
@@ -102,58 +104,6 @@ in_ranges_pass ranges test few h c k =
 only : (n c : ℕ) → is_in_ranges ((n, n) ∷ []) c ≡ true → c ≡ n
 only n c h = either_way (nat_le n c && nat_le c n) false h (λ k. let parts = and_parts (nat_le n c) (nat_le c n) k in let up = leb-true n c parts.0 in let down = leb-true c n parts.1 in omega arith) (λ k. absurd (cc))
 
--- digits
-
-small_of : (b : Bool) (value : ℕ) → nat_lt value 16 ≡ b → (if b then value else 0) < 16
-small_of true value h = leb-true (suc value) 16 h
-small_of false value h = lit< tt
-
-hex_small : (c : ℕ) → hex_value c < 16
-hex_small c = small_of (is_digit c 16) (digit_value c) refl
-
-abbrev hex_but_d_ranges : List (ℕ × ℕ)
-hex_but_d_ranges = (0x30, 0x39) ∷ (0x41, 0x43) ∷ (0x45, 0x46) ∷ (0x61, 0x63) ∷ (0x65, 0x66) ∷ []
-
-not_d : (c : ℕ) → is_in_ranges hex_but_d_ranges c ≡ true → (nat_lt (hex_value c) 13 || nat_le 14 (hex_value c)) ≡ true
-not_d c h = in_ranges_pass hex_but_d_ranges (λ c. nat_lt (hex_value c) 13 || nat_le 14 (hex_value c)) refl refl c h
-
-is_d : (c : ℕ) → is_in_ranges ((0x44, 0x44) ∷ (0x64, 0x64) ∷ []) c ≡ true → (hex_value c == 13) ≡ true
-is_d c h = in_ranges_pass ((0x44, 0x44) ∷ (0x64, 0x64) ∷ []) (λ c. hex_value c == 13) refl refl c h
-
-to_7 : (c : ℕ) → is_in_ranges ((0x30, 0x37) ∷ []) c ≡ true → nat_lt (hex_value c) 8 ≡ true
-to_7 c h = in_ranges_pass ((0x30, 0x37) ∷ []) (λ c. nat_lt (hex_value c) 8) refl refl c h
-
-abbrev hex_but_0_ranges : List (ℕ × ℕ)
-hex_but_0_ranges = (0x31, 0x39) ∷ (0x41, 0x46) ∷ (0x61, 0x66) ∷ []
-
-not_0 : (c : ℕ) → is_in_ranges hex_but_0_ranges c ≡ true → nat_lt 0 (hex_value c) ≡ true
-not_0 c h = in_ranges_pass hex_but_0_ranges (λ c. nat_lt 0 (hex_value c)) refl refl c h
-
--- code points
-
-low_point : (n : ℕ) → n < 0xD800 → character_at n ≡ Some n
-low_point n h = subst (λ (b : Bool). (if (b || is_in_range 0xE000 0x10FFFF n) then Some n else None) ≡ Some n) (sym (le-leb (suc n) 0xD800 h)) refl
-
-high_point : (n : ℕ) → 0xE000 ≤ n → n ≤ 0x10FFFF → character_at n ≡ Some n
-high_point n h k =
-    let e : is_character n ≡ true = grind (arith, h, k) in
-    subst (λ (b : Bool). (if b then Some n else None) ≡ Some n) (sym e) refl
-
-abbrev four : ℕ → ℕ → ℕ → ℕ → ℕ
-four a b c d = ((a * 16 + b) * 16 + c) * 16 + d
-
-four_low : (a b c d : ℕ) → a < 13 → b < 16 → c < 16 → d < 16 → four a b c d < 0xD800
-four_low a b c d h i j k = omega arith
-
-four_high : (a b c d : ℕ) → 14 ≤ a → a < 16 → b < 16 → c < 16 → d < 16 → (0xE000 ≤ four a b c d) × (four a b c d ≤ 0x10FFFF)
-four_high a b c d h g i j k = (omega arith, omega arith)
-
-four_d : (b c d : ℕ) → b < 8 → c < 16 → d < 16 → four 13 b c d < 0xD800
-four_d b c d i j k = omega arith
-
-six_high : (x a b c d : ℕ) → 1 ≤ x → x ≤ 16 → a < 16 → b < 16 → c < 16 → d < 16 → (0xE000 ≤ (((x * 16 + a) * 16 + b) * 16 + c) * 16 + d) × ((((x * 16 + a) * 16 + b) * 16 + c) * 16 + d ≤ 0x10FFFF)
-six_high x a b c d h g e i j k = (omega arith, omega arith)
-
 -- parts of patterns
 
 abbrev in_turtle : ℕ → ℕ → Bool
@@ -172,36 +122,137 @@ begins_one test set others cs h = record { first = h.2.0; in_set = h.2.1; rest =
 three_first : (x y z : ℕ) (cs r s t u : List ℕ) → cs ≡ x ∷ r → r ≡ y ∷ s → s ≡ z ∷ t → t ≡ u → cs ≡ x ∷ y ∷ z ∷ u
 three_first x y z cs r s t u e f g h = e ∙ ap (λ (l : List ℕ). x ∷ l) (f ∙ ap (λ (l : List ℕ). y ∷ l) (g ∙ ap (λ (l : List ℕ). z ∷ l) h))
 
-three_long : (x y z : ℕ) (cs r s : List ℕ) → cs ≡ x ∷ r → r ≡ y ∷ s → s ≡ z ∷ [] → length cs ≡ 3
-three_long x y z cs r s e f g = ap (λ (l : List ℕ). length l) (three_first x y z cs r s [] [] e f g refl)
+-- how many characters a pattern has
 
-record AreFour (test : ℕ → ℕ → Bool) (j k l m : ℕ) (cs : List ℕ) : Type 0 where
-  a : ℕ
-  b : ℕ
-  c : ℕ
-  d : ℕ
-  in_a : test j a ≡ true
-  in_b : test k b ≡ true
-  in_c : test l c ≡ true
-  in_d : test m d ≡ true
-  is : cs ≡ a ∷ b ∷ c ∷ d ∷ []
+abbrev size_of : Pattern → ℕ
+size_of (one set) = 1
+size_of (both p q) = size_of p + size_of q
+size_of (either p q) = size_of p
+size_of p = 0
 
-are_four : (test : ℕ → ℕ → Bool) (j k l m : ℕ) (cs : List ℕ) → Matches test (both (one j) (both (one k) (both (one l) (one m)))) cs → AreFour test j k l m cs
-are_four test j k l m cs h =
-    let x = begins_one test j (both (one k) (both (one l) (one m))) cs h in
-    let y = begins_one test k (both (one l) (one m)) x.rest x.matches in
-    let z = begins_one test l (one m) y.rest y.matches in
+abbrev is_sized : Pattern → Bool
+is_sized (one set) = true
+is_sized (both p q) = is_sized p && is_sized q
+is_sized (either p q) = (size_of q == size_of p) && (is_sized p && is_sized q)
+is_sized p = false
+
+sized : (test : ℕ → ℕ → Bool) (p : Pattern) → is_sized p ≡ true → (cs : List ℕ) → Matches test p cs → length cs ≡ size_of p
+sized test (one set) h cs m = ap (λ (l : List ℕ). length l) m.2
+sized test (both p q) h cs m =
+    let parts = and_parts (is_sized p) (is_sized q) h in
+    let front = sized test p parts.0 m.0 m.2 in
+    let back = sized test q parts.1 m.1 m.3 in
+    let all : length cs ≡ length m.0 + length m.1 = ap (λ (l : List ℕ). length l) m.4 ∙ length-append m.0 m.1 in
+    omega arith
+sized test (either p q) h cs (inl m) = sized test p (and_parts (is_sized p) (is_sized q) (and_parts (size_of q == size_of p) (is_sized p && is_sized q) h).1).0 cs m
+sized test (either p q) h cs (inr m) =
+    let parts = and_parts (size_of q == size_of p) (is_sized p && is_sized q) h in
+    sized test q (and_parts (is_sized p) (is_sized q) parts.1).1 cs m ∙ eqb-true (size_of q) (size_of p) parts.0
+sized test p h cs m = absurd (cc)
+
+-- The values of digits, by the number of their set: from the first to the last of each range.
+
+abbrev digit_sets : List ℕ
+digit_sets = 25 ∷ 26 ∷ 27 ∷ 28 ∷ 29 ∷ 30 ∷ 31 ∷ []
+
+abbrev values : ℕ → List (ℕ × ℕ)
+values set =
+    if set == 26 then (0, 12) ∷ (14, 15) ∷ []
+    else if set == 27 then (13, 13) ∷ []
+    else if set == 28 then (1, 15) ∷ []
+    else if set == 29 then (0, 0) ∷ []
+    else if set == 30 then (1, 1) ∷ []
+    else if set == 31 then (0, 7) ∷ []
+    else (0, 15) ∷ []
+
+abbrev has_values : CharacterSet → List (ℕ × ℕ) → Bool
+has_values (of_ranges ranges) spans = all_below 128 ranges && all_pass 128 (λ c. not (is_in_ranges ranges c) || is_in_ranges spans (hex_value c))
+has_values (but_ranges ranges) spans = false
+
+value_in : (set : CharacterSet) (spans : List (ℕ × ℕ)) (c : ℕ) → has_values set spans ≡ true → has set c ≡ true → is_in_ranges spans (hex_value c) ≡ true
+value_in (of_ranges ranges) spans c h k =
+    let parts = and_parts (all_below 128 ranges) (all_pass 128 (λ c. not (is_in_ranges ranges c) || is_in_ranges spans (hex_value c))) h in
+    in_ranges_pass ranges (λ c. is_in_ranges spans (hex_value c)) parts.0 parts.1 c k
+value_in (but_ranges ranges) spans c h k = absurd (cc)
+
+abbrev is_valued : ℕ → Bool
+is_valued set = has_values (slice_index_or turtle_grammar.sets set (of_ranges [])) (values set)
+
+all_valued : list_all is_valued digit_sets ≡ true
+unfolding turtle_grammar
+all_valued = refl
+
+-- The bounds of a number behind more digits, from bounds of that before them, pass the test, whichever of their values.
+abbrev all_spans : (ℕ → ℕ → Bool) → ℕ → ℕ → Pattern → Bool
+all_spans test least most (one set) = is_among digit_sets set && list_all (λ span. test (least * 16 + span.0) (most * 16 + span.1)) (values set)
+all_spans test least most (both p q) = all_spans (λ l m. all_spans test l m q) least most p
+all_spans test least most (either p q) = all_spans test least most p && all_spans test least most q
+all_spans test least most p = false
+
+-- A number that the digits make of the one before them, and bounds that pass the test.
+record Reads (test : ℕ → ℕ → Bool) (before : ℕ) (cs : List ℕ) : Type 0 where
+  least : ℕ
+  number : ℕ
+  most : ℕ
+  passed : test least most ≡ true
+  low : least ≤ number
+  high : number ≤ most
+  is : (rest : List ℕ) → number_from_digits_after 16 before (map hex_value (cs ++ rest)) ≡ number_from_digits_after 16 number (map hex_value rest)
+
+span_of : (spans : List (ℕ × ℕ)) (test : ℕ × ℕ → Bool) (n : ℕ) → list_all test spans ≡ true → is_in_ranges spans n ≡ true → (span : ℕ × ℕ) × (test span ≡ true) × (span.0 ≤ n) × (n ≤ span.1)
+span_of [] test n h k = absurd (cc)
+span_of (span ∷ spans) test n h k =
+    let parts = and_parts (test span) (list_all test spans) h in
+    either_way (nat_le span.0 n && nat_le n span.1) (is_in_ranges spans n) k
+    (λ here. let bounds = and_parts (nat_le span.0 n) (nat_le n span.1) here in (span, parts.0, leb-true span.0 n bounds.0, leb-true n span.1 bounds.1))
+    (λ other. span_of spans test n parts.1 other)
+
+reads : (p : Pattern) (test : ℕ → ℕ → Bool) (least most before : ℕ) → all_spans test least most p ≡ true → least ≤ before → before ≤ most → (cs : List ℕ) → Matches in_turtle p cs → Reads test before cs
+reads (one set) test least most before h low high cs m =
+    let parts = and_parts (is_among digit_sets set) (list_all (λ span. test (least * 16 + span.0) (most * 16 + span.1)) (values set)) h in
+    let valued = passes_among is_valued digit_sets set all_valued parts.0 in
+    let v = span_of (values set) (λ span. test (least * 16 + span.0) (most * 16 + span.1)) (hex_value m.0) parts.1 (value_in (slice_index_or turtle_grammar.sets set (of_ranges [])) (values set) m.0 valued m.1) in
+    let up = v.2 in
+    let down = v.3 in
     record {
-      a = x.first;
-      b = y.first;
-      c = z.first;
-      d = z.matches.0;
-      in_a = x.in_set;
-      in_b = y.in_set;
-      in_c = z.in_set;
-      in_d = z.matches.1;
-      is = three_first x.first y.first z.first cs x.rest y.rest z.rest (z.matches.0 ∷ []) x.is y.is z.is z.matches.2;
+      least = least * 16 + v.0.0;
+      number = before * 16 + hex_value m.0;
+      most = most * 16 + v.0.1;
+      passed = v.1;
+      low = omega arith;
+      high = omega arith;
+      is = λ rest. ap (λ (l : List ℕ). number_from_digits_after 16 before (map hex_value (l ++ rest))) m.2;
     }
+reads (both p q) test least most before h low high cs m =
+    let x = reads p (λ l m. all_spans test l m q) least most before h low high m.0 m.2 in
+    let y = reads q test x.least x.most x.number x.passed x.low x.high m.1 m.3 in
+    record {
+      least = y.least;
+      number = y.number;
+      most = y.most;
+      passed = y.passed;
+      low = y.low;
+      high = y.high;
+      is = λ rest.
+          ap (λ (l : List ℕ). number_from_digits_after 16 before (map hex_value l)) (ap (λ (l : List ℕ). l ++ rest) m.4 ∙ append_assoc m.0 m.1 rest)
+          ∙ x.is (m.1 ++ rest) ∙ y.is rest;
+    }
+reads (either p q) test least most before h low high cs (inl m) =
+    reads p test least most before (and_parts (all_spans test least most p) (all_spans test least most q) h).0 low high cs m
+reads (either p q) test least most before h low high cs (inr m) =
+    reads q test least most before (and_parts (all_spans test least most p) (all_spans test least most q) h).1 low high cs m
+reads p test least most before h low high cs m = absurd (cc)
+
+-- code points
+
+-- all numbers between the bounds are characters
+abbrev are_characters : ℕ → ℕ → Bool
+are_characters least most = nat_lt most 0xD800 || (nat_le 0xE000 least && nat_le most 0x10FFFF)
+
+point_is : (least n most : ℕ) → are_characters least most ≡ true → least ≤ n → n ≤ most → character_at n ≡ Some n
+point_is least n most h low high =
+    let e : is_character n ≡ true = grind (arith, nat_tests, h, low, high) in
+    subst (λ (b : Bool). (if b then Some n else None) ≡ Some n) (sym e) refl
 
 -- so many digits write the code point of a character
 record WriteCharacter (count : ℕ) (digits : List ℕ) : Type 0 where
@@ -209,115 +260,14 @@ record WriteCharacter (count : ℕ) (digits : List ℕ) : Type 0 where
   is : character_at (hex_number digits) ≡ Some character
   counted : length digits ≡ count
 
-written : (count n : ℕ) (digits others : List ℕ) → digits ≡ others → length others ≡ count → hex_number others ≡ n → character_at n ≡ Some n → WriteCharacter count digits
-written count n digits others e l h k = record {
-  character = n;
-  is = ap (λ (ds : List ℕ). character_at (hex_number ds)) e ∙ ap (λ (p : ℕ). character_at p) h ∙ k;
-  counted = ap (λ (ds : List ℕ). length ds) e ∙ l;
-}
-
-hex_four : (a b c d : ℕ) → hex_number (a ∷ b ∷ c ∷ d ∷ []) ≡ four (hex_value a) (hex_value b) (hex_value c) (hex_value d)
-hex_four a b c d = ap (λ (v : ℕ). four v (hex_value b) (hex_value c) (hex_value d)) (zero-add (hex_value a))
-
-no_d_first : (cs : List ℕ) → AreFour in_turtle 26 25 25 25 cs → WriteCharacter 4 cs
-unfolding turtle_grammar
-no_d_first cs f =
-    let n = four (hex_value f.a) (hex_value f.b) (hex_value f.c) (hex_value f.d) in
-    let all = λ (k : character_at n ≡ Some n). written 4 n cs (f.a ∷ f.b ∷ f.c ∷ f.d ∷ []) f.is refl (hex_four f.a f.b f.c f.d) k in
-    either_way (nat_lt (hex_value f.a) 13) (nat_le 14 (hex_value f.a)) (not_d f.a f.in_a)
-    (λ low. all (low_point n (four_low (hex_value f.a) (hex_value f.b) (hex_value f.c) (hex_value f.d) (leb-true (suc (hex_value f.a)) 13 low) (hex_small f.b) (hex_small f.c) (hex_small f.d))))
-    (λ high.
-    let both_ends = four_high (hex_value f.a) (hex_value f.b) (hex_value f.c) (hex_value f.d) (leb-true 14 (hex_value f.a) high) (hex_small f.a) (hex_small f.b) (hex_small f.c) (hex_small f.d) in
-    all (high_point n both_ends.0 both_ends.1))
-
-d_first : (cs : List ℕ) → AreFour in_turtle 27 31 25 25 cs → WriteCharacter 4 cs
-unfolding turtle_grammar
-d_first cs f =
-    let n = four 13 (hex_value f.b) (hex_value f.c) (hex_value f.d) in
-    let a : hex_value f.a ≡ 13 = eqb-true (hex_value f.a) 13 (is_d f.a f.in_a) in
-    let number : hex_number (f.a ∷ f.b ∷ f.c ∷ f.d ∷ []) ≡ n = hex_four f.a f.b f.c f.d ∙ ap (λ (v : ℕ). four v (hex_value f.b) (hex_value f.c) (hex_value f.d)) a in
-    written 4 n cs (f.a ∷ f.b ∷ f.c ∷ f.d ∷ []) f.is refl number
-    (low_point n (four_d (hex_value f.b) (hex_value f.c) (hex_value f.d) (leb-true (suc (hex_value f.b)) 8 (to_7 f.b f.in_b)) (hex_small f.c) (hex_small f.d)))
-
-four_written : (cs : List ℕ) → Matches in_turtle character_digits cs → WriteCharacter 4 cs
-four_written cs (inl h) = no_d_first cs (are_four in_turtle 26 25 25 25 cs h)
-four_written cs (inr h) = d_first cs (are_four in_turtle 27 31 25 25 cs h)
-
-zero_value : (z : ℕ) → in_turtle 29 z ≡ true → hex_value z ≡ 0
-unfolding turtle_grammar
-zero_value z h = ap hex_value (only 0x30 z h)
-
-one_value : (z : ℕ) → in_turtle 30 z ≡ true → hex_value z ≡ 1
-unfolding turtle_grammar
-one_value z h = ap hex_value (only 0x31 z h)
-
-behind_zero : (count z : ℕ) (cs rest : List ℕ) → cs ≡ z ∷ rest → in_turtle 29 z ≡ true → WriteCharacter count rest → WriteCharacter (count + 1) cs
-behind_zero count z cs rest e h w = record {
-  character = w.character;
-  is = ap (λ (ds : List ℕ). character_at (hex_number ds)) e
-      ∙ ap (λ (v : ℕ). character_at (number_from_digits_after 16 (0 * 16 + v) (map hex_value rest))) (zero_value z h) ∙ w.is;
-  counted = ap (λ (ds : List ℕ). length ds) e ∙ (let counted = w.counted in omega arith);
-}
-
--- the two digits in front of four, which write 1 to 16
-record LeadDigits (cs : List ℕ) : Type 0 where
-  a : ℕ
-  b : ℕ
-  least : 1 ≤ hex_value a * 16 + hex_value b
-  most : hex_value a * 16 + hex_value b ≤ 16
-  is : cs ≡ a ∷ b ∷ []
-
-lead_digits : (cs : List ℕ) → Matches in_turtle (either (both (one 29) (one 28)) (both (one 30) (one 29))) cs → LeadDigits cs
-unfolding turtle_grammar
-lead_digits cs (inl h) =
-    let x = begins_one in_turtle 29 (one 28) cs h in
-    let zero_is = zero_value x.first x.in_set in
-    let more = leb-true 1 (hex_value x.matches.0) (not_0 x.matches.0 x.matches.1) in
-    let few = hex_small x.matches.0 in
+writes : (p : Pattern) → all_spans are_characters 0 0 p ≡ true → is_sized p ≡ true → (cs : List ℕ) → Matches in_turtle p cs → WriteCharacter (size_of p) cs
+writes p h k cs m =
+    let r = reads p are_characters 0 0 0 h (omega arith) (omega arith) cs m in
     record {
-      a = x.first;
-      b = x.matches.0;
-      least = omega arith;
-      most = omega arith;
-      is = x.is ∙ ap (λ (r : List ℕ). x.first ∷ r) x.matches.2;
+      character = r.number;
+      is = ap (λ (l : List ℕ). character_at (hex_number l)) (sym (append-nil cs)) ∙ ap (λ (n : ℕ). character_at n) (r.is []) ∙ point_is r.least r.number r.most r.passed r.low r.high;
+      counted = sized in_turtle p k cs m;
     }
-lead_digits cs (inr h) =
-    let x = begins_one in_turtle 30 (one 29) cs h in
-    let one_is = one_value x.first x.in_set in
-    let zero_is = zero_value x.matches.0 x.matches.1 in
-    record {
-      a = x.first;
-      b = x.matches.0;
-      least = omega arith;
-      most = omega arith;
-      is = x.is ∙ ap (λ (r : List ℕ). x.first ∷ r) x.matches.2;
-    }
-
-six_written : (cs front back : List ℕ) → cs ≡ front ++ back → LeadDigits front → AreFour in_turtle 25 25 25 25 back → WriteCharacter 6 cs
-six_written cs front back e x f =
-    let lead = hex_value x.a * 16 + hex_value x.b in
-    let n = (((lead * 16 + hex_value f.a) * 16 + hex_value f.b) * 16 + hex_value f.c) * 16 + hex_value f.d in
-    let is : cs ≡ x.a ∷ x.b ∷ f.a ∷ f.b ∷ f.c ∷ f.d ∷ [] = e ∙ ap (λ (l : List ℕ). l ++ back) x.is ∙ ap (λ (l : List ℕ). x.a ∷ x.b ∷ l) f.is in
-    let number : hex_number (x.a ∷ x.b ∷ f.a ∷ f.b ∷ f.c ∷ f.d ∷ []) ≡ n =
-    ap (λ (v : ℕ). ((((v * 16 + hex_value x.b) * 16 + hex_value f.a) * 16 + hex_value f.b) * 16 + hex_value f.c) * 16 + hex_value f.d) (zero-add (hex_value x.a)) in
-    let both_ends = six_high lead (hex_value f.a) (hex_value f.b) (hex_value f.c) (hex_value f.d) x.least x.most (hex_small f.a) (hex_small f.b) (hex_small f.c) (hex_small f.d) in
-    written 6 n cs (x.a ∷ x.b ∷ f.a ∷ f.b ∷ f.c ∷ f.d ∷ []) is refl number (high_point n both_ends.0 both_ends.1)
-
-abbrev six_pattern : Pattern
-six_pattern = either (both (one 29) (both (one 29) character_digits)) (both (either (both (one 29) (one 28)) (both (one 30) (one 29))) (both (one 25) (both (one 25) (both (one 25) (one 25)))))
-
-six_digits : (cs : List ℕ) → Matches in_turtle six_pattern cs → WriteCharacter 6 cs
-six_digits cs (inl h) =
-    let x = begins_one in_turtle 29 (both (one 29) character_digits) cs h in
-    let y = begins_one in_turtle 29 character_digits x.rest x.matches in
-    behind_zero 5 x.first cs x.rest x.is x.in_set (behind_zero 4 y.first x.rest y.rest y.is y.in_set (four_written y.rest y.matches))
-six_digits cs (inr h) = six_written cs h.0 h.1 h.4 (lead_digits h.0 h.2) (are_four in_turtle 25 25 25 25 h.1 h.3)
-
-eight_written : (cs : List ℕ) → Matches in_turtle long_character_digits cs → WriteCharacter 8 cs
-eight_written cs h =
-    let x = begins_one in_turtle 29 (both (one 29) six_pattern) cs h in
-    let y = begins_one in_turtle 29 six_pattern x.rest x.matches in
-    behind_zero 7 x.first cs x.rest x.is x.in_set (behind_zero 6 y.first x.rest y.rest y.is y.in_set (six_digits y.rest y.matches))
 
 -- pieces of strings
 
@@ -347,13 +297,13 @@ echar_text cs x =
 
 uchar_text : (cs rest : List ℕ) (b : ℕ) → cs ≡ b ∷ rest → in_turtle 4 b ≡ true → BeginsOne in_turtle 47 character_digits rest → HasText cs
 uchar_text cs rest b e h x =
-    let digits = four_written x.rest x.matches in
+    let digits = writes character_digits refl refl x.rest x.matches in
     let is : cs ≡ 0x5C ∷ 0x75 ∷ x.rest = e ∙ ap (λ (l : List ℕ). b ∷ l) x.is ∙ ap (λ (u : ℕ). b ∷ u ∷ x.rest) (small_u_is x.first x.in_set) ∙ ap (λ (y : ℕ). y ∷ 0x75 ∷ x.rest) (backslash_is b h) in
     subst HasText (sym is) (piece_text (uchar x.rest) digits.character digits.counted digits.is)
 
 long_uchar_text : (cs rest : List ℕ) (b : ℕ) → cs ≡ b ∷ rest → in_turtle 4 b ≡ true → BeginsOne in_turtle 48 long_character_digits rest → HasText cs
 long_uchar_text cs rest b e h x =
-    let digits = eight_written x.rest x.matches in
+    let digits = writes long_character_digits refl refl x.rest x.matches in
     let is : cs ≡ 0x5C ∷ 0x55 ∷ x.rest = e ∙ ap (λ (l : List ℕ). b ∷ l) x.is ∙ ap (λ (u : ℕ). b ∷ u ∷ x.rest) (capital_u_is x.first x.in_set) ∙ ap (λ (y : ℕ). y ∷ 0x55 ∷ x.rest) (backslash_is b h) in
     subst HasText (sym is) (piece_text (long_uchar x.rest) digits.character digits.counted digits.is)
 
@@ -431,10 +381,8 @@ long_string quote set e f cs h =
     let y = begins_one in_turtle quote (both (one quote) (both (many part) last)) x.rest x.matches in
     let z = begins_one in_turtle quote (both (many part) last) y.rest y.matches in
     let m = z.matches in
-    let v = begins_one in_turtle quote (both (one quote) (one quote)) m.1 m.3 in
-    let w = begins_one in_turtle quote (one quote) v.rest v.matches in
     let is = three_first x.first y.first z.first cs x.rest y.rest z.rest (m.0 ++ m.1) x.is y.is z.is m.4 in
-    let last_length = three_long v.first w.first w.matches.0 m.1 v.rest w.rest v.is w.is w.matches.2 in
+    let last_length = sized in_turtle last refl m.1 m.3 in
     undone_inside 3 cs (x.first ∷ y.first ∷ z.first ∷ []) m.0 m.1 is refl last_length
     (parts_text (Matches in_turtle part) (long_character_text quote set e f) m.2.0 m.0 m.2.1)
 
