@@ -6,7 +6,7 @@ use Rattle.std.proofs.lemmas.Bool.{and_parts, both_ways, eqb-true, false_from_ne
 use Rattle.owl_characters.specs.Iri.{is_among}
 use Rattle.owl_characters.specs.Names.{IsRunOf}
 use Rattle.owl_lexer.specs.Automata.{Knows, Spells, kind_at, run, step_from}
-use Rattle.owl_lexer.specs.GapTests.{check_gaps, check_quiet, class_of, gap_starts, gaps_stay, is_gap_kind, is_in_gap, is_none, is_quiet, is_token_kind, row_is_quiet, row_stays, rows_are_quiet, space_classes, spaces, tokens_are_quiet, tokens_end}
+use Rattle.owl_lexer.specs.GapTests.{check_gaps, check_quiet, class_of, gap_starts, rows_pass, gaps_stay, is_gap_kind, is_in_gap, is_none, is_quiet, is_token_kind, row_is_quiet, row_stays, rows_are_quiet, space_classes, spaces, tokens_are_quiet, tokens_end}
 use Rattle.owl_lexer.specs.HoldingLaws.{run-append, run-none}
 use Rattle.owl_lexer.specs.Languages.{BeginsNoGap, IsCommentText, IsLanguage, IsPrompt, IsLexemeWith}
 use Rattle.owl_lexer.specs.Languages.IsLexemeWith.{token, space, comment}
@@ -53,26 +53,23 @@ pub nothing : (o : Option ℕ) → is_none o ≡ true → o ≡ None
 nothing None h = refl
 nothing (Some n) h = absurd (cc)
 
-cell_stays : (gap : ℕ → Bool) (kinds row : List ℕ) (class : ℕ) → row_stays gap kinds row ≡ true → is_in_gap gap kinds (state_of (get_or row class 255)) ≡ true
-cell_stays gap kinds [] class h = refl
-cell_stays gap kinds (next ∷ row) zero h = (and_parts (is_in_gap gap kinds (state_of next)) (row_stays gap kinds row) h).0
-cell_stays gap kinds (next ∷ row) (suc class) h = cell_stays gap kinds row class (and_parts (is_in_gap gap kinds (state_of next)) (row_stays gap kinds row) h).1
+pub cell_passes : (test : Option ℕ → Bool) → test None ≡ true → (row : List ℕ) (class : ℕ) → list_all (λ next. test (state_of next)) row ≡ true → test (state_of (get_or row class 255)) ≡ true
+cell_passes test n [] class h = n
+cell_passes test n (next ∷ row) zero h = (and_parts (test (state_of next)) (list_all (λ next. test (state_of next)) row) h).0
+cell_passes test n (next ∷ row) (suc class) h = cell_passes test n row class (and_parts (test (state_of next)) (list_all (λ next. test (state_of next)) row) h).1
 
-state_stays : (gap : ℕ → Bool) (all : List ℕ) (rows : List (List ℕ)) (kinds : List ℕ) (state : ℕ) → gaps_stay gap all rows kinds ≡ true → is_gap_kind gap (kind_in kinds state) ≡ true → row_stays gap all (get_or rows state []) ≡ true
-state_stays gap all [] kinds state h g = refl
-state_stays gap all (row ∷ rows) [] state h g = absurd (cc)
-state_stays gap all (row ∷ rows) (kind ∷ kinds) zero h g =
-    implied (is_gap_kind gap (kind_number kind)) (row_stays gap all row) (and_parts (not (is_gap_kind gap (kind_number kind)) || row_stays gap all row) (gaps_stay gap all rows kinds) h).0 g
-state_stays gap all (row ∷ rows) (kind ∷ kinds) (suc state) h g =
-    state_stays gap all rows kinds state (and_parts (not (is_gap_kind gap (kind_number kind)) || row_stays gap all row) (gaps_stay gap all rows kinds) h).1 g
+-- a row whose kind is of some kinds
+pub row_passes : (whole : Option ℕ → Bool) (test : List ℕ → Bool) → whole None ≡ false → test [] ≡ true → (rows : List (List ℕ)) (kinds : List ℕ) (state : ℕ) → rows_pass (λ kind row. not (whole kind) || test row) rows kinds ≡ true → whole (kind_in kinds state) ≡ true → test (get_or rows state []) ≡ true
+row_passes whole test w e [] kinds state h g = e
+row_passes whole test w e (row ∷ rows) [] state h g = absurd (both_ways (whole None) w g)
+row_passes whole test w e (row ∷ rows) (kind ∷ kinds) zero h g =
+    implied (whole (kind_number kind)) (test row) (and_parts (not (whole (kind_number kind)) || test row) (rows_pass (λ kind row. not (whole kind) || test row) rows kinds) h).0 g
+row_passes whole test w e (row ∷ rows) (kind ∷ kinds) (suc state) h g =
+    row_passes whole test w e rows kinds state (and_parts (not (whole (kind_number kind)) || test row) (rows_pass (λ kind row. not (whole kind) || test row) rows kinds) h).1 g
 
 pub state_ends : (gap : ℕ → Bool) (class : ℕ) (rows : List (List ℕ)) (kinds : List ℕ) (state : ℕ) → tokens_end gap class rows kinds ≡ true → is_token_kind gap (kind_in kinds state) ≡ true → step_in rows state class ≡ None
-state_ends gap class [] kinds state h g = refl
-state_ends gap class (row ∷ rows) [] state h g = absurd (cc)
-state_ends gap class (row ∷ rows) (kind ∷ kinds) zero h g =
-    nothing (state_of (get_or row class 255)) (implied (is_token_kind gap (kind_number kind)) (is_none (state_of (get_or row class 255))) (and_parts (not (is_token_kind gap (kind_number kind)) || is_none (state_of (get_or row class 255))) (tokens_end gap class rows kinds) h).0 g)
-state_ends gap class (row ∷ rows) (kind ∷ kinds) (suc state) h g =
-    state_ends gap class rows kinds state (and_parts (not (is_token_kind gap (kind_number kind)) || is_none (state_of (get_or row class 255))) (tokens_end gap class rows kinds) h).1 g
+state_ends gap class rows kinds state h g =
+    nothing (step_in rows state class) (row_passes (is_token_kind gap) (λ row. is_none (state_of (get_or row class 255))) refl refl rows kinds state h g)
 
 -- what the whole test says
 
@@ -99,11 +96,16 @@ run_stays gap table h o [] g = g
 run_stays gap table h None (c ∷ cs) g = run_stays gap table h None cs refl
 run_stays gap table h (Some state) (c ∷ cs) g =
     run_stays gap table h (step_in table.rows state (class_of table c)) cs
-    (cell_stays gap table.kinds (get_or table.rows state []) (class_of table c) (state_stays gap table.kinds table.rows table.kinds state h g))
+    (cell_passes (is_in_gap gap table.kinds) refl (get_or table.rows state []) (class_of table c)
+    (row_passes (is_gap_kind gap) (row_stays gap table.kinds) refl refl table.rows table.kinds state h g))
 
 gap_is_whole : (gap : ℕ → Bool) (table : Table) (o : Option ℕ) (kind : ℕ) → is_in_gap gap table.kinds o ≡ true → kind_at (automaton_of table) o ≡ Some kind → gap kind ≡ true
 gap_is_whole gap table None kind g e = absurd (cc)
 gap_is_whole gap table (Some state) kind g e = ap (is_gap_kind gap) (sym e) ∙ g
+
+starts : (c : ℕ) → (is_space c ≡ true) ⊎ (is_comment_start c ≡ true) → is_among gap_starts c ≡ true
+starts c (inl h) = or_right (35 == c) (is_space c) h
+starts c (inr h) = elim (or_cases (35 == c) false h) [ inl same ↦ or_left (35 == c) (is_space c) same | inr none ↦ absurd (cc) ]
 
 -- a lexeme that begins as a gap does is one
 starts_gap : (gap : ℕ → Bool) (table : Table) → Passes gap table → (c : ℕ) (cs : List ℕ) (kind : ℕ) → is_among gap_starts c ≡ true → Spells (automaton_of table) kind (c ∷ cs) → gap kind ≡ true
@@ -131,15 +133,9 @@ some_characters table kind (c ∷ cs) h s = omega arith
 begins_no_gap : (gap : ℕ → Bool) (table : Table) → Passes gap table → (kind : ℕ) (cs : List ℕ) → Spells (automaton_of table) kind cs → gap kind ≡ false → BeginsNoGap cs
 begins_no_gap gap table p kind [] s g = tt
 begins_no_gap gap table p kind (c ∷ cs) s g = (
-  false_from_ne_true (is_space c) (λ h. both_ways (gap kind) g (starts_gap gap table p c cs kind (behind c h) s)),
-  false_from_ne_true (is_comment_start c) (λ h. both_ways (gap kind) g (starts_gap gap table p c cs kind (sign c h) s)),
+  false_from_ne_true (is_space c) (λ h. both_ways (gap kind) g (starts_gap gap table p c cs kind (starts c (inl h)) s)),
+  false_from_ne_true (is_comment_start c) (λ h. both_ways (gap kind) g (starts_gap gap table p c cs kind (starts c (inr h)) s)),
 )
-  where
-    behind : (c : ℕ) → is_space c ≡ true → is_among gap_starts c ≡ true
-    behind c h = or_right (35 == c) (is_space c) h
-
-    sign : (c : ℕ) → is_comment_start c ≡ true → is_among gap_starts c ≡ true
-    sign c h = elim (or_cases (35 == c) false h) [ inl same ↦ or_left (35 == c) (is_space c) same | inr none ↦ absurd (cc) ]
 
 pub table_is_language : {T : Type 0} → (gap : ℕ → Bool) (table : Table) (grammar : ℕ → List ℕ → Type 0) (value : ℕ → List ℕ → Option T) (spells : T → List ℕ → Type 0) → Knows (automaton_of table) grammar → check_gaps gap table ≡ true → Stand grammar gap value spells → IsLanguage (automaton_of table) value spells
 table_is_language {T} gap table grammar value spells knows h s =
@@ -186,11 +182,6 @@ token_there gap loud first (kind ∷ kinds) (suc place) h t =
     let here = and_parts (not (is_token_kind gap (kind_number kind)) || not (is_among loud first)) (tokens_are_quiet gap loud (first + 1) kinds) h in
     ap (is_among loud) (omega arith) ∙ token_there gap loud (first + 1) kinds place here.1 t
 
-cell_is_quiet : (loud row : List ℕ) (class : ℕ) → list_all (λ next. is_quiet loud (state_of next)) row ≡ true → is_quiet loud (state_of (get_or row class 255)) ≡ true
-cell_is_quiet loud [] class h = refl
-cell_is_quiet loud (next ∷ row) zero h = (and_parts (is_quiet loud (state_of next)) (list_all (λ next. is_quiet loud (state_of next)) row) h).0
-cell_is_quiet loud (next ∷ row) (suc class) h = cell_is_quiet loud row class (and_parts (is_quiet loud (state_of next)) (list_all (λ next. is_quiet loud (state_of next)) row) h).1
-
 -- what the test of all rows says of a state
 record IsQuietRow (loud : List ℕ) (table : Table) (state : ℕ) : Type 0 where
   on : (c : ℕ) → is_quiet loud (step_in table.rows state (class_of table c)) ≡ true
@@ -203,7 +194,7 @@ quiet_row loud table h state q =
     let none = list_all (λ class. is_none (state_of (get_or row class 255))) (space_classes table) in
     let there = and_parts next none (row_there loud (space_classes table) 0 table.rows state h (ap (is_among loud) (omega arith) ∙ q)) in
     record {
-      on = λ c. cell_is_quiet loud row (class_of table c) there.0;
+      on = λ c. cell_passes (is_quiet loud) refl row (class_of table c) there.0;
       space = λ c s. nothing (state_of (get_or row (class_of table c) 255)) (passes_among (λ d. is_none (state_of (get_or row (class_of table d) 255))) spaces c there.1 s);
     }
 
@@ -243,7 +234,3 @@ table_is_prompt gap loud table grammar value spells knows h q s =
           gap_spells gap table (run a first cs) state e
           (run_stays gap table p.stays first cs (passes_among (λ d. is_in_gap gap table.kinds (step_in table.rows 0 (class_of table d))) gap_starts c p.begins (starts c begins)));
     }
-  where
-    starts : (c : ℕ) → (is_space c ≡ true) ⊎ (is_comment_start c ≡ true) → is_among gap_starts c ≡ true
-    starts c (inl h) = or_right (35 == c) (is_space c) h
-    starts c (inr h) = elim (or_cases (35 == c) false h) [ inl same ↦ or_left (35 == c) (is_space c) same | inr none ↦ absurd (cc) ]

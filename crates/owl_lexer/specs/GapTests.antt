@@ -27,17 +27,19 @@ is_in_gap gap kinds (Some state) = is_gap_kind gap (kind_in kinds state)
 abbrev pub row_stays : (ℕ → Bool) → List ℕ → List ℕ → Bool
 row_stays gap kinds row = list_all (λ next. is_in_gap gap kinds (state_of next)) row
 
+-- each row passes a test with the kind that is whole at its state
+abbrev pub rows_pass : (Option ℕ → List ℕ → Bool) → List (List ℕ) → List ℕ → Bool
+rows_pass test (row ∷ rows) (kind ∷ kinds) = test (kind_number kind) row && rows_pass test rows kinds
+rows_pass test rows kinds = true
+
 -- from a state where a gap is whole, characters lead to such states alone
 abbrev pub gaps_stay : (ℕ → Bool) → List ℕ → List (List ℕ) → List ℕ → Bool
-gaps_stay gap all (row ∷ rows) (kind ∷ kinds) =
-    (not (is_gap_kind gap (kind_number kind)) || row_stays gap all row) && gaps_stay gap all rows kinds
-gaps_stay gap all rows kinds = true
+gaps_stay gap all rows kinds = rows_pass (λ kind row. not (is_gap_kind gap kind) || row_stays gap all row) rows kinds
 
 -- from a state where a token is whole, a class leads nowhere
 abbrev pub tokens_end : (ℕ → Bool) → ℕ → List (List ℕ) → List ℕ → Bool
-tokens_end gap class (row ∷ rows) (kind ∷ kinds) =
-    (not (is_token_kind gap (kind_number kind)) || is_none (state_of (slice_index_or row class 255))) && tokens_end gap class rows kinds
-tokens_end gap class rows kinds = true
+tokens_end gap class rows kinds =
+    rows_pass (λ kind row. not (is_token_kind gap kind) || is_none (state_of (slice_index_or row class 255))) rows kinds
 
 -- space, tab, line feed and carriage return
 abbrev pub spaces : List ℕ

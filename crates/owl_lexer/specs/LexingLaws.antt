@@ -27,24 +27,6 @@ pub record AreSplit {T : Type 0} (spells : T → List ℕ → Type 0) (fresh : B
   pub ending : Option LexFault
   pub splits : SplitsBehind spells fresh place bytes tokens ending
 
-pub always_split : {T : Type 0} → (a : Automaton) (value : ℕ → List ℕ → Option T) (spells : T → List ℕ → Type 0) → IsLanguage a value spells → (fresh : Bool) (place : ℕ) (bytes : List ℕ) → AreSplit spells fresh place bytes
-always_split a value spells l true place bytes =
-    let d = decode bytes in
-    let it = cut a (mark_size d.characters) (behind_mark d.characters) d.tail in
-    record {
-      tokens = tokens_of value it.lexemes;
-      ending = it.ending;
-      splits = record { characters = d.characters; tail = d.tail; decodes = d.decodes; splits = lexemes_are_tokens a value spells l (mark_size d.characters) (behind_mark d.characters) d.tail it.lexemes it.ending it.cuts };
-    }
-always_split a value spells l false place bytes =
-    let d = decode bytes in
-    let it = cut a place d.characters d.tail in
-    record {
-      tokens = tokens_of value it.lexemes;
-      ending = it.ending;
-      splits = record { characters = d.characters; tail = d.tail; decodes = d.decodes; splits = lexemes_are_tokens a value spells l place d.characters d.tail it.lexemes it.ending it.cuts };
-    }
-
 -- tokens of characters are spelled
 
 from_spelled : {T : Type 0} → (spells : T → List ℕ → Type 0) (place : ℕ) (cs tail : List ℕ) (tokens : List (Placed T)) (e : Option LexFault) → SplitsFrom spells place cs tail tokens e → AreSpelled spells tokens
@@ -118,3 +100,13 @@ lexemes_continue a value spells l begun sound more xs e h =
     (subst (λ (bytes : List ℕ). Decodes bytes (begun.held ++ h.characters) h.tail) (sym (append_assoc (encode_utf8_all begun.held) begun.bytes more))
     (decodes_all begun.held (begun.bytes ++ more) h.characters h.tail sound.scalars h.decodes))
     h.cuts
+
+pub always_split : {T : Type 0} → (a : Automaton) (value : ℕ → List ℕ → Option T) (spells : T → List ℕ → Type 0) → IsLanguage a value spells → (fresh : Bool) (place : ℕ) (bytes : List ℕ) → AreSplit spells fresh place bytes
+always_split a value spells l true place bytes =
+    let begun : BegunBytes = record { at = 0; held = []; bytes = []; fresh = true } in
+    let o = comes a begun bytes in
+    record { tokens = tokens_of value o.lexemes; ending = o.ending; splits = lexemes_continue a value spells l begun (record { scalars = refl; first = λ e. refl }) bytes o.lexemes o.ending o.continues }
+always_split a value spells l false place bytes =
+    let begun : BegunBytes = record { at = place; held = []; bytes = []; fresh = false } in
+    let o = comes a begun bytes in
+    record { tokens = tokens_of value o.lexemes; ending = o.ending; splits = lexemes_continue a value spells l begun (record { scalars = refl; first = λ e. absurd (cc) }) bytes o.lexemes o.ending o.continues }

@@ -1,37 +1,26 @@
 -- Before which characters a token is the longest, by its table.
-use Rattle.std.proofs.Common.{◌≡◌, ℕ, zero, suc, Bool, true, false, not, ◌&&◌, ◌||◌, Option, None, Some, List, [], ◌∷◌, length, get_or, refl, ap, ◌∙◌, arith}
+use Rattle.std.proofs.Common.{◌≡◌, ℕ, Bool, true, false, not, ◌||◌, Option, None, Some, List, [], ◌∷◌, length, get_or, refl, ap, ◌∙◌, arith}
 use Rattle.std.specs.List.{list_all}
-use Rattle.std.proofs.lemmas.Bool.{and_parts, not_from_false}
+use Rattle.std.proofs.lemmas.Bool.{not_from_false}
 use Rattle.owl_lexer.specs.Automata.{kind_at, run}
-use Rattle.owl_lexer.specs.GapTests.{class_of, is_none, is_token_kind, tokens_end}
-use Rattle.owl_lexer.specs.GapTestLaws.{implied, nothing, state_ends}
+use Rattle.owl_lexer.specs.GapTests.{class_of, is_none, is_token_kind, rows_pass, tokens_end}
+use Rattle.owl_lexer.specs.GapTestLaws.{cell_passes, nothing, row_passes, state_ends}
 use Rattle.owl_lexer.specs.Holding.{GoesNowhere, NoneBeyond}
 use Rattle.owl_lexer.specs.HoldingLaws.{no_longer}
 use Rattle.owl_lexer.specs.Languages.{IsLanguage}
 use Rattle.owl_lexer.specs.Splitting.{IsLongest}
-use Rattle.owl_lexer.specs.Tables.{Table, automaton_of, kind_in, kind_number, state_of, step_in}
+use Rattle.owl_lexer.specs.Tables.{Table, automaton_of, kind_in, state_of, step_in}
 
 -- from a state where a lexeme of a kind is whole that doesn't pass the test, no character leads on
 abbrev pub tokens_are_closed : (ℕ → Bool) → List (List ℕ) → List ℕ → Bool
-tokens_are_closed passes (row ∷ rows) (kind ∷ kinds) =
-    (not (is_token_kind passes (kind_number kind)) || list_all (λ next. is_none (state_of next)) row) && tokens_are_closed passes rows kinds
-tokens_are_closed passes rows kinds = true
-
-empty_cell : (row : List ℕ) (class : ℕ) → list_all (λ next. is_none (state_of next)) row ≡ true → state_of (get_or row class 255) ≡ None
-empty_cell [] class h = refl
-empty_cell (next ∷ row) zero h = nothing (state_of next) (and_parts (is_none (state_of next)) (list_all (λ other. is_none (state_of other)) row) h).0
-empty_cell (next ∷ row) (suc class) h = empty_cell row class (and_parts (is_none (state_of next)) (list_all (λ other. is_none (state_of other)) row) h).1
+tokens_are_closed passes rows kinds =
+    rows_pass (λ kind row. not (is_token_kind passes kind) || list_all (λ next. is_none (state_of next)) row) rows kinds
 
 state_is_closed : (passes : ℕ → Bool) (rows : List (List ℕ)) (kinds : List ℕ) (state class : ℕ) → tokens_are_closed passes rows kinds ≡ true → is_token_kind passes (kind_in kinds state) ≡ true → step_in rows state class ≡ None
-state_is_closed passes [] kinds state class h whole = refl
-state_is_closed passes (row ∷ rows) [] state class h whole = absurd (cc)
-state_is_closed passes (row ∷ rows) (kind ∷ kinds) zero class h whole =
-    let all = list_all (λ next. is_none (state_of next)) row in
-    let is = is_token_kind passes (kind_number kind) in
-    empty_cell row class (implied is all (and_parts (not is || all) (tokens_are_closed passes rows kinds) h).0 whole)
-state_is_closed passes (row ∷ rows) (kind ∷ kinds) (suc state) class h whole =
-    let all = list_all (λ next. is_none (state_of next)) row in
-    state_is_closed passes rows kinds state class (and_parts (not (is_token_kind passes (kind_number kind)) || all) (tokens_are_closed passes rows kinds) h).1 whole
+state_is_closed passes rows kinds state class h whole =
+    nothing (step_in rows state class)
+    (cell_passes is_none refl (get_or rows state []) class
+    (row_passes (is_token_kind passes) (λ row. list_all (λ next. is_none (state_of next)) row) refl refl rows kinds state h whole))
 
 module _ {T : Type 0} (table : Table) (value : ℕ → List ℕ → Option T) (spells : T → List ℕ → Type 0) (language : IsLanguage (automaton_of table) value spells) (passes : ℕ → Bool) where
   none_beyond : (cs : List ℕ) → NoneBeyond (automaton_of table) cs (length cs)
