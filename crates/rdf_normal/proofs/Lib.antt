@@ -7,3 +7,4 @@ pub mod Bare
 pub mod TidyTrees
 pub mod Filling
 pub mod SettleTrees
+pub mod Unchanged

@@ -1,10 +1,12 @@
 -- Steps of loops over numbers of trees.
 use Rattle.std.proofs.Common.{◌≡◌, ◌<◌, ◌≤◌, ◌+◌, ◌-◌, ℕ, zero, suc, Bool, true, false, cond, List, [], ◌∷◌, ◌++◌, length, map, filter, take, get_or, refl, sym, ap, ◌∙◌, subst, arith}
 use Rattle.std.specs.Prelude.{flat_map}
+use Rattle.std.specs.List.{AllByRecursion}
 use Rattle.std.proofs.lemmas.Grind.{flat_map-append}
 use Rattle.std.proofs.lemmas.List.{append-nil, append_assoc, get_or-map, get_or_default, length-map, map-append, take-map}
 use Rattle.std.proofs.lemmas.List.Elements.{filter-append}
 use Rattle.owl_arena.specs.Held.{AreHeld, node_over, tree_at, trees_at}
+use Rattle.owl_list.specs.AscendingLaws.{all_pushed}
 use Rattle.owl_tree.specs.Canonical.{canonical}
 use Rattle.owl_tree.specs.declared.tag.Tag.{Tag}
 use Rattle.owl_tree.specs.Trees.{Tree, kids_in, tag_of}
@@ -138,3 +140,7 @@ spread_turned ts us ids after id new held e k more =
     subst (λ (ns : List ℕ). AreMade ts us ns (trees_at ts ids ++ map canonical (spread t))) (sym more)
     (are_made_at ts us (ids ++ new ∷ []) _ _ (ap (λ (ys : List Tree). trees_at ts ids ++ map canonical ys) (sym one))
     (made_more ts ts us ids (trees_at ts ids) new (canonical (turned t)) (are_made ts ids held) k))
+
+-- what is true of the trees so far is true of one more
+pub all_further : (fact : Tree → Type 0) (ts : List Tree) (all : List ℕ) (i id : ℕ) → i < length all → id ≡ get_or all i id → AllByRecursion fact (trees_at ts (take i all)) → fact (tree_at ts id) → AllByRecursion fact (trees_at ts (take (i + 1) all))
+all_further fact ts all i id l e h k = subst (AllByRecursion fact) (sym (trees_further ts all i id l e)) (all_pushed fact (trees_at ts (take i all)) (tree_at ts id) h k)

@@ -311,7 +311,7 @@ normal_plain o h =
     let p = from_filter (λ v. not (is_about (iri_in o.head.name) v)) (spread_axioms o) t.tree t.inside in
     subst IsPlain t.same (plain_stays tidied tidied_keeps t.tree (all_in IsPlain (spread_axioms o) t.tree spread_ones p.0)))
 
-flat_same : (ts : List Tree) → AllByRecursion IsPlain ts → flat_map spread ts ≡ ts
+pub flat_same : (ts : List Tree) → AllByRecursion IsPlain ts → flat_map spread ts ≡ ts
 flat_same [] h = refl
 flat_same (t ∷ ts) h =
     flat_map-cons spread t ts ∙ ap (λ (us : List Tree). us ++ flat_map spread ts) (plain_spread t h.0) ∙ ap (λ (us : List Tree). t ∷ us) (flat_same ts h.1)
@@ -351,7 +351,7 @@ none_by : (b : Bool) (t : Tree) (us : List Tree) → b ≡ false → us ≡ [] �
 none_by true t us e f = cc
 none_by false t us e f = f
 
-none_pass : (test : Tree → Bool) (ts : List Tree) → AllByRecursion (λ t. test t ≡ false) ts → filter test ts ≡ []
+pub none_pass : (test : Tree → Bool) (ts : List Tree) → AllByRecursion (λ t. test t ≡ false) ts → filter test ts ≡ []
 none_pass test [] h = refl
 none_pass test (t ∷ ts) h = none_by (test t) t (filter test ts) h.0 (none_pass test ts h.1)
 

@@ -9,3 +9,4 @@ pub mod ShapedLaws
 pub mod Results
 pub mod Building
 pub mod NeedlessLaws
+pub mod Staying

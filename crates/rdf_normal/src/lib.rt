@@ -12,6 +12,7 @@ mod needless;
 mod own;
 mod settling;
 mod spreading;
+mod staying;
 mod steps;
 mod tidying;
 
@@ -19,4 +20,5 @@ pub use fault::NormFault;
 pub use laws::{
     declarations_stay, leaves_stay, normal_forms_are_ontologies, normal_forms_stay, what_is_kept,
 };
+pub use staying::is_normal;
 pub use steps::normal;

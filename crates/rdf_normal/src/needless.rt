@@ -53,7 +53,7 @@ fn bare_forms(alloc: Global, arena: &mut Arena, ids: &[ExprId]) -> Result<Vec<Ex
 }
 
 /// Whether the tree is an axiom or annotation that has annotations.
-fn is_annotated(arena: &Arena, id: ExprId) -> bool
+pub fn is_annotated(arena: &Arena, id: ExprId) -> bool
     requires { id < length arena.now.trees }
     ensures { result ≡ is_annotated (tree_at arena.now.trees id) }
 {

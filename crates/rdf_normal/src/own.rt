@@ -48,7 +48,7 @@ pub fn part(
 }
 
 /// Whether the axiom asserts an annotation of what is called so.
-fn is_about(arena: &Arena, name: &Option<Iri>, id: ExprId) -> bool
+pub fn is_about(arena: &Arena, name: &Option<Iri>, id: ExprId) -> bool
     requires { id < length arena.now.trees }
     ensures { result ≡ is_about name.now (tree_at arena.now.trees id) }
 {

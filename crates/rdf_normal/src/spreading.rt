@@ -17,11 +17,11 @@ use std::alloc::Global;
 
 /// The kids of an assertion of an object property.
 #[derive(Clone, Copy)]
-struct Assertion {
-    notes: ExprId,
-    property: ExprId,
-    from: ExprId,
-    to: ExprId,
+pub struct Assertion {
+    pub notes: ExprId,
+    pub property: ExprId,
+    pub from: ExprId,
+    pub to: ExprId,
 }
 
 /// What the axioms become, in canonical form.
@@ -65,7 +65,7 @@ fn spread(
 }
 
 /// Whether the axiom says of three or more that they are equivalent, or the same.
-fn is_paired(arena: &Arena, id: ExprId) -> bool
+pub fn is_paired(arena: &Arena, id: ExprId) -> bool
     requires { id < length arena.now.trees }
     ensures { result ≡ is_paired (tree_at arena.now.trees id) }
 {
@@ -129,7 +129,7 @@ fn turned(alloc: Global, arena: &mut Arena, id: ExprId) -> Result<ExprId, NormFa
 
 /// The kids of the assertion the other way round, where it is one of an inverse
 /// property.
-fn turned_from(arena: &Arena, id: ExprId) -> Option<Assertion>
+pub fn turned_from(arena: &Arena, id: ExprId) -> Option<Assertion>
     requires { id < length arena.now.trees }
     ensures kids { option_map (λ a. trees_at arena.now.trees (numbers_of a)) result
         ≡ turned_from (tree_at arena.now.trees id) }

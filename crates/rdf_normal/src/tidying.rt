@@ -64,7 +64,7 @@ fn tidied(
 }
 
 /// Whether the tree is the annotations of an axiom or annotation.
-fn is_notes(tag: Tag) -> bool
+pub fn is_notes(tag: Tag) -> bool
     ensures { result ≡ is_tag tags.Notes tag }
 {
     tag == Tag::Notes
