@@ -3,11 +3,13 @@
 ghost use Rattle.std.specs.Prelude.{◌≡◌, ◌↔◌, IfSome, IsNone, IsTrue, List, Some, option_map};
 ghost use Rattle.std.specs.Option.{is_some};
 ghost use Rattle.rdf_meaning.specs.Denotation.{literal_leaf};
+ghost use Rattle.owl_kind.specs.Kinds.{Entity};
 ghost use Rattle.rdf_graph.specs.declared.triple.Triple.{Triple};
 ghost use Rattle.rdf_meaning.specs.Nodes.{is_structural, of_subject};
 ghost use Rattle.rdf_faults.specs.Asked.{IsTyped};
 ghost use Rattle.rdf_faults.specs.Faults.{IsUntypedPart};
 ghost use Rattle.rdf_rows.specs.Fits.{CountsWords};
+ghost use Rattle.rdf_asked.specs.Asking.{IsTypedNode};
 ghost use Rattle.rdf_roles.specs.Refusals.{AreNodesFormed, IsFirstUntyped};
 ghost use Rattle.rdf_roles.specs.Tables.{IsTableOf};
 
@@ -31,7 +33,7 @@ pub fn untyped(graph: &Graph, roles: &Roles, kinds: &Kinds) -> Option<usize>
 {
     let mut typed = None;
     for (place, triple) in graph.triples().iter().enumerate() {
-        if !is_of_node(triple, typed) {
+        if may_be_untyped(roles, typed, triple) {
             if is_typed_node(graph, roles, kinds, &triple.subject) {
                 typed = Some(&triple.subject);
             } else if is_untyped(graph, roles, kinds, triple) {
@@ -40,6 +42,16 @@ pub fn untyped(graph: &Graph, roles: &Roles, kinds: &Kinds) -> Option<usize>
         }
     }
     None
+}
+
+/// Whether the triple makes its subject what it is, and this is not the node of which
+/// no triple is untyped.
+fn may_be_untyped(roles: &Roles, typed: Option<&Term>, triple: &Triple) -> bool
+    ensures { (g : List Triple) (k : List Entity) → IsTableOf g roles.now
+        → IfSome typed.entry (λ x. IsTypedNode g k x.now)
+        → IsUntypedPart g k triple.now → IsTrue result }
+{
+    !is_of_node(triple, typed) && is_structural(roles, triple)
 }
 
 /// Whether the triple is one of the node.
