@@ -55,7 +55,7 @@ some_is o a e none = true≢false (sym (ap is_some e) ∙ none)
 none_given : {A : Type 0} (o : Option A) → o ≡ None → IsNone o
 none_given o e = ap is_some e
 
-none_is : {A : Type 0} (o : Option A) → is_some o ≡ false → o ≡ None
+pub none_is : {A : Type 0} (o : Option A) → is_some o ≡ false → o ≡ None
 none_is None e = refl
 none_is (Some a) e = absurd (true≢false e)
 

@@ -1,7 +1,11 @@
 pub mod Steps
 pub mod Holding
-pub mod Passing
 pub mod Scanning
 pub mod Labelling
 pub mod Finding
+pub mod Denoting
+pub mod Below
+pub mod Lengths
+pub mod Forming
+pub mod Passing
 pub mod Knowing

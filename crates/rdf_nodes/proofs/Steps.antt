@@ -1,11 +1,12 @@
 -- The steps by which terms, lists and rows become operands.
-use Rattle.std.specs.Prelude.{◌≡◌, ℕ, true, cond, List, [], ◌∷◌, ◌++◌, Contains, IfOk, IfSome, IsNone, Option, None, Some, option_map, map, get_or, length, ◌<◌}
+use Rattle.std.specs.Prelude.{◌≡◌, ℕ, Bool, true, false, cond, List, [], ◌∷◌, ◌++◌, Contains, IfOk, IfSome, IsNone, Option, None, Some, option_map, map, get_or, length, ◌<◌}
 use Rattle.std.proofs.Common.{refl, ap, sym, subst, append_assoc, append-nil, ◌∙◌}
 use Rattle.std.proofs.Common.{Global}
 use Rattle.std.specs.declared.vec.Vec.{Vec}
 use Rattle.std.specs.declared.result.Result.{Result}
 use Rattle.std.specs.declared.result.Result.TheVariants.{Ok, Err}
-use Rattle.std.proofs.lemmas.Bool.{cond-true}
+use Rattle.std.proofs.lemmas.Bool.{cond-false, cond-true}
+use Rattle.std.proofs.lemmas.Option.{none-some}
 use Rattle.std.proofs.lemmas.List.Elements.{Contains-get_or}
 use Rattle.owl_list.specs.AscendingLaws.{in_map}
 use Rattle.rdf_meaning.specs.declared.row.Row as held
@@ -15,7 +16,7 @@ use Rattle.owl_tree.specs.declared.atom.Atom.TheVariants as atom
 use Rattle.owl_tree.specs.declared.row.Sort.{Sort}
 use Rattle.owl_tree.specs.declared.tag.Tag.{Tag}
 use Rattle.rdf_graph.specs.declared.term.Term.{Term}
-use Rattle.rdf_graph.specs.declared.term.Term.TheVariants.{Iri, Literal}
+use Rattle.rdf_graph.specs.declared.term.Term.TheVariants.{Blank, Iri, Literal}
 use Rattle.rdf_graph.specs.declared.triple.Triple.{Triple}
 use Rattle.rdf_meaning.specs.declared.role.Role.{Role}
 use Rattle.rdf_meaning.specs.declared.role.Role.TheVariants as role
@@ -24,7 +25,8 @@ use Rattle.rdf_meaning.specs.declared.row.Want.{Want}
 use Rattle.rdf_meaning.specs.declared.row.Want.TheVariants.{One, Mark, True}
 use Rattle.rdf_meaning.specs.declared.row.Place.TheVariants.{At}
 use Rattle.rdf_meaning.specs.declared.word.Word.{Word}
-use Rattle.rdf_meaning.specs.Denotation.{facet_pair, facets_of, iri_leaf, named, of_node, select, true_literal}
+use Rattle.rdf_meaning.specs.declared.word.Word.TheVariants as word
+use Rattle.rdf_meaning.specs.Denotation.{Fits, facet_pair, facets_of, iri_leaf, named, of_node, select, true_literal}
 use Rattle.rdf_meaning.specs.KindLaws.{has_kind_is}
 use Rattle.rdf_meaning.specs.Nodes.{is_role, nil_iri, of_subject, role_of}
 use Rattle.rdf_rows.specs.Chosen.{facets, objects_with, the_cell, the_only}
@@ -64,12 +66,48 @@ pub facet_is : (g : List Triple) (x : Term) (t : Triple) → is_role role.Facet 
     cond (is_role role.Facet (role_of g x)) (facet_pair (facets_of g x)) None ≡ facet_pair (t ∷ [])
 facet_is g x t r only = cond-true _ (facet_pair (facets_of g x)) None r ∙ ap facet_pair (facets_are g x ∙ (only_is (facets (of_subject g x)) t).0 only)
 
+no_facet_role : (r : Role) → (r ≡ role.Facet → ⊥) → is_role role.Facet r ≡ false
+no_facet_role role.Facet n = absurd (n refl)
+no_facet_role _ n = refl
+
+-- a node of another role is no facet with its value
+pub no_facet_node : (g : List Triple) (x : Term) → (role_of g x ≡ role.Facet → ⊥) → cond (is_role role.Facet (role_of g x)) (facet_pair (facets_of g x)) None ≡ None
+no_facet_node g x n = cond-false (is_role role.Facet (role_of g x)) (facet_pair (facets_of g x)) None (no_facet_role (role_of g x) n)
+
+-- nor is a term that is no node
+pub no_node : (g : List Triple) (x : Term) → ((label : List ℕ) → x ≡ Blank label → ⊥) → cond (is_role role.Facet (role_of g x)) (facet_pair (facets_of g x)) None ≡ None
+no_node g (Iri iri) n = refl
+no_node g (Blank label) n = absurd (n label refl)
+no_node g (Literal literal) n = refl
+
+no_pair : (ts : List Triple) → None ≡ the_only ts → facet_pair ts ≡ None
+no_pair [] e = refl
+no_pair (t ∷ []) e = absurd (none-some t e)
+no_pair (t ∷ u ∷ more) e = refl
+
+none_either_way : {A : Type 0} (b : Bool) (o : Option A) → o ≡ None → cond b o None ≡ None
+none_either_way true o e = e
+none_either_way false o e = refl
+
+-- nor is a node with no facet, or with more than one
+pub no_only_facet : (g : List Triple) (x : Term) → None ≡ the_only (facets (of_subject g x)) → cond (is_role role.Facet (role_of g x)) (facet_pair (facets_of g x)) None ≡ None
+no_only_facet g x e = none_either_way (is_role role.Facet (role_of g x)) (facet_pair (facets_of g x)) (no_pair (facets_of g x) (e ∙ ap the_only (sym (facets_are g x))))
+
 pub cell_with : {A : Type 0} (now : A → Term) (g : List Triple) (x : Term) (r : Option (A × A)) → option_map (λ c. (now c.0, now c.1)) r ≡ the_cell (of_subject g x) →
     role_of g x ≡ role.List → IfSome r (λ c. IsCellWith g x (now c.0) (now c.1))
 cell_with now g x None e l = tt
 cell_with now g x (Some c) e l =
     let parts = (cell_is (of_subject g x) (now c.0) (now c.1)).0 (sym e) in
     record { list = l; one_first = chosen_is g x _ ∙ parts.0; one_rest = chosen_is g x _ ∙ parts.1 }
+
+pub at_word : (g : List Triple) (x : Term) (p : Part) (w : Word) → p.place ≡ At w → select g (of_node x) p.place ≡ objects_with w (of_subject g x)
+at_word g x p w at = ap (select g (of_node x)) at ∙ chosen_is g x w
+
+pub no_cell_with : {A : Type 0} (now : A → Term) (g : List Triple) (x : Term) (r : Option (A × A)) → option_map (λ c. (now c.0, now c.1)) r ≡ the_cell (of_subject g x) →
+    IsNone r → (first rest : Term) → IsCellWith g x first rest → ⊥
+no_cell_with now g x None e none first rest c =
+    none-some (first, rest) (e ∙ (cell_is (of_subject g x) first rest).1 (sym (chosen_is g x word.First) ∙ c.one_first, sym (chosen_is g x word.Rest) ∙ c.one_rest))
+no_cell_with now g x (Some c) e none first rest is = cc
 
 module _ (g : List Triple) (k : List Entity) (roles : RoleTable) where
   -- the elements so far, and then those of the rest, are those of the list
@@ -100,7 +138,7 @@ module _ (g : List Triple) (k : List Entity) (roles : RoleTable) where
       Gives g k roles y p.want os → StandAt g k roles x p os
   stand_at x p w y os at only gives = record {
     object = y;
-    selected = ap (select g (of_node x)) at ∙ chosen_is g x w ∙ (only_is (objects_with w (of_subject g x)) y).0 only;
+    selected = at_word g x p w at ∙ (only_is (objects_with w (of_subject g x)) y).0 only;
     gives = gives;
   }
 
@@ -112,6 +150,9 @@ module _ (g : List Triple) (k : List Entity) (roles : RoleTable) where
 
   pub is_word_true : (x : Term) (w : Want) (os : List Operand) → w ≡ True → os ≡ [] → x ≡ Literal true_literal → Gives g k roles x w os
   is_word_true x w os e none is = subst (λ v. Gives g k roles x v os) (sym e) (subst (Gives g k roles x True) (sym none) (is_true is))
+
+  pub fits_row : (x : Term) (row : Row) (ts : List Triple) (r : Role) → ts ≡ of_subject g x → r ≡ role_of g x → Fits g (of_node x) row → FitsRow r ts row
+  fits_row x row ts r of of_role f = subst (λ us. FitsRow r us row) (sym of) (subst (λ q. FitsRow q (of_subject g x) row) (sym of_role) ((fits_is g x row).0 f))
 
   pub form_is : (x : Term) (row : Row) (form : Form) (ts : List Triple) (r : Role) → Contains node_rows row → ts ≡ of_subject g x → r ≡ role_of g x → FitsRow r ts row →
       form.tag ≡ row.tag → (found : Option (Vec Operand Global)) → found ≡ Some form.operands → IfSome found (λ os. AreOperands g k roles x row.parts os.items) → IsForm g k roles x form

@@ -4,3 +4,6 @@ pub mod OfSortLaws
 pub mod Numbers
 pub mod Large
 pub mod Nodes
+pub mod Formed
+pub mod ExpressionLaws
+pub mod OrderLaws

@@ -1,5 +1,5 @@
 -- The numbers, in a store, of the trees that operands and nodes stand for.
-use Rattle.std.specs.Prelude.{◌≡◌, ◌<◌, ℕ, List, [], ◌∷◌, Option, Some, length, slice_get}
+use Rattle.std.specs.Prelude.{◌≡◌, ◌<◌, ℕ, List, [], ◌∷◌, Contains, Option, Some, length, slice_get}
 use Rattle.owl_kind.specs.Kinds.{Entity}
 use Rattle.owl_tree.specs.declared.row.Sort.{Sort}
 use Rattle.owl_tree.specs.Trees.{Tree}
@@ -9,12 +9,15 @@ use Rattle.rdf_graph.specs.declared.triple.Triple.{Triple}
 use Rattle.rdf_meaning.specs.declared.row.Want.TheVariants.{One}
 use Rattle.rdf_meaning.specs.Denotation.{Denotes}
 use Rattle.rdf_meaning.specs.Nodes.{role_of}
-use Rattle.rdf_roles.specs.Tables.{RoleTable}
+use Rattle.rdf_nodes.specs.OrderLaws.{AreClosed}
+use Rattle.rdf_roles.specs.Tables.{IsNode, LeadsTo, RoleTable}
 use Rattle.tree_stores.specs.declared.fault.TreeFault.{TreeFault}
 use Rattle.tree_stores.specs.declared.fault.TreeFault.TheVariants.{TooDeep, TooHeavy, Memory}
 use Rattle.tree_stores.specs.Stores.{IsHeld, IsTreeFault, StandFor}
 use Rattle.rdf_nodes.specs.declared.form.Form.{Form}
 use Rattle.rdf_nodes.specs.declared.form.Operand.{Operand}
+use Rattle.rdf_nodes.specs.declared.form.Operand.TheVariants as operand
+use Rattle.rdf_nodes.specs.Large.{HasLargeNumber}
 use Rattle.rdf_nodes.specs.Operands.{AllMean, IsDenotedBy, IsForm, Means, labels, sort_of}
 
 -- no node has a number
@@ -33,6 +36,23 @@ IsKnown g roles ns node = (label : List ℕ) (s : Sort) → slice_get (labels ro
 -- so has each expression
 abbrev pub AreKnown : {N : Type 0} → List Triple → RoleTable → List (Option N) → Type 0
 AreKnown g roles ns = (node : ℕ) → node < length roles.nodes → IsKnown g roles ns node
+
+-- the node that the operand is has a number
+abbrev pub HasItsNumber : {N : Type 0} → List (Option N) → Operand → Type 0
+HasItsNumber ns (operand.Leaf t a) = Unit {0}
+HasItsNumber ns (operand.Facet iri literal) = Unit {0}
+HasItsNumber ns (operand.Node node) = HasOne ns node
+
+-- each number of the term is among these
+abbrev pub IsPassed : List Triple → List ℕ → Term → Type 0
+IsPassed g passed x = (number : ℕ) → IsNode g x number → Contains passed number
+
+-- So are those of the nodes to which the term leads, and those to which these lead, and each of these that is an expression has a number.
+pub record AreKnownBelow {N : Type 0} (g : List Triple) (roles : RoleTable) (ns : List (Option N)) (x : Term) : Type 0 where
+  pub passed : List ℕ
+  pub closed : AreClosed g passed
+  pub below : (y : Term) → LeadsTo g x y → IsPassed g passed y
+  pub known : (node : ℕ) → Contains passed node → IsKnown g roles ns node
 
 module _ (g : List Triple) (k : List Entity) (roles : RoleTable) where
   -- the number stands for what the node denotes
@@ -94,3 +114,20 @@ pub record IsExpression (g : List Triple) (k : List Entity) (roles : RoleTable) 
   pub sort : Sort
   pub gives : sort_of (role_of g x) ≡ Some sort
   pub form : IsForm g k roles x what
+
+-- no cardinality is too large, and each node whose role is that of expressions denotes a tree
+pub record DenoteTrees (g : List Triple) (k : List Entity) : Type 0 where
+  pub small : HasLargeNumber g → ⊥
+  pub trees : (label : List ℕ) (s : Sort) → sort_of (role_of g (Blank label)) ≡ Some s → (t : Tree) × DenotesOwn g k (Blank label) t
+
+-- The node with the number is the next for which one is sought: those below it are known.
+pub record IsNextOf {N : Type 0} (g : List Triple) (roles : RoleTable) (ns : List (Option N)) (node : ℕ) : Type 0 where
+  pub within : node < length roles.nodes
+  pub places : length ns ≡ length roles.nodes
+  pub below : (label : List ℕ) → slice_get (labels roles) node ≡ Some label → AreKnownBelow g roles ns (Blank label)
+
+-- it is known now, and so are those that were known before
+pub record IsPassedIn {N : Type 0} (g : List Triple) (roles : RoleTable) (old new : List (Option N)) (node : ℕ) : Type 0 where
+  pub places : length new ≡ length old
+  pub known : IsKnown g roles new node
+  pub others : (other : ℕ) → IsKnown g roles old other → IsKnown g roles new other

@@ -45,7 +45,7 @@ all_admitted : list_all (λ row. admits_at row.site row.tag) node_rows ≡ true
 unfolding node_rows admits number_of
 all_admitted = refl
 
-admitted : (row : Row) (r : Role) (s : Sort) → Contains node_rows row → row.site ≡ Node r → sort_of r ≡ Some s → admits s row.tag ≡ true
+pub admitted : (row : Row) (r : Role) (s : Sort) → Contains node_rows row → row.site ≡ Node r → sort_of r ≡ Some s → admits s row.tag ≡ true
 admitted row r s m site gives =
     ap (λ o. admits_some o row.tag) (sym gives) ∙ ap (λ t. admits_at t row.tag) (sym site) ∙ passes (λ row. admits_at row.site row.tag) node_rows row all_admitted m
 

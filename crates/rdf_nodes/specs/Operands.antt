@@ -18,7 +18,10 @@ use Rattle.rdf_meaning.specs.declared.row.Want.TheVariants.{One, Many, Mark, Tru
 use Rattle.rdf_meaning.specs.declared.row.Part.{Part}
 use Rattle.rdf_meaning.specs.Nodes.{chosen, nil_iri, role_of}
 use Rattle.rdf_meaning.specs.Rows.{Row, node_rows}
-use Rattle.rdf_meaning.specs.Denotation.{Denotes, Fits, iri_leaf, of_node, select, simple, true_literal}
+use Rattle.rdf_meaning.specs.Denotation.{Denotes, Fits, iri_leaf, number_leaf, of_node, select, simple, true_literal}
+use Rattle.rdf_faults.specs.WantLaws.{is_known}
+use Rattle.rdf_rows.specs.Cardinalities.{cardinality_of}
+use Rattle.rdf_rows.specs.declared.literals.Cardinality.TheVariants.{TooLarge}
 use Rattle.rdf_roles.specs.Tables.{RoleTable}
 use Rattle.rdf_nodes.specs.declared.form.Form.{Form}
 use Rattle.rdf_nodes.specs.declared.form.Operand.{Operand}
@@ -58,6 +61,31 @@ abbrev pub is_told_by_kind : Sort → Bool
 is_told_by_kind sort.Number = false
 is_told_by_kind sort.FacetPair = false
 is_told_by_kind _ = true
+
+-- the term is no cardinality that is too large where one is wanted
+abbrev pub IsSmall : Sort → Term → Type 0
+IsSmall sort.Number x = cardinality_of (number_leaf x) ≡ Some TooLarge → ⊥
+IsSmall _ x = Unit {0}
+
+-- a node's row may want this of the term, and no cardinality is too large
+abbrev pub IsWantedOfNode : Want → Term → Type 0
+IsWantedOfNode (One s) x = (is_known (One s) ≡ true) × IsSmall s x
+IsWantedOfNode (Many s least) x = (is_known (Many s least) ≡ true) × ((y : Term) → IsSmall s y)
+IsWantedOfNode Mark x = Unit {0}
+IsWantedOfNode True x = Unit {0}
+IsWantedOfNode _ x = ⊥
+
+-- the term denotes no trees where this is wanted
+abbrev pub DenotesNone : List Triple → List Entity → Want → Term → Type 0
+DenotesNone g k w x = (ts : List Tree) → Denotes g k x w ts → ⊥
+
+-- trees are denoted at the part of the node
+pub record IsHeldAt (g : List Triple) (k : List Entity) (x : Term) (p : Part) : Type 0 where
+  pub object : Term
+  pub selected : select g (of_node x) p.place ≡ object ∷ []
+  pub wanted : IsWantedOfNode p.want object
+  pub trees : List Tree
+  pub denotes : Denotes g k object p.want trees
 
 abbrev pub IsOwn : List Triple → List Entity → Sort → Term → Operand → Type 0
 IsOwn g k s x o = IsTree (simple g k s x) o

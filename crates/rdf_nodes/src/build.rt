@@ -1,12 +1,13 @@
 //! The numbers of forms in a store of trees.
 
-ghost use Rattle.std.specs.Prelude.{◌≡◌, IfErr, IfOk, IfSome, Some, is_some};
+ghost use Rattle.std.specs.Prelude.{◌≡◌, IfErr, IfOk, IfSome, IsNone, None, Some, is_some};
+ghost use Rattle.std.specs.List.{AllByRecursion};
 ghost use Rattle.owl_tree.specs.Trees.{Tree};
 ghost use Rattle.rdf_graph.specs.declared.term.Term.{Term};
 ghost use Rattle.rdf_graph.specs.declared.term.Term.TheVariants as held;
 ghost use Rattle.rdf_meaning.specs.Nodes.{role_of};
 ghost use Rattle.rdf_roles.specs.Tables.{IsTableOf};
-ghost use Rattle.rdf_nodes.specs.Numbers.{AllStand, AreNumbered, IsDenotedAs, IsExpression, IsNodeFault, StandsFor};
+ghost use Rattle.rdf_nodes.specs.Numbers.{AllStand, AreKnownBelow, AreNumbered, DenoteTrees, HasItsNumber, IsDenotedAs, IsExpression, IsNodeFault, StandsFor};
 ghost use Rattle.rdf_nodes.specs.Operands.{own_tree, sort_of};
 ghost use Rattle.rdf_nodes.specs.declared.form.Operand.TheVariants as operand;
 ghost use Rattle.tree_stores.specs.Stores.{Keeps};
@@ -51,8 +52,9 @@ impl<'a> Source<'a> {
         ids: &[Option<S::Number>],
         operand: &Operand,
     ) -> Result<S::Number, NoMemory>
-        requires { AreNumbered self.now.graph.now self.now.kinds.now self.now.roles.now
+        requires numbered { AreNumbered self.now.graph.now self.now.kinds.now self.now.roles.now
             (S.stands store.old) ids.now }
+        requires known { HasItsNumber ids.now operand.now }
         ensures held { IfOk result (
             StandsFor self.now.graph.now self.now.kinds.now self.now.roles.now
             (S.stands store.new) operand.now) }
@@ -65,10 +67,12 @@ impl<'a> Source<'a> {
                 let facet = facet.copy(self.alloc)?;
                 hold_facet(self.alloc, store, facet, value.copy(self.alloc)?)
             }
-            Operand::Node(number) => match ids.get(*number) {
-                Some(Some(id)) => Ok(*id),
-                Some(None) | None => Err(NoMemory),
-            },
+            Operand::Node(number) => {
+                let Some(Some(id)) = ids.get(*number) else {
+                    unreachable!();
+                };
+                Ok(*id)
+            }
         }
     }
 
@@ -80,8 +84,9 @@ impl<'a> Source<'a> {
         ids: &[Option<S::Number>],
         operands: &[Operand],
     ) -> Result<Vec<S::Number>, NoMemory>
-        requires { AreNumbered self.now.graph.now self.now.kinds.now self.now.roles.now
+        requires numbered { AreNumbered self.now.graph.now self.now.kinds.now self.now.roles.now
             (S.stands store.old) ids.now }
+        requires known { AllByRecursion (HasItsNumber ids.now) operands.now }
         ensures held { IfOk result (λ kids. AllStand self.now.graph.now self.now.kinds.now
             self.now.roles.now (S.stands store.new) operands.now kids.items) }
         ensures kept { Keeps (S.stands store.old) (S.stands store.new) }
@@ -104,8 +109,9 @@ impl<'a> Source<'a> {
         ids: &[Option<S::Number>],
         form: &Form,
     ) -> Result<S::Number, TreeFault>
-        requires { AreNumbered self.now.graph.now self.now.kinds.now self.now.roles.now
+        requires numbered { AreNumbered self.now.graph.now self.now.kinds.now self.now.roles.now
             (S.stands store.old) ids.now }
+        requires known { AllByRecursion (HasItsNumber ids.now) form.now.operands.items }
         ensures held { (x : Term)
             → IsExpression self.now.graph.now self.now.kinds.now self.now.roles.now x form.now →
             IfOk result (IsDenotedAs self.now.graph.now self.now.kinds.now (S.stands store.new)
@@ -128,11 +134,16 @@ impl<'a> Source<'a> {
         label: &Label,
     ) -> Result<Option<S::Number>, TreeFault>
         requires table { IsTableOf self.now.graph.now self.now.roles.now }
+        requires trees { DenoteTrees self.now.graph.now self.now.kinds.now }
         requires numbered { AreNumbered self.now.graph.now self.now.kinds.now self.now.roles.now
             (S.stands store.old) ids.now }
+        requires below { AreKnownBelow self.now.graph.now self.now.roles.now ids.now
+            (held.Blank label.now) }
         ensures held { IfOk result (λ found. IfSome found (
             IsDenotedAs self.now.graph.now self.now.kinds.now (S.stands store.new)
             (held.Blank label.now))) }
+        ensures none { IfOk result (λ found. IsNone found →
+            sort_of (role_of self.now.graph.now (held.Blank label.now)) ≡ None) }
         ensures fault { IfErr result (
             IsNodeFault self.now.graph.now self.now.kinds.now (held.Blank label.now)) }
         ensures kept { Keeps (S.stands store.old) (S.stands store.new) }
@@ -141,7 +152,7 @@ impl<'a> Source<'a> {
             return Ok(None);
         }
         let Some(form) = self.form(label)? else {
-            return Err(TreeFault::Memory);
+            unreachable!();
         };
         match self.tree(store, ids, &form) {
             Ok(id) => Ok(Some(id)),

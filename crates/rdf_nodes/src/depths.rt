@@ -3,7 +3,7 @@
 ghost use Rattle.std.specs.Prelude.{IfOk, IsFalse, IsTrue};
 ghost use Rattle.rdf_meaning.specs.Kinds.{HaveNoClash};
 ghost use Rattle.rdf_roles.specs.Tables.{IsTableOf};
-ghost use Rattle.rdf_nodes.specs.Numbers.{AreShallow, IsSomeNodeFault};
+ghost use Rattle.rdf_nodes.specs.Numbers.{AreShallow, DenoteTrees, IsSomeNodeFault};
 ghost use Rattle.tree_stores.specs.declared.fault.TreeFault.TheVariants.{TooDeep};
 
 use crate::source::Source;
@@ -14,6 +14,7 @@ impl<'a> Source<'a> {
     /// Whether no node denotes a tree of more than 128 levels. Builds no tree.
     pub(crate) fn are_shallow(&self) -> Result<bool, NoMemory>
         requires table { IsTableOf self.now.graph.now self.now.roles.now }
+        requires trees { DenoteTrees self.now.graph.now self.now.kinds.now }
         requires kinds { HaveNoClash self.now.kinds.now }
         ensures shallow { IfOk result (λ shallow. IsTrue shallow →
             AreShallow self.now.graph.now self.now.kinds.now) }

@@ -1,11 +1,15 @@
 //! What the triples of a node make it.
 
-ghost use Rattle.std.specs.Prelude.{◌≡◌, IfOk, IfSome};
+ghost use Rattle.std.specs.Prelude.{◌≡◌, IfOk, IfSome, IsNone};
+ghost use Rattle.std.specs.List.{AllByRecursion};
+ghost use Rattle.owl_tree.specs.Trees.{Tree};
 ghost use Rattle.rdf_graph.specs.declared.term.Term.TheVariants as held;
 ghost use Rattle.rdf_meaning.specs.declared.row.Want.TheVariants.{Many, One};
 ghost use Rattle.rdf_meaning.specs.Nodes.{of_subject, role_of};
 ghost use Rattle.rdf_roles.specs.Tables.{IsTableOf};
-ghost use Rattle.rdf_nodes.specs.Operands.{AreOperands, Gives, IsForm, StandAt};
+ghost use Rattle.rdf_nodes.specs.Large.{HasLargeNumber};
+ghost use Rattle.rdf_nodes.specs.Numbers.{DenotesOwn};
+ghost use Rattle.rdf_nodes.specs.Operands.{AreOperands, DenotesNone, Gives, IsForm, IsHeldAt, IsWantedOfNode, StandAt};
 
 use crate::form::{Form, Operand};
 use crate::source::Source;
@@ -22,9 +26,12 @@ impl<'a> Source<'a> {
     /// something.
     pub fn form(&self, label: &Label) -> Result<Option<Form>, NoMemory>
         requires { IsTableOf self.now.graph.now self.now.roles.now }
-        ensures { IfOk result (λ found. IfSome found (
+        ensures form { IfOk result (λ found. IfSome found (
             IsForm self.now.graph.now self.now.kinds.now self.now.roles.now
             (held.Blank label.now))) }
+        ensures none { (HasLargeNumber self.now.graph.now → ⊥) → (t : Tree)
+            → DenotesOwn self.now.graph.now self.now.kinds.now (held.Blank label.now) t →
+            IfOk result (λ found. IsNone found → ⊥) }
     {
         let node = Term::Blank(label.copy(self.alloc)?);
         self.form_of(&node, self.roles.role(label))
@@ -34,8 +41,11 @@ impl<'a> Source<'a> {
     fn form_of(&self, node: &Term, role: Role) -> Result<Option<Form>, NoMemory>
         requires table { IsTableOf self.now.graph.now self.now.roles.now }
         requires role { role ≡ role_of self.now.graph.now node.now }
-        ensures { IfOk result (λ found. IfSome found (
+        ensures form { IfOk result (λ found. IfSome found (
             IsForm self.now.graph.now self.now.kinds.now self.now.roles.now node.now)) }
+        ensures none { (HasLargeNumber self.now.graph.now → ⊥) → (t : Tree)
+            → DenotesOwn self.now.graph.now self.now.kinds.now node.now t →
+            IfOk result (λ found. IsNone found → ⊥) }
     {
         let triples = self.graph.about(node);
         let words = NodeWords::of(triples);
@@ -61,9 +71,11 @@ impl<'a> Source<'a> {
     ) -> Result<Option<Vec<Operand>>, NoMemory>
         requires table { IsTableOf self.now.graph.now self.now.roles.now }
         requires triples { triples.now ≡ of_subject self.now.graph.now node.now }
-        ensures { IfOk result (λ found. IfSome found (λ operands.
+        ensures operands { IfOk result (λ found. IfSome found (λ operands.
             AreOperands self.now.graph.now self.now.kinds.now self.now.roles.now node.now parts.now
             operands.items)) }
+        ensures none { IfOk result (λ found. IsNone found → AllByRecursion (
+            IsHeldAt self.now.graph.now self.now.kinds.now node.now) parts.now → ⊥) }
     {
         let mut operands = Vec::new(self.alloc);
         let mut rest = parts;
@@ -86,9 +98,11 @@ impl<'a> Source<'a> {
     ) -> Result<Option<Vec<Operand>>, NoMemory>
         requires table { IsTableOf self.now.graph.now self.now.roles.now }
         requires triples { triples.now ≡ of_subject self.now.graph.now node.now }
-        ensures { IfOk result (λ found. IfSome found (λ operands.
+        ensures operands { IfOk result (λ found. IfSome found (λ operands.
             StandAt self.now.graph.now self.now.kinds.now self.now.roles.now node.now part.now
             operands.items)) }
+        ensures none { IfOk result (λ found. IsNone found →
+            IsHeldAt self.now.graph.now self.now.kinds.now node.now part.now → ⊥) }
     {
         let _node = node;
         let Place::At(word) = part.place else {
@@ -103,25 +117,35 @@ impl<'a> Source<'a> {
     /// What the term gives where this is wanted.
     fn given(&self, want: Want, term: &Term) -> Result<Option<Vec<Operand>>, NoMemory>
         requires { IsTableOf self.now.graph.now self.now.roles.now }
-        ensures { IfOk result (λ found. IfSome found (λ operands.
+        ensures operands { IfOk result (λ found. IfSome found (λ operands.
             Gives self.now.graph.now self.now.kinds.now self.now.roles.now term.now want
             operands.items)) }
+        ensures none { IfOk result (λ found. IsNone found → IsWantedOfNode want term.now →
+            DenotesNone self.now.graph.now self.now.kinds.now want term.now) }
     {
         match want {
             Want::One(sort) => self.one(sort, term),
             Want::Many(sort, least) => self.many(sort, least, term),
             Want::Mark => Ok(Some(Vec::new(self.alloc))),
-            Want::True if is_true(term) => Ok(Some(Vec::new(self.alloc))),
-            Want::True | Want::Whole(..) | Want::Keys | Want::Declared(_) => Ok(None),
+            Want::True => {
+                if !is_true(term) {
+                    return Ok(None);
+                }
+                Ok(Some(Vec::new(self.alloc)))
+            }
+            Want::Whole(..) | Want::Keys | Want::Declared(_) => Ok(None),
         }
     }
 
     /// What the term gives where one tree of the sort is wanted.
     fn one(&self, sort: Sort, term: &Term) -> Result<Option<Vec<Operand>>, NoMemory>
         requires { IsTableOf self.now.graph.now self.now.roles.now }
-        ensures { IfOk result (λ found. IfSome found (λ operands.
+        ensures operands { IfOk result (λ found. IfSome found (λ operands.
             Gives self.now.graph.now self.now.kinds.now self.now.roles.now term.now (One sort)
             operands.items)) }
+        ensures none { IfOk result (λ found. IsNone found →
+            IsWantedOfNode (One sort) term.now →
+            DenotesNone self.now.graph.now self.now.kinds.now (One sort) term.now) }
     {
         let Some(operand) = self.operand(sort, term)? else {
             return Ok(None);
@@ -134,13 +158,19 @@ impl<'a> Source<'a> {
     /// What the term gives where a list of so many is wanted.
     fn many(&self, sort: Sort, least: usize, list: &Term) -> Result<Option<Vec<Operand>>, NoMemory>
         requires { IsTableOf self.now.graph.now self.now.roles.now }
-        ensures { IfOk result (λ found. IfSome found (λ operands.
+        ensures operands { IfOk result (λ found. IfSome found (λ operands.
             Gives self.now.graph.now self.now.kinds.now self.now.roles.now list.now
             (Many sort least) operands.items)) }
+        ensures none { IfOk result (λ found. IsNone found →
+            IsWantedOfNode (Many sort least) list.now →
+            DenotesNone self.now.graph.now self.now.kinds.now (Many sort least) list.now) }
     {
-        match self.elements(sort, list)? {
-            Some(elements) if least <= elements.len() => Ok(Some(elements)),
-            _ => Ok(None),
+        let Some(elements) = self.elements(sort, list)? else {
+            return Ok(None);
+        };
+        if elements.len() < least {
+            return Ok(None);
         }
+        Ok(Some(elements))
     }
 }

@@ -6,6 +6,7 @@ mod build;
 mod depths;
 mod fault;
 mod form;
+mod formed;
 mod forms;
 mod large;
 mod laws;

@@ -1,12 +1,14 @@
 //! The elements of lists.
 
 ghost use Rattle.std.specs.Prelude.{◌≡◌, IfOk, IfSome, IsNone, true};
+ghost use Rattle.rdf_graph.specs.declared.term.Term as held;
+ghost use Rattle.rdf_meaning.specs.declared.row.Want.TheVariants.{Many};
 ghost use Rattle.rdf_meaning.specs.Nodes.{role_of};
 ghost use Rattle.rdf_meaning.specs.declared.role.Role.TheVariants as role;
 ghost use Rattle.rdf_faults.specs.Asked.{IsListOf, is_of_sort};
 ghost use Rattle.rdf_roles.specs.Refusals.{AreNodesFormed};
 ghost use Rattle.rdf_roles.specs.Tables.{IsTableOf};
-ghost use Rattle.rdf_nodes.specs.Operands.{AreElements, IsCellWith, is_told_by_kind};
+ghost use Rattle.rdf_nodes.specs.Operands.{AreElements, DenotesNone, IsCellWith, IsWantedOfNode, is_told_by_kind};
 
 use crate::form::Operand;
 use crate::source::Source;
@@ -28,6 +30,9 @@ impl<'a> Source<'a> {
         ensures none { AreNodesFormed self.now.graph.now → is_told_by_kind sort ≡ true →
             IfOk result (λ found. IsNone found → IsListOf self.now.graph.now
             (is_of_sort self.now.graph.now self.now.kinds.now sort) 0 list.now → ⊥) }
+        ensures no_list { IfOk result (λ found. IsNone found →
+            IsWantedOfNode (Many sort 0) list.now →
+            DenotesNone self.now.graph.now self.now.kinds.now (Many sort 0) list.now) }
     {
         let mut operands = Vec::new(self.alloc);
         let mut rest = list;
@@ -55,6 +60,8 @@ impl<'a> Source<'a> {
             IsCellWith self.now.graph.now term.now cell.0.now cell.1.now) }
         ensures none { AreNodesFormed self.now.graph.now → IsNone result →
             role_of self.now.graph.now term.now ≡ role.List → ⊥ }
+        ensures no_cell { IsNone result → (first rest : held.Term) →
+            IsCellWith self.now.graph.now term.now first rest → ⊥ }
     {
         let Term::Blank(label) = term else {
             return None;

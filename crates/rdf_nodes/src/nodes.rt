@@ -60,7 +60,9 @@ impl Nodes {
 ///
 /// In this order: `NumberTooLarge` where a cardinality of a class expression is
 /// 2^64 or more; `TooDeep` where a node stands for a tree of more than 128 levels;
-/// `TooHeavy` where one stands for a tree of more than 2^24 nodes and leaves.
+/// `TooHeavy` where one stands for a tree of more than 2^24 nodes and leaves. Where a
+/// node has the role of an expression and the form of none, this is `Memory`: in a
+/// graph that says an ontology there is no such node.
 pub fn denote(
     alloc: Global,
     graph: &Graph,
@@ -82,6 +84,9 @@ pub fn denote(
     };
     if source.has_large_number() {
         return Err(DenoteFault::NumberTooLarge);
+    }
+    if !source.have_forms()? {
+        return Err(DenoteFault::Memory);
     }
     if !source.are_shallow()? {
         return Err(DenoteFault::TooDeep);

@@ -1,12 +1,11 @@
 //! The numbers of what the nodes denote.
 
-ghost use Rattle.std.specs.Prelude.{IfErr, IfOk, IsTrue, OnOk};
+ghost use Rattle.std.specs.Prelude.{◌≡◌, IfErr, IfOk, OnOk, length};
 ghost use Rattle.rdf_meaning.specs.Kinds.{HaveNoClash};
 ghost use Rattle.rdf_roles.specs.Tables.{IsTableOf};
-ghost use Rattle.rdf_nodes.specs.Numbers.{AreAllHeld, AreKnown, AreNumbered, HaveNone, IsKnown, IsSomeNodeFault};
+ghost use Rattle.rdf_nodes.specs.Numbers.{AreAllHeld, AreKnown, AreNumbered, DenoteTrees, HaveNone, IsNextOf, IsPassedIn, IsSomeNodeFault};
 ghost use Rattle.tree_stores.specs.Stores.{Keeps};
 
-use crate::build::is_expression;
 use crate::source::Source;
 use owl_characters::NoMemory;
 use std::alloc::{AllocError, Global};
@@ -21,28 +20,14 @@ impl<'a> Source<'a> {
     /// where one denotes a tree with more than 2^24 nodes and leaves. The store
     /// keeps the trees that it had, at their numbers, also where this refuses.
     pub fn numbers<S: TreeStore>(&self, store: &mut S) -> Result<Vec<Option<S::Number>>, TreeFault>
-        requires { IsTableOf self.now.graph.now self.now.roles.now }
+        requires table { IsTableOf self.now.graph.now self.now.roles.now }
+        requires trees { DenoteTrees self.now.graph.now self.now.kinds.now }
         ensures numbered { IfOk result (λ ids. AreNumbered self.now.graph.now self.now.kinds.now
             self.now.roles.now (S.stands store.new) ids.items) }
         ensures known { IfOk result (λ ids.
             AreKnown self.now.graph.now self.now.roles.now ids.items) }
         ensures all { OnOk result (HaveNoClash self.now.kinds.now →
             AreAllHeld self.now.graph.now self.now.kinds.now (S.stands store.new)) }
-        ensures fault { IfErr result (IsSomeNodeFault self.now.graph.now self.now.kinds.now) }
-        ensures kept { Keeps (S.stands store.old) (S.stands store.new) }
-    {
-        match self.add_numbers(store) {
-            Ok(ids) if self.are_known(&ids) => Ok(ids),
-            Ok(_) => Err(TreeFault::Memory),
-            Err(fault) => Err(fault),
-        }
-    }
-
-    /// The numbers of the nodes, as they are found one by one.
-    fn add_numbers<S: TreeStore>(&self, store: &mut S) -> Result<Vec<Option<S::Number>>, TreeFault>
-        requires { IsTableOf self.now.graph.now self.now.roles.now }
-        ensures numbered { IfOk result (λ ids. AreNumbered self.now.graph.now self.now.kinds.now
-            self.now.roles.now (S.stands store.new) ids.items) }
         ensures fault { IfErr result (IsSomeNodeFault self.now.graph.now self.now.kinds.now) }
         ensures kept { Keeps (S.stands store.old) (S.stands store.new) }
     {
@@ -66,61 +51,34 @@ impl<'a> Source<'a> {
         number: usize,
     ) -> Result<(), TreeFault>
         requires table { IsTableOf self.now.graph.now self.now.roles.now }
+        requires trees { DenoteTrees self.now.graph.now self.now.kinds.now }
         requires numbered { AreNumbered self.now.graph.now self.now.kinds.now self.now.roles.now
             (S.stands store.old) ids.old.items }
+        requires next { IsNextOf self.now.graph.now self.now.roles.now ids.old.items number }
         ensures numbered { OnOk result (AreNumbered self.now.graph.now self.now.kinds.now
             self.now.roles.now (S.stands store.new) ids.new.items) }
+        ensures known { OnOk result (
+            IsPassedIn self.now.graph.now self.now.roles.now ids.old.items ids.new.items number) }
         ensures fault { IfErr result (IsSomeNodeFault self.now.graph.now self.now.kinds.now) }
         ensures kept { Keeps (S.stands store.old) (S.stands store.new) }
     {
         let Some(label) = self.roles.node(number) else {
-            return Err(TreeFault::Memory);
+            unreachable!();
         };
         match self.denoted(store, ids, label) {
-            Ok(found) if number < ids.len() => {
+            Ok(found) => {
                 ids[number] = found;
                 Ok(())
             }
-            Ok(_) => Err(TreeFault::Memory),
             Err(fault) => Err(fault),
-        }
-    }
-
-    /// Whether each node that is an expression has a number, which is always so.
-    fn are_known<N: Copy>(&self, ids: &[Option<N>]) -> bool
-        requires { IsTableOf self.now.graph.now self.now.roles.now }
-        ensures { IsTrue result → AreKnown self.now.graph.now self.now.roles.now ids.now }
-    {
-        for number in 0..self.roles.len() {
-            if !self.is_known(ids, number) {
-                return false;
-            }
-        }
-        true
-    }
-
-    /// Whether the node with this number, where it is an expression, has a number
-    /// of a tree.
-    fn is_known<N: Copy>(&self, ids: &[Option<N>], number: usize) -> bool
-        requires { IsTableOf self.now.graph.now self.now.roles.now }
-        ensures { IsTrue result → IsKnown self.now.graph.now self.now.roles.now ids.now number }
-    {
-        let Some(label) = self.roles.node(number) else {
-            return false;
-        };
-        if !is_expression(self.roles.role(label)) {
-            return true;
-        }
-        match ids.get(number) {
-            Some(Some(_id)) => true,
-            Some(None) | None => false,
         }
     }
 }
 
 /// So many nodes without a number.
 fn no_numbers<N: Copy>(alloc: Global, nodes: usize) -> Result<Vec<Option<N>>, NoMemory>
-    ensures { IfOk result (λ ids. HaveNone ids.items) }
+    ensures none { IfOk result (λ ids. HaveNone ids.items) }
+    ensures many { IfOk result (λ ids. length ids.items ≡ nodes) }
 {
     let mut ids = Vec::new(alloc);
     for _node in 0..nodes {

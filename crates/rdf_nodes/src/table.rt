@@ -4,7 +4,7 @@ ghost use Rattle.std.specs.Prelude.{◌+◌, ◌<◌, List, IfOk, OnOk, length};
 ghost use Rattle.owl_tree.specs.Trees.{Tree};
 ghost use Rattle.rdf_roles.specs.Tables.{IsTableOf};
 ghost use Rattle.rdf_nodes.specs.Nodes.{HoldNumbers, HoldNumbersUpTo};
-ghost use Rattle.rdf_nodes.specs.Numbers.{AreNumbered};
+ghost use Rattle.rdf_nodes.specs.Numbers.{AreKnown, AreNumbered, IsKnown};
 ghost use Rattle.tree_stores.specs.Stores.{HasNumber};
 
 use crate::build::is_expression;
@@ -17,7 +17,8 @@ use rdf_terms::Label;
 impl<'a> Source<'a> {
     /// The numbers of what the nodes stand for, by their labels.
     pub fn by_label(&self, ids: &[Option<ExprId>]) -> Result<IndexMap<Label, ExprId>, NoMemory>
-        requires { IsTableOf self.now.graph.now self.now.roles.now }
+        requires table { IsTableOf self.now.graph.now self.now.roles.now }
+        requires known { AreKnown self.now.graph.now self.now.roles.now ids.now }
         ensures { (trees : List Tree)
             → AreNumbered self.now.graph.now self.now.kinds.now self.now.roles.now
             (HasNumber trees) ids.now →
@@ -31,8 +32,7 @@ impl<'a> Source<'a> {
         Ok(table)
     }
 
-    /// Adds the node with this number, where it is an expression. An expression
-    /// without a number does not occur.
+    /// Adds the node with this number, where it is an expression.
     fn add_label(
         &self,
         ids: &[Option<ExprId>],
@@ -41,6 +41,7 @@ impl<'a> Source<'a> {
     ) -> Result<(), NoMemory>
         requires table { IsTableOf self.now.graph.now self.now.roles.now }
         requires number { number < length self.now.roles.now.nodes }
+        requires known { IsKnown self.now.graph.now self.now.roles.now ids.now number }
         ensures { (trees : List Tree)
             → AreNumbered self.now.graph.now self.now.kinds.now self.now.roles.now
             (HasNumber trees) ids.now
@@ -56,7 +57,7 @@ impl<'a> Source<'a> {
             return Ok(());
         }
         let Some(Some(id)) = ids.get(number) else {
-            return Err(NoMemory);
+            unreachable!();
         };
         match table.insert(label.copy(self.alloc)?, *id) {
             Ok(_) => Ok(()),

@@ -1,12 +1,14 @@
 //! What a term stands for.
 
 ghost use Rattle.std.specs.Prelude.{◌≡◌, ◌↔◌, ◌∷◌, [], IfOk, IfSome, IsNone, IsTrue, None, Some, cond, true};
+ghost use Rattle.owl_tree.specs.declared.row.Sort.TheVariants.{Number};
 ghost use Rattle.rdf_faults.specs.Asked.{is_of_sort};
 ghost use Rattle.rdf_meaning.specs.declared.role.Role.TheVariants as role;
+ghost use Rattle.rdf_meaning.specs.declared.row.Want.TheVariants.{One};
 ghost use Rattle.rdf_meaning.specs.Denotation.{anonymous, facet_pair, facets_of, literal_leaf, named, named_individual, number_leaf, or_else, plain_iri, simple};
 ghost use Rattle.rdf_meaning.specs.Nodes.{is_role, role_of};
 ghost use Rattle.rdf_roles.specs.Tables.{IsTableOf};
-ghost use Rattle.rdf_nodes.specs.Operands.{IsFound, IsNodeOf, IsOperand, IsOwn, IsTree, is_told_by_kind, sort_of};
+ghost use Rattle.rdf_nodes.specs.Operands.{DenotesNone, IsFound, IsNodeOf, IsOperand, IsOwn, IsSmall, IsTree, IsWantedOfNode, is_told_by_kind, sort_of};
 
 use crate::form::Operand;
 use crate::source::Source;
@@ -25,6 +27,9 @@ impl<'a> Source<'a> {
             IsOperand self.now.graph.now self.now.kinds.now self.now.roles.now sort term.now)) }
         ensures none { IfOk result (λ found. IsNone found → is_told_by_kind sort ≡ true →
             IsTrue (is_of_sort self.now.graph.now self.now.kinds.now sort term.now) → ⊥) }
+        ensures no_tree { IfOk result (λ found. IsNone found →
+            IsWantedOfNode (One sort) term.now →
+            DenotesNone self.now.graph.now self.now.kinds.now (One sort) term.now) }
     {
         match self.number_of(sort, term) {
             Some(number) => Ok(Some(Operand::Node(number))),
@@ -57,7 +62,7 @@ impl<'a> Source<'a> {
         requires { IsTableOf self.now.graph.now self.now.roles.now }
         ensures own { IfOk result (λ found. IfSome found (
             IsOwn self.now.graph.now self.now.kinds.now sort term.now)) }
-        ensures none { IfOk result (λ found. IsNone found → is_told_by_kind sort ≡ true →
+        ensures none { IfOk result (λ found. IsNone found → IsSmall sort term.now →
             simple self.now.graph.now self.now.kinds.now sort term.now ≡ None) }
     {
         match sort {
@@ -182,9 +187,9 @@ impl<'a> Source<'a> {
     /// The facet and its value that the node is.
     fn facet(&self, term: &Term) -> Result<Option<Operand>, NoMemory>
         requires { IsTableOf self.now.graph.now self.now.roles.now }
-        ensures { IfOk result (λ found. IfSome found (
-            IsTree (cond (is_role role.Facet (role_of self.now.graph.now term.now))
-            (facet_pair (facets_of self.now.graph.now term.now)) None))) }
+        ensures { IfOk result (
+            IsFound (cond (is_role role.Facet (role_of self.now.graph.now term.now))
+            (facet_pair (facets_of self.now.graph.now term.now)) None)) }
     {
         let Term::Blank(label) = term else {
             return Ok(None);
@@ -200,7 +205,7 @@ impl<'a> Source<'a> {
 
     /// The facet and its value that the triple names.
     fn facet_of(&self, triple: &Triple) -> Result<Option<Operand>, NoMemory>
-        ensures { IfOk result (λ found. IfSome found (IsTree (facet_pair (triple.now ∷ [])))) }
+        ensures { IfOk result (IsFound (facet_pair (triple.now ∷ []))) }
     {
         match &triple.object {
             Term::Literal(literal) => {
@@ -214,7 +219,8 @@ impl<'a> Source<'a> {
 
 /// The number that the term is, where it fits 64 bits.
 fn number(term: &Term) -> Option<Operand>
-    ensures { IfSome result (IsTree (number_leaf term.now)) }
+    ensures number { IfSome result (IsTree (number_leaf term.now)) }
+    ensures none { IsNone result → IsSmall Number term.now → number_leaf term.now ≡ None }
 {
     match cardinality_of(term)? {
         Cardinality::Number(number) => Some(Operand::Leaf(Tag::Number, Atom::Number(number))),

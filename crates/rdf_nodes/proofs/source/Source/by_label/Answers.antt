@@ -13,5 +13,5 @@ loop-number-init c = λ trees are.
 pub returns : goal.returns
 returns c = λ trees are.
     let all : c.loop-number.number ≡ length c.args.self.now.roles.now.nodes = omega (arith, c.loop-number-test.false, c.loop-number.auto.number-end, c.len-number-end.ensures) in
-    all_numbers_held c.args.self.now.graph.now c.args.self.now.kinds.now c.args.self.now.roles.now trees c.requires c.loop-number.table.entries c.loop-number.number all
+    all_numbers_held c.args.self.now.graph.now c.args.self.now.kinds.now c.args.self.now.roles.now trees c.requires.table c.loop-number.table.entries c.loop-number.number all
     (c.loop-number.invariant trees are)

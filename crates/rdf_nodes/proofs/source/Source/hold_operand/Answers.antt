@@ -18,4 +18,4 @@ returns-in-Some-Some-clause-held g c =
     slice_get_read c.args.ids.now (length c.args.ids.now) c.in-Node.number c.in-Some-Some.field-0.now refl (ltb-true c.in-Node.number (length c.args.ids.now) (sym found.0)) found.1
     ∙ ap Some c.in-Some-Some.field-0-is in
     node_stands c.args.self.now.graph.now c.args.self.now.kinds.now c.args.self.now.roles.now (g.S.TreeStore.stands c.args.store.now) c.args.ids.now c.args.operand.now c.in-Node.number
-    c.in-Some-Some.id c.requires c.in-Node.is at
+    c.in-Some-Some.id c.requires.numbered c.in-Node.is at

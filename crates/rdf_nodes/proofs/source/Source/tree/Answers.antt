@@ -1,8 +1,13 @@
-use Rattle.std.proofs.Common.{subst}
+use Rattle.std.specs.List.{AllByRecursion}
+use Rattle.std.proofs.Common.{subst, sym}
 use Rattle.tree_stores.specs.StoreLaws.{are_standing}
+use Rattle.rdf_nodes.specs.Numbers.{HasItsNumber}
 use Rattle.rdf_nodes.specs.Operands.{AllMean}
 use Rattle.rdf_nodes.proofs.Holding.{tree_denoted, tree_refused}
 use Rattle.rdf_nodes.proofs.source.Source.tree.Goals as goal
+
+pub hold_operands-requires-clause-known : goal.hold_operands-requires-clause-known
+hold_operands-requires-clause-known g c = subst (AllByRecursion (HasItsNumber c.args.ids.now)) (sym c.deref.ensures.value) c.requires.known
 
 pub hold_node-requires : goal.hold_node-requires
 hold_node-requires g c =
