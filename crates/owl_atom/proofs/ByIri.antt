@@ -4,7 +4,7 @@ use Rattle.std.specs.Prelude.{slice_get, map, Contains}
 use Rattle.std.specs.declared.cmp.Ordering.{Ordering}
 use Rattle.std.specs.declared.cmp.Ordering.TheVariants.{Less, Equal, Greater}
 use Rattle.std.specs.Ordering.{nat_cmp, ordering_then}
-use Rattle.std.specs.List.Sorted.{IsStrictlySortedBy}
+use Rattle.std.specs.List.Sorted.{IsPermutation, IsStrictlySortedBy}
 use Rattle.std.specs.Str.{IsCharBoundary, IsUtf8, all_scalars, chars, encode_utf8_all}
 use Rattle.std.specs.FinMap.{IsAntisymmetric, nat_cmp-IsAntisymmetric}
 use Rattle.std.specs.Cmp.{IsTotalOrder}
@@ -14,6 +14,7 @@ use Rattle.std.proofs.lemmas.Option.{get_or_from_slice_get, same_Some, slice_get
 use Rattle.std.proofs.lemmas.Str.{IsCharBoundary-at_seam, IsUtf8-take, encodes-append, encodes-chars}
 use Rattle.owl_characters.specs.Utf8Laws.{scalars_behind}
 use Rattle.std.proofs.lemmas.List.{append_cancel_left}
+use Rattle.std.proofs.lemmas.List.Sorted.{Contains-permutation}
 use Rattle.owl_list.specs.Ascending.{ascending}
 use Rattle.owl_list.specs.AscendingLaws.{ascending_ascends, ascending_holds, in_map, in_none}
 use Rattle.owl_characters.specs.Order.{text_cmp}
@@ -26,7 +27,7 @@ use Rattle.owl_atom.specs.Places.{IsBest, IsBestOf, first, longer}
 use Rattle.owl_atom.specs.Prefixes.{AreAscending, Cuts, IsBetter, IsPlainLocal}
 use Rattle.owl_atom.proofs.LocalParts.{cut_characters}
 use Rattle.owl_atom.proofs.PrefixTables.{ascends}
-use Rattle.owl_atom.proofs.Shortening.{at_or_before, best_of_both, same_fronts, same_sizes}
+use Rattle.owl_atom.proofs.Shortening.{at_or_before, best_of_both, fewer, same_fronts, same_sizes}
 
 -- the order of fronts
 
@@ -67,14 +68,15 @@ pub no_fronts : (prefixes : List Prefix) → AreFronts prefixes 0 []
 no_fronts prefixes front = (λ c. absurd (in_none front c), λ it. absurd (let lt = it.0 in omega arith))
 
 -- what is made of fronts and lengths is an index
-pub index_of : (prefixes : List Prefix) (fronts : List Front) (lengths : List ℕ) (index : ByIri) → AreFronts prefixes (length prefixes) fronts → index.fronts.items ≡ ascending front_cmp fronts → lengths ≡ map size_of prefixes → index.lengths.items ≡ ascending nat_cmp lengths → IsIndex prefixes index
-index_of prefixes fronts lengths index are is_fronts is_lengths is = record {
+pub index_of : (prefixes : List Prefix) (fronts : List Front) (lengths arranged : List ℕ) (index : ByIri) → AreFronts prefixes (length prefixes) fronts → index.fronts.items ≡ ascending front_cmp fronts → lengths ≡ map size_of prefixes → arranged ≡ ascending nat_cmp lengths → IsPermutation arranged index.lengths.items → IsIndex prefixes index
+index_of prefixes fronts lengths arranged index are is_fronts is_lengths is turned = record {
   ascending = subst (IsStrictlySortedBy front_cmp) (sym is_fronts) (ascending_ascends front_cmp fronts_total fronts);
   fronts = subst (AreFronts prefixes (length prefixes)) (sym is_fronts)
       (λ front. (λ c. (are front).0 ((ascending_holds front_cmp fronts_total only_equal_fronts_tie fronts front).0 c), λ it. (ascending_holds front_cmp fronts_total only_equal_fronts_tie fronts front).1 ((are front).1 it)));
-  lengths = λ place prefix stands. subst (λ ns. Contains ns (size_of prefix)) (sym (is ∙ ap (ascending nat_cmp) is_lengths))
+  lengths = λ place prefix stands. Contains-permutation arranged index.lengths.items (size_of prefix) turned
+      (subst (λ ns. Contains ns (size_of prefix)) (sym (is ∙ ap (ascending nat_cmp) is_lengths))
       ((ascending_holds nat_cmp nat_cmp_total nat_cmp-IsAntisymmetric (map size_of prefixes) (size_of prefix)).1
-      (in_map size_of prefixes prefix (place, slice_get_within prefixes place prefix stands, get_or_from_slice_get prefixes place prefix prefix stands)));
+      (in_map size_of prefixes prefix (place, slice_get_within prefixes place prefix stands, get_or_from_slice_get prefixes place prefix prefix stands))));
 }
 
 -- of one length there is no better one than the best so far, unless it is longer
@@ -92,6 +94,19 @@ one_more_length prefixes lengths n iri best cut =
           old.best k other rest (subst (Contains lengths) (ap (λ t. length (encode_utf8_all t)) (sym iris)) old.within) stands cuts
     ])
     best cut
+
+-- of one length there is no better one than a longer one
+pub shorter_length : (prefixes : List Prefix) (lengths : List ℕ) (n : ℕ) (iri : List ℕ) (place begin : ℕ) → n < begin → IsBest prefixes (sized lengths) iri (Some (place, begin)) → IsBest prefixes (sized (lengths ++ n ∷ [])) iri (Some (place, begin))
+shorter_length prefixes lengths n iri place begin lt old = record {
+  prefix = old.prefix;
+  within = Contains-append_left lengths (n ∷ []) (size_of old.prefix) old.within;
+  stands = old.stands;
+  cuts = old.cuts;
+  best = λ k other rest c stands cuts. elim (Contains-push_cases lengths n (size_of other) c) as (λ _. (other ≡ old.prefix) ⊎ IsBetter old.prefix other) [
+    | inl h ↦ old.best k other rest h stands cuts
+    | inr e ↦ let begins = old.cuts.begins in inr (inl (fewer other.iri old.prefix.iri rest old.cuts.local (sym cuts.parts ∙ old.cuts.cuts.parts) (omega arith)))
+  ];
+}
 
 pub no_lengths : (prefixes : List Prefix) (iri : List ℕ) → IsBest prefixes (sized []) iri None
 no_lengths prefixes iri k other c stands local cut = in_none (size_of other) c
@@ -112,12 +127,11 @@ pub all_fronts : (prefixes : List Prefix) (n : ℕ) (fronts : List Front) → n 
 all_fronts prefixes n fronts e are = subst (λ k. AreFronts prefixes k fronts) e are
 
 -- the lengths so far, and one more
-pub next_length : (prefixes : List Prefix) (lengths : List ℕ) (i n : ℕ) (iri : List ℕ) (best cut result : Option (ℕ × ℕ)) → i < length lengths → n ≡ get_or lengths i 0 → result ≡ longer best cut → IsBest prefixes (sized (take i lengths)) iri best → IsBest prefixes (of_size n) iri cut → IsBest prefixes (sized (take (i + 1) lengths)) iri result
-next_length prefixes lengths i n iri best cut result lt is e old new =
+pub next_length : (prefixes : List Prefix) (lengths : List ℕ) (i n : ℕ) (iri : List ℕ) (result : Option (ℕ × ℕ)) → i < length lengths → n ≡ get_or lengths i 0 → IsBest prefixes (sized (take i lengths ++ n ∷ [])) iri result → IsBest prefixes (sized (take (i + 1) lengths)) iri result
+next_length prefixes lengths i n iri result lt is best =
     let next : suc i ≡ i + 1 = omega arith in
     let so_far : take i lengths ++ n ∷ [] ≡ take (i + 1) lengths = ap (λ k. take i lengths ++ k ∷ []) is ∙ sym (take-suc lengths i 0 lt) ∙ ap (λ k. take k lengths) next in
-    subst (IsBest prefixes (sized (take (i + 1) lengths)) iri) (sym e)
-    (subst (λ ns. IsBest prefixes (sized ns) iri (longer best cut)) so_far (one_more_length prefixes (take i lengths) n iri best cut old new))
+    subst (λ ns. IsBest prefixes (sized ns) iri result) so_far best
 
 -- a cut at one byte
 

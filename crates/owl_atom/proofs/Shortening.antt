@@ -26,7 +26,7 @@ rest_less x y xs ys e h = omega (arith, length-append (encode_utf8 x) (encode_ut
 rest_most : (x y : ℕ) (xs ys : List ℕ) → x ≡ y → length (encode_utf8_all (x ∷ xs)) ≤ length (encode_utf8_all (y ∷ ys)) → length (encode_utf8_all xs) ≤ length (encode_utf8_all ys)
 rest_most x y xs ys e h = omega (arith, length-append (encode_utf8 x) (encode_utf8_all xs), length-append (encode_utf8 y) (encode_utf8_all ys), ap (λ c. length (encode_utf8 c)) e)
 
-fewer : (a b c d : List ℕ) → a ++ c ≡ b ++ d → length (encode_utf8_all a) < length (encode_utf8_all b) → length a < length b
+pub fewer : (a b c d : List ℕ) → a ++ c ≡ b ++ d → length (encode_utf8_all a) < length (encode_utf8_all b) → length a < length b
 fewer [] [] c d e h = absurd (omega arith)
 fewer [] (y ∷ b) c d e h = omega arith
 fewer (x ∷ a) [] c d e h = absurd (omega arith)

@@ -1,13 +1,13 @@
 //! Prefixes by their IRIs.
 
-ghost use Rattle.std.specs.Prelude.{◌≡◌, ◌<◌, ◌≤◌, ℕ, List, map, length, slice_get, true, false, Contains, IfOk, IfSome, IsNone, Some};
+ghost use Rattle.std.specs.Prelude.{◌≡◌, ◌<◌, ◌≤◌, ◌++◌, ◌∷◌, [], ℕ, List, map, length, slice_get, true, false, Contains, IfOk, IfSome, IsNone, Some};
 ghost use Rattle.std.specs.Str.{chars};
 ghost use Rattle.std.specs.Ordering.{is_lt};
 ghost use Rattle.std.specs.List.Sorted.{IsPartitionPoint, IsStrictlySortedBy};
 ghost use Rattle.owl_characters.specs.Order.{text_cmp};
 ghost use Rattle.owl_atom.specs.declared.by_iri.Front.{Front};
 ghost use Rattle.owl_atom.specs.declared.prefixes.Prefix.{Prefix};
-ghost use Rattle.owl_atom.specs.ByIri.{AreFronts, IsFirst, IsIndex, front_cmp, of_size, size_of};
+ghost use Rattle.owl_atom.specs.ByIri.{AreFronts, IsFirst, IsIndex, front_cmp, of_size, size_of, sized};
 ghost use Rattle.owl_atom.specs.Places.{IsBest, first};
 ghost use Rattle.owl_atom.specs.Prefixes.{AreAscending};
 
@@ -27,7 +27,7 @@ pub struct Front {
 
 /// The prefixes of a table by their IRIs: all in the order of the IRIs, those
 /// with one IRI in the order of their names, and the lengths of the IRIs in
-/// bytes.
+/// bytes, the greatest first.
 #[derive(Debug, Drop)]
 pub struct ByIri {
     pub fronts: Vec<Front>,
@@ -43,6 +43,7 @@ impl ByIri {
         arrange(&mut fronts);
         let mut lengths = lengths_of(alloc, held)?;
         arrange(&mut lengths);
+        lengths.reverse();
         Ok(ByIri { fronts, lengths })
     }
 
@@ -54,9 +55,27 @@ impl ByIri {
     {
         let mut best = None;
         for length in &self.lengths {
-            best = longer(best, self.cut_at(iri, *length));
+            best = self.better_at(iri, best, *length);
         }
         best
+    }
+
+    /// The better one of a cut and of those at this byte, which are looked for only
+    /// where the cut is not the longer one.
+    fn better_at(
+        &self,
+        iri: &Iri,
+        best: Option<(usize, usize)>,
+        length: usize,
+    ) -> Option<(usize, usize)>
+        requires { IsStrictlySortedBy front_cmp self.now.fronts.items }
+        ensures { (held : List Prefix) (lengths : List ℕ) → AreAscending held → IsIndex held self.now
+            → IsBest held (sized lengths) iri.now best → IsBest held (sized (lengths ++ length ∷ [])) iri.now result }
+    {
+        match best {
+            Some((_, begin)) if length < begin => best,
+            _ => longer(best, self.cut_at(iri, length)),
+        }
     }
 
     /// The best of the prefixes that cut the IRI at this byte.
