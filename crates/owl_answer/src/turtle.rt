@@ -19,7 +19,7 @@ use owl_characters::{NoMemory, Text};
 use owl_command::Status;
 use owl_doc::Doc;
 use owl_tree::Kinds;
-use rdf_forward::{NormFault, can, forward, normal};
+use rdf_forward::{NormFault, can, forward, is_normal, normal};
 use rdf_graph::{Graph, GraphFault};
 use std::alloc::Global;
 use ttl_write::{WriteFault, write};
@@ -70,8 +70,9 @@ fn translate_form(alloc: Global, form: &Doc, absorbed: u64) -> Result<Answer, No
     }
 }
 
-/// What is answered for a document of which a graph can say all.
-fn translate_sayable(alloc: Global, doc: &Doc) -> Result<Answer, NoMemory>
+/// What is answered for a document of which a graph can say all, by its normal
+/// form.
+fn translate_normal(alloc: Global, doc: &Doc) -> Result<Answer, NoMemory>
     ensures { IfOk result (λ answer. IsToldBack (IsGraphTold (said_of doc.now))
         (turtle_form (said_of doc.now)) (outcome_of answer)) }
 {
@@ -80,6 +81,17 @@ fn translate_sayable(alloc: Global, doc: &Doc) -> Result<Answer, NoMemory>
         Err(NormFault::TooHeavy) => refuse_output(alloc, "Weight"),
         Err(NormFault::Memory) => Err(NoMemory),
     }
+}
+
+/// What is answered for a document of which a graph can say all.
+fn translate_sayable(alloc: Global, doc: &Doc) -> Result<Answer, NoMemory>
+    ensures { IfOk result (λ answer. IsToldBack (IsGraphTold (said_of doc.now))
+        (turtle_form (said_of doc.now)) (outcome_of answer)) }
+{
+    if is_normal(doc) {
+        return translate_form(alloc, doc, 0);
+    }
+    translate_normal(alloc, doc)
 }
 
 /// What is answered for a document that is well typed.

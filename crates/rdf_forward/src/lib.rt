@@ -15,5 +15,5 @@ mod statement;
 mod writer;
 
 pub use graph::forward;
-pub use rdf_normal::{NormFault, normal};
+pub use rdf_normal::{NormFault, is_normal, normal};
 pub use rdf_sayable::can;

@@ -1,15 +1,14 @@
-use Rattle.std.proofs.Common.{Err, ap}
+use Rattle.std.proofs.Common.{refl, sym}
 use Rattle.std.proofs.lemmas.Result.{IfOk-weaker}
 use Rattle.owl_documents.specs.Documents.{said_of}
 use Rattle.owl_answer.specs.Answers.{outcome_of}
 use Rattle.owl_answer.specs.declared.answer.Answer.{Answer}
-use Rattle.owl_answer.proofs.Turtles.{heavy_told, light_told}
+use Rattle.owl_answer.proofs.Turtles.{light_told}
 use Rattle.owl_answer.proofs.turtle.translate_sayable.Goals as goal
 
-pub returns-in-Ok : goal.returns-in-Ok
-returns-in-Ok c =
-    IfOk-weaker c.translate_form.result _ _ (λ (a : Answer) h. light_told (said_of c.args.doc.now) c.in-Ok.form c.in-Ok.absorbed (outcome_of a) c.in-Ok.ensures.form c.in-Ok.ensures.prefixes c.in-Ok.ensures.absorbed c.in-Ok.ensures.light h) c.translate_form.ensures
-
-pub returns-in-Err-TooHeavy : goal.returns-in-Err-TooHeavy
-returns-in-Err-TooHeavy c =
-    IfOk-weaker c.refuse_output.result _ _ (λ (a : Answer) e. heavy_told (said_of c.args.doc.now) (outcome_of a) (c.in-Err-TooHeavy.ensures.too_heavy (ap Err c.in-Err-TooHeavy.field-0-is)) e) c.refuse_output.ensures
+pub returns-then-is_normal : goal.returns-then-is_normal
+returns-then-is_normal c =
+    let doc = c.args.doc.now in
+    let is = c.is_normal.ensures in
+    let yes = c.if-is_normal.true in
+    IfOk-weaker c.translate_form.result _ _ (λ (a : Answer) h. light_told (said_of doc) doc 0 (outcome_of a) (sym (is.form yes)) refl (sym (is.absorbed yes)) (is.light yes) h) c.translate_form.ensures
