@@ -1,10 +1,13 @@
 -- The kids of a form get their numbers one by one.
-use Rattle.std.specs.Prelude.{◌≡◌, List, [], ◌∷◌, ◌++◌, Contains, Option, IfErr, IfOk}
+use Rattle.std.specs.Prelude.{◌≡◌, ◌<◌, List, [], ◌∷◌, ◌++◌, Contains, Option, IfErr, IfOk}
+use Rattle.std.specs.List.{AllByRecursion}
 use Rattle.std.specs.declared.vec.Vec.{Vec}
 use Rattle.std.proofs.Common.{Global, refl, ap, sym, subst, append_assoc, append-nil, ◌∙◌}
 use Rattle.std.specs.declared.result.Result.{Result}
 use Rattle.std.specs.declared.result.Result.TheVariants.{Ok, Err}
+use Rattle.std.proofs.lemmas.List.{length-map}
 use Rattle.std.proofs.lemmas.List.Elements.{Contains-append_right}
+use Rattle.std.proofs.lemmas.Option.{slice_get_within}
 use Rattle.owl_list.specs.AscendingLaws.{from_map, in_head, in_tail}
 use Rattle.owl_kind.specs.Kinds.{Entity}
 use Rattle.owl_tree.specs.declared.tag.Tag.{Tag}
@@ -17,8 +20,9 @@ use Rattle.tree_stores.specs.StoreLaws.{keeps_all, keeps_more, stand_still, one_
 use Rattle.tree_stores.specs.declared.fault.TreeFault.{TreeFault}
 use Rattle.rdf_annotations.specs.Annotations.{IsFaultOfSome}
 use Rattle.rdf_nodes.specs.declared.form.Operand.{Operand}
-use Rattle.rdf_nodes.specs.Numbers.{AreNumbered, StandsFor}
-use Rattle.rdf_nodes.specs.Operands.{AllMean}
+use Rattle.rdf_nodes.specs.declared.form.Operand.TheVariants as operand
+use Rattle.rdf_nodes.specs.Numbers.{AreKnown, AreNumbered, HasItsNumber, StandsFor}
+use Rattle.rdf_nodes.specs.Operands.{AllMean, Means, labels}
 use Rattle.rdf_statements.specs.declared.form.AxiomForm.{AxiomForm}
 use Rattle.rdf_statements.specs.declared.form.Kid.{Kid}
 use Rattle.rdf_statements.specs.declared.form.Kid.TheVariants as kid
@@ -55,6 +59,10 @@ module _ (g : List Triple) (k : List Entity) (roles : RoleTable) where
       KidMeans g k roles x (node t (kids_of members))
   group_means x t os members is mean =
       subst (λ y. KidMeans g k roles y (node t (kids_of members))) (sym is) (record { members = members; mean = mean; whole = refl })
+
+  first_has : (x : Kid) (more : List Kid) (ts : List Tree) → AllKidsMean g k roles (x ∷ more) ts → HaveTrees g k roles (x ∷ [])
+  first_has x more [] m = absurd m
+  first_has x more (t ∷ ts) m = record { trees = t ∷ []; mean = (m.0, tt) }
 
   -- the first kids have their numbers
   module _ {N : Type 0} (Old : Tree → N → Type 0) (all : List Kid) where
@@ -106,6 +114,43 @@ module _ (g : List Triple) (k : List Entity) (roles : RoleTable) where
         split g k roles h.done (x ∷ behind) has.trees
         (subst (λ ks. AllKidsMean g k roles ks has.trees) (h.split ∙ ap (λ more. h.done ++ more) first) has.mean) in
         fault_of_some (KidMeans g k roles x) (IsOfKids g k roles all) (next_of_kids Now numbers x rest behind h first s.behind s.rest) f fault
+
+    -- the next kid stands for a tree
+    pub next_has : (Now : Tree → N → Type 0) (numbers : List N) (x : Kid) (rest behind : List Kid) → AreKidsHeld Now numbers rest → rest ≡ x ∷ behind → HaveTrees g k roles all → HaveTrees g k roles (x ∷ [])
+    next_has Now numbers x rest behind h first has =
+        let s =
+        split g k roles h.done (x ∷ behind) has.trees
+        (subst (λ ks. AllKidsMean g k roles ks has.trees) (h.split ∙ ap (λ more. h.done ++ more) first) has.mean) in
+        first_has x behind s.behind s.rest
+
+  -- the nodes that a kid's operands are have numbers
+
+  operand_numbered : {N : Type 0} (ids : List (Option N)) → AreKnown g roles ids → (o : Operand) (t : Tree) → Means g k roles o t → HasItsNumber ids o
+  operand_numbered ids known (operand.Leaf u a) t m = tt
+  operand_numbered ids known (operand.Facet iri literal) t m = tt
+  operand_numbered ids known (operand.Node number) t m =
+      known number (subst (λ n. number < n) (length-map roles.nodes (λ e. e.0)) (slice_get_within (labels roles) number m.label m.at)) m.label m.sort m.at m.gives
+
+  operands_numbered : {N : Type 0} (ids : List (Option N)) → AreKnown g roles ids → (os : List Operand) (ts : List Tree) → AllMean g k roles os ts → AllByRecursion (HasItsNumber ids) os
+  operands_numbered ids known [] ts m = tt
+  operands_numbered ids known (o ∷ os) [] m = absurd m
+  operands_numbered ids known (o ∷ os) (t ∷ ts) m = (operand_numbered ids known o t m.0, operands_numbered ids known os ts m.1)
+
+  only_tree : (x : Kid) (ts : List Tree) → AllKidsMean g k roles (x ∷ []) ts → (t : Tree) × KidMeans g k roles x t
+  only_tree x [] m = absurd m
+  only_tree x (t ∷ ts) m = (t, m.0)
+
+  pub one_numbered : {N : Type 0} (ids : List (Option N)) (x : Kid) (o : Operand) → AreKnown g roles ids → HaveTrees g k roles (x ∷ []) → x ≡ kid.One o → HasItsNumber ids o
+  one_numbered ids x o known has is =
+      let own = only_tree x has.trees has.mean in
+      operand_numbered ids known o own.0 (subst (λ y. KidMeans g k roles y own.0) is own.1)
+
+  pub group_numbered : {N : Type 0} (ids : List (Option N)) (x : Kid) (t : Tag) (os : Vec Operand Global) → AreKnown g roles ids → HaveTrees g k roles (x ∷ []) → x ≡ kid.Group t os →
+      AllByRecursion (HasItsNumber ids) os.items
+  group_numbered ids x t os known has is =
+      let own = only_tree x has.trees has.mean in
+      let group = subst (λ y. KidMeans g k roles y own.0) is own.1 in
+      operands_numbered ids known os.items group.members group.mean
 
   -- the axioms of a form
 

@@ -1,9 +1,9 @@
 //! The axioms of forms in a store.
 
-ghost use Rattle.std.specs.Prelude.{Contains, IfErr, IfOk, List};
+ghost use Rattle.std.specs.Prelude.{◌∷◌, [], Contains, IfErr, IfOk, List};
 ghost use Rattle.owl_tree.specs.Trees.{Tree};
 ghost use Rattle.rdf_annotations.specs.Annotations.{IsFaultOfSome};
-ghost use Rattle.rdf_nodes.specs.Numbers.{AreNumbered};
+ghost use Rattle.rdf_nodes.specs.Numbers.{AreKnown, AreNumbered};
 ghost use Rattle.rdf_statements.specs.Forms.{AllKidsMean, KidMeans};
 ghost use Rattle.rdf_statements.specs.Holding.{FormStands, HaveTrees, IsOfForm, IsOfKids, KidStands, KidsStand};
 ghost use Rattle.tree_stores.specs.Stores.{AreStanding, Keeps, StandFor};
@@ -24,6 +24,7 @@ pub(crate) fn hold_form<S: TreeStore>(
 ) -> Result<Vec<S::Number>, TreeFault>
     requires numbered { AreNumbered source.now.graph.now source.now.kinds.now source.now.roles.now
         (S.stands store.old) ids.now }
+    requires known { AreKnown source.now.graph.now source.now.roles.now ids.now }
     requires trees { HaveTrees source.now.graph.now source.now.kinds.now source.now.roles.now
         form.now.kids.items }
     requires sets { AreStanding (S.stands store.old) sets.now }
@@ -49,6 +50,7 @@ fn hold_kids<S: TreeStore>(
 ) -> Result<Vec<S::Number>, TreeFault>
     requires numbered { AreNumbered source.now.graph.now source.now.kinds.now source.now.roles.now
         (S.stands store.old) ids.now }
+    requires known { AreKnown source.now.graph.now source.now.roles.now ids.now }
     requires trees { HaveTrees source.now.graph.now source.now.kinds.now source.now.roles.now
         kids.now }
     ensures held { IfOk result (λ ns. KidsStand source.now.graph.now source.now.kinds.now
@@ -74,8 +76,11 @@ fn hold_kid<S: TreeStore>(
     ids: &[Option<S::Number>],
     kid: &Kid,
 ) -> Result<S::Number, TreeFault>
-    requires { AreNumbered source.now.graph.now source.now.kinds.now source.now.roles.now
+    requires numbered { AreNumbered source.now.graph.now source.now.kinds.now source.now.roles.now
         (S.stands store.old) ids.now }
+    requires known { AreKnown source.now.graph.now source.now.roles.now ids.now }
+    requires tree { HaveTrees source.now.graph.now source.now.kinds.now source.now.roles.now
+        (kid.now ∷ []) }
     ensures held { IfOk result (KidStands source.now.graph.now source.now.kinds.now
         source.now.roles.now (S.stands store.new) kid.now) }
     ensures fault { IfErr result (IsFaultOfSome (KidMeans source.now.graph.now

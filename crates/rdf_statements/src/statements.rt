@@ -5,6 +5,7 @@ ghost use Rattle.owl_tree.specs.Trees.{Tree};
 ghost use Rattle.rdf_annotations.specs.Annotations.{AreSets, IsFaultOfSome};
 ghost use Rattle.rdf_annotations.specs.Held.{IsAnnotated};
 ghost use Rattle.rdf_meaning.specs.Kinds.{HaveNoClash};
+ghost use Rattle.rdf_nodes.specs.Numbers.{DenoteTrees};
 ghost use Rattle.rdf_scans.specs.Sorts.{IsReading};
 ghost use Rattle.rdf_statements.specs.GraphTrees.{AreStatements, IsHeldWithin, IsTreeOf, StatesAxioms};
 ghost use Rattle.rdf_statements.specs.Holding.{HoldAll, IsKnown, StandForAxioms};
@@ -43,6 +44,7 @@ pub fn hold_statements<S: TreeStore>(
     requires kinds { HaveNoClash reading.now.kinds.now }
     requires axioms { StatesAxioms reading.now.graph.now reading.now.kinds.now
         reading.now.header.now }
+    requires nodes { DenoteTrees reading.now.graph.now reading.now.kinds.now }
     ensures stated { IfOk result (λ said. AreStatements (S.stands store.new)
         reading.now.graph.now reading.now.kinds.now reading.now.header.now
         said.annotations.items said.axioms.items) }
@@ -71,6 +73,8 @@ fn hold_annotated<S: TreeStore>(
     requires kinds { HaveNoClash annotated.now.reading.kinds.now }
     requires axioms { StatesAxioms annotated.now.reading.graph.now
         annotated.now.reading.kinds.now annotated.now.reading.header.now }
+    requires nodes { DenoteTrees annotated.now.reading.graph.now
+        annotated.now.reading.kinds.now }
     ensures all { IfOk result (λ said. HoldAll (S.stands store.new)
         annotated.now.reading.graph.now annotated.now.reading.kinds.now
         annotated.now.reading.header.now said.annotations.items said.axioms.items) }
@@ -92,6 +96,8 @@ fn hold_noted<S: TreeStore>(
     requires kinds { HaveNoClash annotated.now.reading.kinds.now }
     requires axioms { StatesAxioms annotated.now.reading.graph.now
         annotated.now.reading.kinds.now annotated.now.reading.header.now }
+    requires nodes { DenoteTrees annotated.now.reading.graph.now
+        annotated.now.reading.kinds.now }
     requires sets { AreSets (S.stands store.old) annotated.now.reading.graph.now
         annotated.now.reading.kinds.now annotated.now.reading.roles.now
         sets.now.of_nodes.items sets.now.empty }

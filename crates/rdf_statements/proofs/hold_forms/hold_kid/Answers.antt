@@ -1,10 +1,23 @@
-use Rattle.std.proofs.Common.{subst}
+use Rattle.std.specs.List.{AllByRecursion}
+use Rattle.std.proofs.Common.{subst, sym}
 use Rattle.owl_tree.specs.Trees.{kids_of, node}
+use Rattle.rdf_nodes.specs.Numbers.{HasItsNumber}
 use Rattle.rdf_nodes.specs.Operands.{AllMean}
 use Rattle.rdf_statements.specs.Forms.{KidMeans}
 use Rattle.rdf_statements.proofs.Faults.{fault_of_one}
-use Rattle.rdf_statements.proofs.HoldingKids.{err_more, group_means}
+use Rattle.rdf_statements.proofs.HoldingKids.{err_more, group_means, group_numbered, one_numbered}
 use Rattle.rdf_statements.proofs.hold_forms.hold_kid.Goals as goal
+
+pub hold_operand-requires-clause-known : goal.hold_operand-requires-clause-known
+hold_operand-requires-clause-known g c =
+    one_numbered c.args.source.now.graph.now c.args.source.now.kinds.now c.args.source.now.roles.now c.args.ids.now c.args.kid.now c.in-One.operand c.requires.known c.requires.tree
+    c.in-One.is
+
+pub hold_operands-requires-clause-known : goal.hold_operands-requires-clause-known
+hold_operands-requires-clause-known g c =
+    subst (AllByRecursion (HasItsNumber c.args.ids.now)) (sym c.deref.ensures.value)
+    (group_numbered c.args.source.now.graph.now c.args.source.now.kinds.now c.args.source.now.roles.now c.args.ids.now c.args.kid.now c.in-Group.tag c.in-Group.operands c.requires.known
+    c.requires.tree c.in-Group.is)
 
 pub returns-in_ok-members-in-Group-clause-fault : goal.returns-in_ok-members-in-Group-clause-fault
 returns-in_ok-members-in-Group-clause-fault g c =
