@@ -20,7 +20,10 @@ use Rattle.rdf_faults.specs.Faultless.{IsFaultless}
 use Rattle.rdf_faults.specs.Faults.{IsBadCell, IsBadHeader, IsBadNode, IsCyclic, IsMixed, IsOfNothing, IsOrphan, IsReservedTriple, IsUntypedPart, IsUntypedStatement, no_axiom, no_note}
 use Rattle.rdf_faults.specs.Firsts.{HoldsForNone}
 use Rattle.rdf_faults.specs.Formed.{IsFormedAs}
-use Rattle.rdf_faults.specs.MeantLaws.{node_axiom, triple_axiom}
+use Rattle.rdf_faults.specs.MeantLaws.{node_axiom, node_meant, triple_axiom}
+use Rattle.rdf_nodes.specs.ExpressionLaws.{expression_is_part, meant_denotes}
+use Rattle.rdf_nodes.specs.Large.{HasLargeNumber}
+use Rattle.rdf_nodes.specs.Numbers.{DenoteTrees}
 use Rattle.rdf_roles.specs.NodeLaws.{blank_nodes_are}
 use Rattle.rdf_roles.specs.Tables.{blank_nodes}
 use Rattle.rdf_scans.specs.declared.reading.Reading.{Reading}
@@ -137,3 +140,10 @@ module _ (reading : Reading) (clear : IsClear reading) where
         triples = subst (λ x. (t : Triple) → Contains (main_triples g k x) t → HasAxiom g k t) (clear_header o says) (triple_axiom g k o says);
         nodes = node_axiom g k o says;
       }
+
+  pub clear_denotes : (HasLargeNumber g → ⊥) → DenoteTrees g k
+  clear_denotes small = record {
+    small = small;
+    trees = λ label s gives.
+        meant_denotes g k (Blank label) s gives (node_meant g k clear_says.0 clear_says.1 (Blank label) (expression_is_part (role_of g (Blank label)) s gives));
+  }

@@ -1,7 +1,7 @@
 use Rattle.std.proofs.Common.{inl, refl, subst, sym}
 use Rattle.rdf_annotations.specs.Annotations.{IsFaultOfSome}
 use Rattle.rdf_statements.specs.GraphTrees.{IsTreeOf}
-use Rattle.rdf_reverse.specs.Clear.{clear_states}
+use Rattle.rdf_reverse.specs.Clear.{clear_denotes, clear_states}
 use Rattle.rdf_reverse.specs.Reverse.{IsFoundBy, limits}
 use Rattle.rdf_reverse.proofs.Limiting.{deep_tree_found, heavy_found, none_beyond}
 use Rattle.rdf_reverse.proofs.trees.fault_of_heavy.Goals as goal
@@ -9,6 +9,9 @@ use Rattle.rdf_reverse.proofs.trees.fault_of_heavy.Goals.{in-Ok, in-Err-TooDeep,
 
 pub hold_statements-requires-clause-axioms : goal.hold_statements-requires-clause-axioms
 hold_statements-requires-clause-axioms c = clear_states c.args.reading.now c.requires.clear
+
+pub hold_statements-requires-clause-nodes : goal.hold_statements-requires-clause-nodes
+hold_statements-requires-clause-nodes c = clear_denotes c.args.reading.now c.requires.clear c.requires.small
 
 pub returns : goal.returns
 returns c =
