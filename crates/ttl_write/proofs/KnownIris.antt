@@ -12,7 +12,7 @@ use Rattle.owl_characters.specs.IriLaws.{iri_characters, scheme_characters}
 use Rattle.iri_references.specs.References.{before, colon, has_scheme, is_scheme}
 use Rattle.owl_reader.specs.declared.fault.Reason.TheVariants.{BadIri}
 use Rattle.owl_reader.specs.declared.fault.TokenFault.TheVariants.{Defect}
-use Rattle.ttl_tokens.specs.StringLaws.{differs}
+use Rattle.owl_tokens.specs.CharacterLaws.{differs}
 use Rattle.ttl_grammar.specs.States.{against, alone, known_iri}
 
 abbrev is_colon : ℕ → Bool

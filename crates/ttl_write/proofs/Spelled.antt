@@ -15,7 +15,7 @@ use Rattle.owl_lexer.specs.Grammars.{IsLexeme, test_of}
 use Rattle.owl_lexer.specs.PatternLaws.{each_is}
 use Rattle.owl_lexer.specs.Patterns.{Matches, Pattern}
 use Rattle.owl_lexer.specs.Patterns.Pattern.{empty, one, both, either, many}
-use Rattle.owl_tokens.specs.CharacterLaws.{functional_tests, ranges_are}
+use Rattle.owl_tokens.specs.CharacterLaws.{differs, functional_tests, ranges_are}
 use Rattle.owl_tokens.specs.FunctionalGrammar.{functional_grammar}
 use Rattle.owl_tokens.specs.SharedPatterns.{language_tag}
 use Rattle.owl_tokens.specs.TagPatternLaws.{matches_tag}
@@ -26,7 +26,6 @@ use Rattle.ttl_tokens.specs.EscapedText.Piece.{plain, echar}
 use Rattle.ttl_tokens.specs.Escapes.{in_front, string_escape as escape_of, unescaped}
 use Rattle.ttl_tokens.specs.NameLaws.{local_is_read, prefix_is_read}
 use Rattle.ttl_tokens.specs.PatternWithinLaws.{matches_within}
-use Rattle.ttl_tokens.specs.StringLaws.{differs}
 use Rattle.ttl_tokens.specs.TurtleGrammar.{blank_node_label_kind, circumflexes_kind, dot_kind, iriref_kind, langtag, langtag_kind, prefixed_name_kind, string_escape, string_literal_quote_kind, turtle_grammar}
 use Rattle.ttl_tokens.specs.TurtleLaws.{turtle_knows}
 use Rattle.ttl_tokens.specs.TurtleSpellings.{Spells}
