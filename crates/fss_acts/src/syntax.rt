@@ -4,6 +4,7 @@ ghost use Rattle.std.specs.Prelude.{◌≡◌, ◌≢◌, List, IfErr, OnOk};
 ghost use Rattle.grammar.specs.Derivations.{Event};
 ghost use Rattle.owl_reader.specs.Steps.{GoesOn, MayFollow, MayTake};
 ghost use Rattle.owl_reader.specs.declared.fault.TokenFault as token;
+ghost use Rattle.owl_tokens.specs.FunctionalSpellingLaws.{functional_is_prompt};
 ghost use Rattle.owl_tokens.specs.Tokens.{Spells};
 ghost use Rattle.owl_tokens.specs.declared.token.Token as lexeme;
 ghost use Rattle.fss_grammar.specs.Table.{functional};
@@ -68,4 +69,6 @@ impl Syntax for Assembler {
     }
 
     ghost has_document = { has_document };
+
+    ghost is_prompt = { functional_is_prompt };
 }

@@ -191,4 +191,4 @@ none_has_defect split bytes fault p o h (no_token steps lexing splits begin is) 
 pub defect_is_of_none : SplitOneWay → (bytes : List ℕ) (fault : ReadFault) (p : List Prefix) (o : Ontology) → IsFirstDefect bytes fault → ReadsFunctional bytes p o → ⊥
 defect_is_of_none split bytes fault p o (within few defect) h = none_has_defect split bytes fault p o h defect
 defect_is_of_none split bytes fault p o (beyond many defect) h = let few = h.few in omega (arith, many, few)
-defect_is_of_none split bytes fault p o (too_long many is) h = let few = h.few in omega (arith, many, few)
+defect_is_of_none split bytes fault p o (too_long many is none) h = let few = h.few in omega (arith, many, few)

@@ -1,5 +1,5 @@
 -- What is held back: no token in front of white space.
-use Rattle.std.proofs.Common.{◌≡◌, ◌⊎◌, inl, inr, ℕ, ◌+◌, ◌≤◌, ◌<◌, Bool, true, false, Option, None, Some, List, [], ◌∷◌, ◌++◌, length, drop, refl, sym, ap, ◌∙◌, subst, arith}
+use Rattle.std.proofs.Common.{◌≡◌, ◌⊎◌, inl, inr, ℕ, ◌+◌, ◌≤◌, ◌<◌, Bool, true, false, Option, None, Some, List, [], ◌∷◌, ◌++◌, length, map, drop, refl, sym, ap, ◌∙◌, subst, arith}
 use Rattle.std.specs.Prelude.{not}
 use Rattle.std.specs.Char.{encode_utf8}
 use Rattle.std.specs.Str.{all_scalars, encode_utf8_all}
@@ -19,6 +19,8 @@ use Rattle.owl_lexer.specs.Lexing.{HoldsNoEnd, HoldsNone, OneEnds, SplitsBehind}
 use Rattle.owl_lexer.specs.LexingLaws.{all_decoded}
 use Rattle.owl_lexer.specs.Sources.{IsOpen, IsPart, bytes_in}
 use Rattle.owl_lexer.specs.Splitting.{BeginsToken, IsComment, IsGap, OneEndsFrom, SplitsFrom, is_comment_start, is_line_end, is_space}
+use Rattle.owl_lexer.specs.Words.{HoldsOne}
+use Rattle.owl_lexer.specs.WordLaws.{holds_encoded, holds_within}
 use Rattle.owl_lexer.specs.declared.fault.LexFault.{LexFault}
 use Rattle.owl_lexer.specs.declared.placed.Placed.{Placed}
 use Rattle.owl_lexer.specs.declared.source.Source.{Source}
@@ -82,10 +84,13 @@ gap_ends spells value d gap rest c more n e s (inl g) (comment v h) = both_ways 
 gap_ends spells value d gap rest c more n e s (inr g) (comment v h) = comment_line gap rest c more e g.1 h.1
 
 -- what stands in front of white space that is held does not end a gap and a token
-no_token_within : {T : Type 0} → (a : Automaton) (value : ℕ → List ℕ → Option T) (spells : T → List ℕ → Type 0) → IsLanguage a value spells → IsPrompt a spells → (gap spelling rest more : List ℕ) (t : T) (c state : ℕ) → spells t spelling → is_space c ≡ true → IsGap gap (spelling ++ rest) → run a (Some a.start) (gap ++ (spelling ++ (more ++ c ∷ []))) ≡ Some state → ⊥
-no_token_within a value spells l p [] spelling rest more t c state s w g h = let none : None ≡ Some state = sym (p.token t spelling more c s w) ∙ h in cc
-no_token_within a value spells l p (d ∷ gap) [] rest more t c state s w g h = let some : 0 < length {A = ℕ} [] = l.some t [] s in absurd (omega arith)
-no_token_within a value spells l p (d ∷ gap) (x ∷ spelling) rest more t c state s w g h =
+no_token_within : {T : Type 0} → (a : Automaton) (value : ℕ → List ℕ → Option T) (spells : T → List ℕ → Type 0) → IsLanguage a value spells → (words : List (List ℕ)) → IsPrompt a spells words → (gap spelling rest more : List ℕ) (t : T) (c state : ℕ) → spells t spelling → is_space c ≡ true → IsGap gap (spelling ++ rest) → (HoldsOne words (gap ++ (spelling ++ (more ++ c ∷ []))) → ⊥) → run a (Some a.start) (gap ++ (spelling ++ (more ++ c ∷ []))) ≡ Some state → ⊥
+no_token_within a value spells l words p [] spelling rest more t c state s w g n h = elim (p.token t spelling more c s w) [
+  | inl ends ↦ let none : None ≡ Some state = sym ends ∙ h in absurd (cc)
+  | inr holds ↦ n holds
+]
+no_token_within a value spells l words p (d ∷ gap) [] rest more t c state s w g n h = let some : 0 < length {A = ℕ} [] = l.some t [] s in absurd (omega arith)
+no_token_within a value spells l words p (d ∷ gap) (x ∷ spelling) rest more t c state s w g n h =
     let front = d ∷ (gap ++ x ∷ []) in
     let whole : run a (Some a.start) (front ++ (spelling ++ (more ++ c ∷ []))) ≡ Some state =
     ap (λ (l : List ℕ). run a (Some a.start) (d ∷ l)) (append_assoc gap (x ∷ []) (spelling ++ (more ++ c ∷ []))) ∙ h in
@@ -121,8 +126,8 @@ within_front front behind both rest e le = elim (overhang_or_within front both b
       absurd (omega arith)
 ]
 
-first_ends : {T : Type 0} → (a : Automaton) (value : ℕ → List ℕ → Option T) (spells : T → List ℕ → Type 0) → IsLanguage a value spells → IsPrompt a spells → (place : ℕ) (front others : List ℕ) (c state : ℕ) (cs : List ℕ) (first : Placed T) (next : ℕ) (rest : List ℕ) → is_space c ≡ true → run a (Some a.start) (front ++ c ∷ []) ≡ Some state → cs ≡ front ++ c ∷ others → BeginsToken spells place cs first next rest → next ≤ place + size front → ⊥
-first_ends a value spells l p place front others c state cs first next rest w h e b le =
+first_ends : {T : Type 0} → (a : Automaton) (value : ℕ → List ℕ → Option T) (spells : T → List ℕ → Type 0) → IsLanguage a value spells → (words : List (List ℕ)) → IsPrompt a spells words → (place : ℕ) (front others : List ℕ) (c state : ℕ) (cs : List ℕ) (first : Placed T) (next : ℕ) (rest : List ℕ) → is_space c ≡ true → (HoldsOne words (front ++ c ∷ []) → ⊥) → run a (Some a.start) (front ++ c ∷ []) ≡ Some state → cs ≡ front ++ c ∷ others → BeginsToken spells place cs first next rest → next ≤ place + size front → ⊥
+first_ends a value spells l words p place front others c state cs first next rest w n h e b le =
     let at = b.at in
     let ends = b.ends in
     let sizes : size (b.gap ++ b.spelling) ≡ size b.gap + size b.spelling = size_append b.gap b.spelling in
@@ -131,14 +136,14 @@ first_ends a value spells l p place front others c state cs first next rest w h 
     let is : front ++ c ∷ [] ≡ b.gap ++ (b.spelling ++ (within.0 ++ c ∷ [])) =
     ap (λ (l : List ℕ). l ++ c ∷ []) (within.1 ∙ append_assoc b.gap b.spelling within.0)
     ∙ append_assoc b.gap (b.spelling ++ within.0) (c ∷ []) ∙ ap (λ (l : List ℕ). b.gap ++ l) (append_assoc b.spelling within.0 (c ∷ [])) in
-    no_token_within a value spells l p b.gap b.spelling rest within.0 first.token c state b.token w b.is_gap (subst (λ (l : List ℕ). run a (Some a.start) l ≡ Some state) is h)
+    no_token_within a value spells l words p b.gap b.spelling rest within.0 first.token c state b.token w b.is_gap (subst (λ (l : List ℕ). HoldsOne words l → ⊥) is n) (subst (λ (l : List ℕ). run a (Some a.start) l ≡ Some state) is h)
 
-none_ends : {T : Type 0} → (a : Automaton) (value : ℕ → List ℕ → Option T) (spells : T → List ℕ → Type 0) → IsLanguage a value spells → IsPrompt a spells → (place : ℕ) (front others : List ℕ) (c state : ℕ) (cs tail : List ℕ) (tokens : List (Placed T)) (e : Option LexFault) (s : SplitsFrom spells place cs tail tokens e) → is_space c ≡ true → run a (Some a.start) (front ++ c ∷ []) ≡ Some state → cs ≡ front ++ c ∷ others → OneEndsFrom spells place cs tail tokens e s (place + size front) → ⊥
-none_ends a value spells l p place front others c state cs tail [] e s w h is end = end
-none_ends a value spells l p place front others c state cs tail (first ∷ more) e s w h is (inl end) =
-    first_ends a value spells l p place front others c state cs first s.0 s.1 w h is s.2 (omega arith)
-none_ends a value spells l p place front others c state cs tail (first ∷ more) e s w h is (inr end) =
-    first_ends a value spells l p place front others c state cs first s.0 s.1 w h is s.2 (ends_behind spells s.0 s.1 tail more e s.3 (place + size front) end)
+none_ends : {T : Type 0} → (a : Automaton) (value : ℕ → List ℕ → Option T) (spells : T → List ℕ → Type 0) → IsLanguage a value spells → (words : List (List ℕ)) → IsPrompt a spells words → (place : ℕ) (front others : List ℕ) (c state : ℕ) (cs tail : List ℕ) (tokens : List (Placed T)) (e : Option LexFault) (s : SplitsFrom spells place cs tail tokens e) → is_space c ≡ true → (HoldsOne words (front ++ c ∷ []) → ⊥) → run a (Some a.start) (front ++ c ∷ []) ≡ Some state → cs ≡ front ++ c ∷ others → OneEndsFrom spells place cs tail tokens e s (place + size front) → ⊥
+none_ends a value spells l words p place front others c state cs tail [] e s w n h is end = end
+none_ends a value spells l words p place front others c state cs tail (first ∷ more) e s w n h is (inl end) =
+    first_ends a value spells l words p place front others c state cs first s.0 s.1 w n h is s.2 (omega arith)
+none_ends a value spells l words p place front others c state cs tail (first ∷ more) e s w n h is (inr end) =
+    first_ends a value spells l words p place front others c state cs first s.0 s.1 w n h is s.2 (ends_behind spells s.0 s.1 tail more e s.3 (place + size front) end)
 
 -- what is held, and the bytes of a character that is begun
 record IsHeld (a : Automaton) (held bytes : List ℕ) : Type 0 where
@@ -147,21 +152,24 @@ record IsHeld (a : Automaton) (held bytes : List ℕ) : Type 0 where
   scalars : all_scalars held ≡ true
   part : IsPart bytes
 
-none_ends_in : {T : Type 0} → (a : Automaton) (value : ℕ → List ℕ → Option T) (spells : T → List ℕ → Type 0) → IsLanguage a value spells → IsPrompt a spells → (fresh : Bool) (at : ℕ) (held bytes : List ℕ) → IsHeld a held bytes → (fresh ≡ true → held ≡ []) → (more : List ℕ) (tokens : List (Placed T)) (e : Option LexFault) (k : SplitsBehind spells fresh at ((encode_utf8_all held ++ bytes) ++ more) tokens e) (front rest : List ℕ) (c : ℕ) → encode_utf8_all held ++ bytes ≡ encode_utf8_all (front ++ c ∷ []) ++ rest → is_space c ≡ true → OneEnds spells fresh at ((encode_utf8_all held ++ bytes) ++ more) tokens e k (at + size front) → ⊥
-none_ends_in a value spells l p true at held bytes r first more tokens e k front rest c is w end =
+none_ends_in : {T : Type 0} → (a : Automaton) (value : ℕ → List ℕ → Option T) (spells : T → List ℕ → Type 0) → IsLanguage a value spells → (words : List (List ℕ)) → IsPrompt a spells words → (fresh : Bool) (at : ℕ) (held bytes : List ℕ) → IsHeld a held bytes → (fresh ≡ true → held ≡ []) → (HoldsOne (map encode_utf8_all words) (encode_utf8_all held ++ bytes) → ⊥) → (more : List ℕ) (tokens : List (Placed T)) (e : Option LexFault) (k : SplitsBehind spells fresh at ((encode_utf8_all held ++ bytes) ++ more) tokens e) (front rest : List ℕ) (c : ℕ) → encode_utf8_all held ++ bytes ≡ encode_utf8_all (front ++ c ∷ []) ++ rest → is_space c ≡ true → OneEnds spells fresh at ((encode_utf8_all held ++ bytes) ++ more) tokens e k (at + size front) → ⊥
+none_ends_in a value spells l words p true at held bytes r first n more tokens e k front rest c is w end =
     let inside = held_front held (front ++ c ∷ []) bytes rest r.part is in
     let sizes : 0 ≡ length (front ++ c ∷ []) + length inside.0 = ap (λ (l : List ℕ). length l) (sym (first refl) ∙ inside.1) ∙ length-append (front ++ c ∷ []) inside.0 in
     let some = length-append front (c ∷ []) in
     omega arith
-none_ends_in a value spells l p false at held bytes r first more tokens e k front rest c is w end =
+none_ends_in a value spells l words p false at held bytes r first n more tokens e k front rest c is w end =
     let inside = held_front held (front ++ c ∷ []) bytes rest r.part is in
     let d = all_decoded held (bytes ++ more) k.characters k.tail r.scalars (subst (λ (bs : List ℕ). Decodes bs k.characters k.tail) (append_assoc (encode_utf8_all held) bytes more) k.decodes) in
     let runs = front_runs a (front ++ c ∷ []) inside.0 r.state (run a (Some a.start) (front ++ c ∷ [])) refl (ap (run a (Some a.start)) (sym inside.1) ∙ r.leads) in
     let cs : k.characters ≡ front ++ c ∷ (inside.0 ++ d.others) =
     d.is ∙ ap (λ (l : List ℕ). l ++ d.others) inside.1 ∙ append_assoc (front ++ c ∷ []) inside.0 d.others ∙ append_assoc front (c ∷ []) (inside.0 ++ d.others) in
-    none_ends a value spells l p at front (inside.0 ++ d.others) c runs.0 k.characters k.tail tokens e k.splits w runs.1 cs end
+    let none : HoldsOne words (front ++ c ∷ []) → ⊥ = λ o.
+    n (holds_within (map encode_utf8_all words) (encode_utf8_all held ++ bytes) [] (encode_utf8_all held) bytes refl
+    (holds_encoded words held (holds_within words held [] (front ++ c ∷ []) inside.0 inside.1 o))) in
+    none_ends a value spells l words p at front (inside.0 ++ d.others) c runs.0 k.characters k.tail tokens e k.splits w none runs.1 cs end
 
-pub holds_no_end : {T : Type 0} → (a : Automaton) (value : ℕ → List ℕ → Option T) (spells : T → List ℕ → Type 0) → IsLanguage a value spells → (source : Source) → IsOpen a source → IsPrompt a spells → HoldsNoEnd spells (bytes_in source)
-holds_no_end a value spells l source r p more tokens e k front rest c is w end =
-    none_ends_in a value spells l p source.fresh source.hand.at source.hand.held.items source.feed.held
-    (record { state = source.hand.state; leads = r.ready.leads; scalars = r.ready.scalars; part = r.part }) r.first more tokens e k front rest c is w end
+pub holds_no_end : {T : Type 0} → (a : Automaton) (value : ℕ → List ℕ → Option T) (spells : T → List ℕ → Type 0) → IsLanguage a value spells → (source : Source) → IsOpen a source → (words : List (List ℕ)) → IsPrompt a spells words → HoldsNoEnd spells words (bytes_in source)
+holds_no_end a value spells l source r words p n more tokens e k front rest c is w end =
+    none_ends_in a value spells l words p source.fresh source.hand.at source.hand.held.items source.feed.held
+    (record { state = source.hand.state; leads = r.ready.leads; scalars = r.ready.scalars; part = r.part }) r.first n more tokens e k front rest c is w end

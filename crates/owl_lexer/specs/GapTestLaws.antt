@@ -1,17 +1,19 @@
 -- A table that passes the test of gaps is that of a language, where its lexemes say what those of the language do.
-use Rattle.std.proofs.Common.{◌≡◌, ◌↔◌, ◌⊎◌, inl, inr, ℕ, ◌+◌, add-zero, zero, suc, ◌<◌, Bool, true, false, not, ◌&&◌, ◌||◌, Option, None, Some, List, [], ◌∷◌, ◌++◌, length, get_or, refl, sym, ap, ◌∙◌, subst, arith}
-use Rattle.std.specs.Prelude.{◌==◌}
+use Rattle.std.proofs.Common.{◌≡◌, ◌↔◌, ◌⊎◌, inl, inr, ℕ, ◌+◌, add-zero, zero, suc, ◌<◌, ◌≤◌, Bool, true, false, not, ◌&&◌, ◌||◌, Option, None, Some, List, [], ◌∷◌, ◌++◌, length, map, get_or, refl, sym, ap, ◌∙◌, subst, arith}
+use Rattle.std.specs.Prelude.{◌==◌, nat_le, if◌then◌else◌}
 use Rattle.std.specs.List.{list_all}
-use Rattle.std.proofs.lemmas.Bool.{and_parts, both_ways, eqb-true, false_from_ne_true, not-true, not_from_false, or_cases, or_left, or_right}
+use Rattle.std.proofs.lemmas.Bool.{and_parts, both_ways, cases_lt, eq-eqb, eqb-true, false_from_ne_true, le-leb, leb-true, not-true, not_from_false, or_cases, or_left, or_right}
+use Rattle.std.proofs.lemmas.List.{append_assoc}
 use Rattle.owl_characters.specs.Iri.{is_among}
 use Rattle.owl_characters.specs.Names.{IsRunOf}
-use Rattle.owl_lexer.specs.Automata.{Knows, Spells, kind_at, run, step_from}
-use Rattle.owl_lexer.specs.GapTests.{check_gaps, check_quiet, class_of, gap_starts, rows_pass, gaps_stay, is_gap_kind, is_in_gap, is_none, is_quiet, is_token_kind, row_is_quiet, row_stays, rows_are_quiet, space_classes, spaces, tokens_are_quiet, tokens_end}
+use Rattle.owl_lexer.specs.Automata.{Automaton, Knows, Spells, kind_at, run, step_from}
+use Rattle.owl_lexer.specs.GapTests.{Quote, check_gaps, check_quiet, class_of, gap_starts, rows_pass, gaps_stay, is_alone, is_gap_kind, is_in_gap, is_none, is_quiet, is_quote, is_third, is_token_kind, leads_quietly, passes_next, row_leads, row_stays, rows_lead, space_classes, spaces, tokens_are_quiet, tokens_end, words_of}
 use Rattle.owl_lexer.specs.HoldingLaws.{run-append, run-none}
 use Rattle.owl_lexer.specs.Languages.{BeginsNoGap, IsCommentText, IsLanguage, IsPrompt, IsLexemeWith}
 use Rattle.owl_lexer.specs.Languages.IsLexemeWith.{token, space, comment}
 use Rattle.owl_lexer.specs.Splitting.{is_comment_start, is_space}
-use Rattle.owl_lexer.specs.Tables.{Table, automaton_of, kind_in, kind_number, state_of, step_in}
+use Rattle.owl_lexer.specs.Tables.{Table, automaton_of, class_in, kind_in, kind_number, state_of, step_in}
+use Rattle.owl_lexer.specs.Words.{Holds, HoldsOne}
 
 -- What the lexemes of a grammar stand for: tokens with their spellings, or gaps, whose kinds pass a test.
 pub record Stand {T : Type 0} (grammar : ℕ → List ℕ → Type 0) (gap : ℕ → Bool) (value : ℕ → List ℕ → Option T) (spells : T → List ℕ → Type 0) : Type 0 where
@@ -155,23 +157,30 @@ table_is_language {T} gap table grammar value spells knows h s =
           run-append a (Some a.start) cs (c ∷ []) ∙ token_ends gap table p (run a (Some a.start) cs) (lexeme t cs x).0 c (spelled t cs x) (gapless t cs x) w;
     }
 
--- a table that is quiet
+-- what leads on passes a test of all that does
 
-row_there : (loud classes : List ℕ) (first : ℕ) (rows : List (List ℕ)) (place : ℕ) → rows_are_quiet loud classes first rows ≡ true → is_among loud (first + place) ≡ false → row_is_quiet loud classes (get_or rows place []) ≡ true
-row_there loud classes first [] place h q = no_row classes
-  where
-    no_row : (classes : List ℕ) → row_is_quiet loud classes [] ≡ true
-    no_row [] = refl
-    no_row (class ∷ classes) = no_row classes
-row_there loud classes first (row ∷ rows) zero h q =
-    let here = and_parts (is_among loud first || row_is_quiet loud classes row) (rows_are_quiet loud classes (first + 1) rows) h in
-    elim (or_cases (is_among loud first) (row_is_quiet loud classes row) here.0) [
-      | inl is ↦ absurd (both_ways (is_among loud first) (ap (is_among loud) (sym (add-zero first)) ∙ q) is)
-      | inr is ↦ is
-    ]
-row_there loud classes first (row ∷ rows) (suc place) h q =
-    let here = and_parts (is_among loud first || row_is_quiet loud classes row) (rows_are_quiet loud classes (first + 1) rows) h in
-    row_there loud classes (first + 1) rows place here.1 (ap (is_among loud) (omega arith) ∙ q)
+row_leads_to : (test : ℕ → ℕ → Bool) (first : ℕ) (row : List ℕ) (place next : ℕ) → row_leads test first row ≡ true → state_of (get_or row place 255) ≡ Some next → test (first + place) next ≡ true
+row_leads_to test first [] place next h e = absurd (cc)
+row_leads_to test first (cell ∷ row) zero next h e =
+    let here = and_parts (passes_next (test first) (state_of cell)) (row_leads test (first + 1) row) h in
+    ap (λ n. test n next) (add-zero first) ∙ subst (λ o. passes_next (test first) o ≡ true) e here.0
+row_leads_to test first (cell ∷ row) (suc place) next h e =
+    let here = and_parts (passes_next (test first) (state_of cell)) (row_leads test (first + 1) row) h in
+    ap (λ n. test n next) (omega arith) ∙ row_leads_to test (first + 1) row place next here.1 e
+
+rows_lead_to : (test : ℕ → ℕ → ℕ → Bool) (first : ℕ) (rows : List (List ℕ)) (place class next : ℕ) → rows_lead test first rows ≡ true → step_in rows place class ≡ Some next → test (first + place) class next ≡ true
+rows_lead_to test first [] place class next h e = absurd (cc)
+rows_lead_to test first (row ∷ rows) zero class next h e =
+    let here = and_parts (row_leads (test first) 0 row) (rows_lead test (first + 1) rows) h in
+    ap (λ n. test n class next) (add-zero first) ∙ ap (λ n. test first n next) (omega arith) ∙ row_leads_to (test first) 0 row class next here.0 e
+rows_lead_to test first (row ∷ rows) (suc place) class next h e =
+    let here = and_parts (row_leads (test first) 0 row) (rows_lead test (first + 1) rows) h in
+    ap (λ n. test n class next) (omega arith) ∙ rows_lead_to test (first + 1) rows place class next here.1 e
+
+leads_to : (test : ℕ → ℕ → ℕ → Bool) (table : Table) (state c next : ℕ) → rows_lead test 0 table.rows ≡ true → (automaton_of table).step state c ≡ Some next → test state (class_of table c) next ≡ true
+leads_to test table state c next h e = ap (λ n. test n (class_of table c) next) (omega arith) ∙ rows_lead_to test 0 table.rows state (class_of table c) next h e
+
+-- a table that is quiet
 
 token_there : (gap : ℕ → Bool) (loud : List ℕ) (first : ℕ) (kinds : List ℕ) (place : ℕ) → tokens_are_quiet gap loud first kinds ≡ true → is_token_kind gap (kind_in kinds place) ≡ true → is_among loud (first + place) ≡ false
 token_there gap loud first [] place h t = absurd (cc)
@@ -182,33 +191,189 @@ token_there gap loud first (kind ∷ kinds) (suc place) h t =
     let here = and_parts (not (is_token_kind gap (kind_number kind)) || not (is_among loud first)) (tokens_are_quiet gap loud (first + 1) kinds) h in
     ap (is_among loud) (omega arith) ∙ token_there gap loud (first + 1) kinds place here.1 t
 
--- what the test of all rows says of a state
-record IsQuietRow (loud : List ℕ) (table : Table) (state : ℕ) : Type 0 where
-  on : (c : ℕ) → is_quiet loud (step_in table.rows state (class_of table c)) ≡ true
-  space : (c : ℕ) → is_space c ≡ true → step_in table.rows state (class_of table c) ≡ None
+among_classes : (table : Table) (cs : List ℕ) (c : ℕ) → is_among cs c ≡ true → is_among (map (class_of table) cs) (class_of table c) ≡ true
+among_classes table [] c h = absurd (cc)
+among_classes table (x ∷ cs) c h = elim (or_cases (x == c) (is_among cs c) h) [
+  | inl same ↦ or_left (class_of table x == class_of table c) (is_among (map (class_of table) cs) (class_of table c)) (eq-eqb (class_of table x) (class_of table c) (ap (class_of table) (eqb-true x c same)))
+  | inr other ↦ or_right (class_of table x == class_of table c) (is_among (map (class_of table) cs) (class_of table c)) (among_classes table cs c other)
+]
 
-quiet_row : (loud : List ℕ) (table : Table) → rows_are_quiet loud (space_classes table) 0 table.rows ≡ true → (state : ℕ) → is_among loud state ≡ false → IsQuietRow loud table state
-quiet_row loud table h state q =
-    let row = get_or table.rows state [] in
-    let next = list_all (λ next. is_quiet loud (state_of next)) row in
-    let none = list_all (λ class. is_none (state_of (get_or row class 255))) (space_classes table) in
-    let there = and_parts next none (row_there loud (space_classes table) 0 table.rows state h (ap (is_among loud) (omega arith) ∙ q)) in
-    record {
-      on = λ c. cell_passes (is_quiet loud) refl row (class_of table c) there.0;
-      space = λ c s. nothing (state_of (get_or row (class_of table c) 255)) (passes_among (λ d. is_none (state_of (get_or row (class_of table d) 255))) spaces c there.1 s);
-    }
+-- Behind a front of these characters a class leads on that is that of the third character of a long quote.
+record Opens (table : Table) (quotes : List Quote) (o : Option ℕ) (cs : List ℕ) : Type 0 where
+  front : List ℕ
+  third : ℕ
+  rest : List ℕ
+  state : ℕ
+  parts : cs ≡ front ++ third ∷ rest
+  runs : run (automaton_of table) o front ≡ Some state
+  is : is_third table quotes state (class_of table third) ≡ true
 
-quiet_run : (loud : List ℕ) (table : Table) → rows_are_quiet loud (space_classes table) 0 table.rows ≡ true → (o : Option ℕ) (cs : List ℕ) (c : ℕ) → is_quiet loud o ≡ true → is_space c ≡ true → run (automaton_of table) o (cs ++ c ∷ []) ≡ None
-quiet_run loud table h None cs c q s = run-none (automaton_of table) (cs ++ c ∷ [])
-quiet_run loud table h (Some state) [] c q s = (quiet_row loud table h state (not-true (is_among loud state) q)).space c s
-quiet_run loud table h (Some state) (d ∷ cs) c q s =
-    quiet_run loud table h (step_in table.rows state (class_of table d)) cs c ((quiet_row loud table h state (not-true (is_among loud state) q)).on d) s
+opens_here : (table : Table) (quotes : List Quote) (state c : ℕ) (cs : List ℕ) → is_third table quotes state (class_of table c) ≡ true → Opens table quotes (Some state) (c ∷ cs)
+opens_here table quotes state c cs h = record { front = []; third = c; rest = cs; state = state; parts = refl; runs = refl; is = h }
+
+opens_later : (table : Table) (quotes : List Quote) (state : ℕ) (c : ℕ) (cs : List ℕ) → Opens table quotes ((automaton_of table).step state c) cs → Opens table quotes (Some state) (c ∷ cs)
+opens_later table quotes state c cs o = record { front = c ∷ o.front; third = o.third; rest = o.rest; state = o.state; parts = ap (λ (l : List ℕ). c ∷ l) o.parts; runs = o.runs; is = o.is }
+
+-- From a quiet state a character leads to one, and white space leads nowhere, or long quotes begin.
+quiet_step : (loud : List ℕ) (quotes : List Quote) (table : Table) → rows_lead (leads_quietly loud quotes table) 0 table.rows ≡ true → (state c next : ℕ) → is_quiet loud (Some state) ≡ true → (automaton_of table).step state c ≡ Some next → (is_quiet loud (Some next) ≡ true) × (is_space c ≡ false) ⊎ (is_third table quotes state (class_of table c) ≡ true)
+quiet_step loud quotes table h state c next q e =
+    let quiet = not (is_among loud next) && not (is_among (space_classes table) (class_of table c)) in
+    let third = is_third table quotes state (class_of table c) in
+    elim (or_cases (is_among loud state) (quiet || third) (leads_to (leads_quietly loud quotes table) table state c next h e)) [
+      | inl is ↦ absurd (both_ways (is_among loud state) (not-true (is_among loud state) q) is)
+      | inr leads ↦ elim (or_cases quiet third leads) [
+        | inr opens ↦ inr opens
+        | inl parts ↦
+            let both = and_parts (not (is_among loud next)) (not (is_among (space_classes table) (class_of table c))) parts in
+            let no = not-true (is_among (space_classes table) (class_of table c)) both.1 in
+            inl (both.0, false_from_ne_true (is_space c) (λ s. both_ways (is_among (space_classes table) (class_of table c)) no (among_classes table spaces c s)))
+      ]
+    ]
+
+-- white space behind these characters leads nowhere, or long quotes begin on the way
+abbrev EndsOrOpens : Table → List Quote → Option ℕ → List ℕ → Type 0
+EndsOrOpens table quotes o cs = (run (automaton_of table) o cs ≡ None) ⊎ Opens table quotes o cs
+
+goes_on : (table : Table) (quotes : List Quote) (state c : ℕ) (cs : List ℕ) → EndsOrOpens table quotes ((automaton_of table).step state c) cs → EndsOrOpens table quotes (Some state) (c ∷ cs)
+goes_on table quotes state c cs (inl none) = inl none
+goes_on table quotes state c cs (inr later) = inr (opens_later table quotes state c cs later)
+
+goes_nowhere : (table : Table) (quotes : List Quote) (state c : ℕ) (cs : List ℕ) → (automaton_of table).step state c ≡ None → EndsOrOpens table quotes (Some state) (c ∷ cs)
+goes_nowhere table quotes state c cs e = inl (ap (λ o. run (automaton_of table) o cs) e ∙ run-none (automaton_of table) cs)
+
+at_space : (loud : List ℕ) (quotes : List Quote) (table : Table) → rows_lead (leads_quietly loud quotes table) 0 table.rows ≡ true → (state c : ℕ) (o : Option ℕ) → is_quiet loud (Some state) ≡ true → is_space c ≡ true → (automaton_of table).step state c ≡ o → EndsOrOpens table quotes (Some state) (c ∷ [])
+at_space loud quotes table h state c None q s e = inl e
+at_space loud quotes table h state c (Some next) q s e = elim (quiet_step loud quotes table h state c next q e) [
+  | inl quiet ↦ absurd (both_ways (is_space c) quiet.1 s)
+  | inr third ↦ inr (opens_here table quotes state c [] third)
+]
+
+at_character : (loud : List ℕ) (quotes : List Quote) (table : Table) → rows_lead (leads_quietly loud quotes table) 0 table.rows ≡ true → (state c : ℕ) (cs : List ℕ) (o : Option ℕ) → is_quiet loud (Some state) ≡ true → (automaton_of table).step state c ≡ o → (is_quiet loud o ≡ true → EndsOrOpens table quotes o cs) → EndsOrOpens table quotes (Some state) (c ∷ cs)
+at_character loud quotes table h state c cs None q e later = goes_nowhere table quotes state c cs e
+at_character loud quotes table h state c cs (Some next) q e later = elim (quiet_step loud quotes table h state c next q e) [
+  | inr third ↦ inr (opens_here table quotes state c cs third)
+  | inl quiet ↦ goes_on table quotes state c cs (subst (λ o. EndsOrOpens table quotes o cs) (sym e) (later quiet.0))
+]
+
+quiet_run : (loud : List ℕ) (quotes : List Quote) (table : Table) → rows_lead (leads_quietly loud quotes table) 0 table.rows ≡ true → (o : Option ℕ) (cs : List ℕ) (c : ℕ) → is_quiet loud o ≡ true → is_space c ≡ true → EndsOrOpens table quotes o (cs ++ c ∷ [])
+quiet_run loud quotes table h None cs c q s = inl (run-none (automaton_of table) (cs ++ c ∷ []))
+quiet_run loud quotes table h (Some state) [] c q s = at_space loud quotes table h state c ((automaton_of table).step state c) q s refl
+quiet_run loud quotes table h (Some state) (d ∷ cs) c q s =
+    at_character loud quotes table h state d (cs ++ c ∷ []) ((automaton_of table).step state d) q refl (λ quiet. quiet_run loud quotes table h ((automaton_of table).step state d) cs c quiet s)
 
 quiet_token : (gap : ℕ → Bool) (loud : List ℕ) (table : Table) (o : Option ℕ) (kind : ℕ) → tokens_are_quiet gap loud 0 table.kinds ≡ true → kind_at (automaton_of table) o ≡ Some kind → gap kind ≡ false → is_quiet loud o ≡ true
 quiet_token gap loud table None kind h e g = refl
 quiet_token gap loud table (Some state) kind h e g =
     not_from_false (is_among loud state)
     (ap (is_among loud) (omega arith) ∙ token_there gap loud 0 table.kinds state h (ap (is_token_kind gap) e ∙ not_from_false (gap kind) g))
+
+-- long quotes
+
+alone_within : (first : ℕ) (interval : ℕ × ℕ) (class c d : ℕ) → (not (interval.1 == class) || ((first == c) && (interval.0 == c))) ≡ true → first ≤ d → d ≤ interval.0 → interval.1 ≡ class → d ≡ c
+alone_within first interval class c d h low high e =
+    let both = and_parts (first == c) (interval.0 == c) (implied (interval.1 == class) ((first == c) && (interval.0 == c)) h (eq-eqb interval.1 class e)) in
+    let first_is = eqb-true first c both.0 in
+    let last_is = eqb-true interval.0 c both.1 in
+    omega arith
+
+alone_is : (first : ℕ) (intervals : List (ℕ × ℕ)) (others class c d : ℕ) → is_alone first intervals others class c ≡ true → first ≤ d → class_in intervals others d ≡ class → d ≡ c
+alone_is first [] others class c d h le e = absurd (both_ways (others == class) (not-true (others == class) h) (eq-eqb others class e))
+alone_is first (interval ∷ intervals) others class c d h le e =
+    let here = and_parts (not (interval.1 == class) || ((first == c) && (interval.0 == c))) (is_alone (interval.0 + 1) intervals others class c) h in
+    elim (cases_lt interval.0 d) [
+      | inr within ↦ alone_within first interval class c d here.0 le within (ap (λ (b : Bool). if b then interval.1 else class_in intervals others d) (sym (le-leb d interval.0 within)) ∙ e)
+      | inl behind ↦ alone_is (interval.0 + 1) intervals others class c d here.1 (omega arith) (ap (λ (b : Bool). if b then interval.1 else class_in intervals others d) (sym (false_from_ne_true (nat_le d interval.0) (λ t. let le = leb-true d interval.0 t in omega arith))) ∙ e)
+    ]
+
+-- the last of the characters that lead to a state
+record LastStep (a : Automaton) (o : Option ℕ) (cs : List ℕ) (state : ℕ) : Type 0 where
+  front : List ℕ
+  last : ℕ
+  before : ℕ
+  parts : cs ≡ front ++ last ∷ []
+  runs : run a o front ≡ Some before
+  steps : a.step before last ≡ Some state
+
+last_step : (a : Automaton) (o : Option ℕ) (c : ℕ) (cs : List ℕ) (state : ℕ) → run a o (c ∷ cs) ≡ Some state → LastStep a o (c ∷ cs) state
+last_step a None c cs state e = let none : None ≡ Some state = sym (run-none a (c ∷ cs)) ∙ e in absurd (cc)
+last_step a (Some s) c [] state e = record { front = []; last = c; before = s; parts = refl; runs = refl; steps = e }
+last_step a (Some s) c (d ∷ cs) state e =
+    let l = last_step a (a.step s c) d cs state e in
+    record { front = c ∷ l.front; last = l.last; before = l.before; parts = ap (λ (l : List ℕ). c ∷ l) l.parts; runs = l.runs; steps = l.steps }
+
+-- characters that lead from the start to another state have a last one
+last_from_start : (table : Table) (cs : List ℕ) (state : ℕ) → not (state == 0) ≡ true → run (automaton_of table) (Some 0) cs ≡ Some state → LastStep (automaton_of table) (Some 0) cs state
+last_from_start table [] state n e =
+    let same : 0 ≡ state = cc in
+    absurd (both_ways (state == 0) (not-true (state == 0) n) (eq-eqb state 0 (sym same)))
+last_from_start table (c ∷ cs) state n e = last_step (automaton_of table) (Some 0) c cs state e
+
+-- the tests of a long quote, taken apart
+record Quoted (table : Table) (q : Quote) : Type 0 where
+  once : not (q.once == 0) ≡ true
+  twice : not (q.twice == 0) ≡ true
+  alone : (c : ℕ) → class_of table q.character ≡ class_of table c → c ≡ q.character
+  to_once : (state c : ℕ) → (automaton_of table).step state c ≡ Some q.once → class_of table q.character ≡ class_of table c
+  to_twice : (state c : ℕ) → (automaton_of table).step state c ≡ Some q.twice → (q.once ≡ state) × (class_of table q.character ≡ class_of table c)
+
+quoted : (table : Table) (q : Quote) → is_quote table q ≡ true → Quoted table q
+quoted table q h =
+    let class = class_of table q.character in
+    let apart = not (q.once == 0) && not (q.twice == 0) in
+    let alone = is_alone 0 table.intervals table.others class q.character in
+    let once = λ (state c next : ℕ). not (next == q.once) || (class == c) in
+    let twice = λ (state c next : ℕ). not (next == q.twice) || ((q.once == state) && (class == c)) in
+    let last = and_parts (apart && alone && rows_lead once 0 table.rows) (rows_lead twice 0 table.rows) h in
+    let third = and_parts (apart && alone) (rows_lead once 0 table.rows) last.0 in
+    let second = and_parts apart alone third.0 in
+    let first = and_parts (not (q.once == 0)) (not (q.twice == 0)) second.0 in
+    record {
+      once = first.0;
+      twice = first.1;
+      alone = λ c e. alone_is 0 table.intervals table.others class q.character c second.1 (omega arith) (sym e);
+      to_once = λ state c e. eqb-true class (class_of table c) (implied (q.once == q.once) (class == class_of table c) (leads_to once table state c q.once third.1 e) (eq-eqb q.once q.once refl));
+      to_twice = λ state c e.
+          let both = and_parts (q.once == state) (class == class_of table c) (implied (q.twice == q.twice) ((q.once == state) && (class == class_of table c)) (leads_to twice table state c q.twice last.1 e) (eq-eqb q.twice q.twice refl)) in
+          (eqb-true q.once state both.0, eqb-true class (class_of table c) both.1);
+    }
+
+three_alike : (c : ℕ) (front rest : List ℕ) → ((front ++ c ∷ []) ++ c ∷ []) ++ c ∷ rest ≡ front ++ ((c ∷ c ∷ c ∷ []) ++ rest)
+three_alike c front rest = append_assoc (front ++ c ∷ []) (c ∷ []) (c ∷ rest) ∙ append_assoc front (c ∷ []) (c ∷ c ∷ rest)
+
+-- behind two of its characters the third makes the word
+third_stands : (table : Table) (q : Quote) → Quoted table q → (cs : List ℕ) (third : ℕ) (rest : List ℕ) → run (automaton_of table) (Some 0) cs ≡ Some q.twice → class_of table q.character ≡ class_of table third → Holds (q.character ∷ q.character ∷ q.character ∷ []) (cs ++ third ∷ rest)
+third_stands table q t cs third rest runs class =
+    let two = last_from_start table cs q.twice t.twice runs in
+    let came = t.to_twice two.before two.last two.steps in
+    let one = last_from_start table two.front q.once t.once (two.runs ∙ ap Some (sym came.0)) in
+    let first : one.last ≡ q.character = t.alone one.last (t.to_once one.before one.last one.steps) in
+    let second : two.last ≡ q.character = t.alone two.last came.1 in
+    let fronts : cs ≡ (one.front ++ q.character ∷ []) ++ q.character ∷ [] =
+    two.parts ∙ ap (λ (l : List ℕ). l ++ two.last ∷ []) (one.parts ∙ ap (λ (n : ℕ). one.front ++ n ∷ []) first) ∙ ap (λ (n : ℕ). (one.front ++ q.character ∷ []) ++ n ∷ []) second in
+    record {
+      front = one.front;
+      rest = rest;
+      parts =
+          ap (λ (l : List ℕ). l ++ third ∷ rest) fronts ∙ ap (λ (n : ℕ). ((one.front ++ q.character ∷ []) ++ q.character ∷ []) ++ n ∷ rest) (t.alone third class)
+          ∙ three_alike q.character one.front rest;
+    }
+
+opened : (table : Table) (quotes : List Quote) → list_all (is_quote table) quotes ≡ true → (cs : List ℕ) (third : ℕ) (rest : List ℕ) (state : ℕ) → run (automaton_of table) (Some 0) cs ≡ Some state → is_third table quotes state (class_of table third) ≡ true → HoldsOne (words_of quotes) (cs ++ third ∷ rest)
+opened table [] h cs third rest state runs is = absurd (cc)
+opened table (q ∷ quotes) h cs third rest state runs is =
+    let here = and_parts (is_quote table q) (list_all (is_quote table) quotes) h in
+    let this = (q.twice == state) && (class_of table q.character == class_of table third) in
+    elim (or_cases this (is_third table quotes state (class_of table third)) is) [
+      | inr other ↦ inr (opened table quotes here.1 cs third rest state runs other)
+      | inl same ↦
+          let both = and_parts (q.twice == state) (class_of table q.character == class_of table third) same in
+          inl (third_stands table q (quoted table q here.0) cs third rest (runs ∙ ap Some (sym (eqb-true q.twice state both.0))) (eqb-true (class_of table q.character) (class_of table third) both.1))
+    ]
+
+opened_behind : (table : Table) (quotes : List Quote) → list_all (is_quote table) quotes ≡ true → (cs more : List ℕ) → Opens table quotes (run (automaton_of table) (Some 0) cs) more → HoldsOne (words_of quotes) (cs ++ more)
+opened_behind table quotes h cs more o =
+    subst (HoldsOne (words_of quotes)) (append_assoc cs o.front (o.third ∷ o.rest) ∙ ap (λ (l : List ℕ). cs ++ l) (sym o.parts))
+    (opened table quotes h (cs ++ o.front) o.third o.rest o.state (run-append (automaton_of table) (Some 0) cs o.front ∙ o.runs) o.is)
 
 gap_kind_of : (gap : ℕ → Bool) (o : Option ℕ) → is_gap_kind gap o ≡ true → (kind : ℕ) × (o ≡ Some kind)
 gap_kind_of gap None h = absurd (cc)
@@ -218,17 +383,21 @@ gap_spells : (gap : ℕ → Bool) (table : Table) (o : Option ℕ) (state : ℕ)
 gap_spells gap table None state e h = absurd (cc)
 gap_spells gap table (Some other) state e h = gap_kind_of gap (kind_in table.kinds other) h
 
-pub table_is_prompt : {T : Type 0} → (gap : ℕ → Bool) (loud : List ℕ) (table : Table) (grammar : ℕ → List ℕ → Type 0) (value : ℕ → List ℕ → Option T) (spells : T → List ℕ → Type 0) → Knows (automaton_of table) grammar → check_gaps gap table ≡ true → check_quiet gap loud table ≡ true → Stand grammar gap value spells → IsPrompt (automaton_of table) spells
-table_is_prompt gap loud table grammar value spells knows h q s =
+pub table_is_prompt : {T : Type 0} → (gap : ℕ → Bool) (loud : List ℕ) (quotes : List Quote) (table : Table) (grammar : ℕ → List ℕ → Type 0) (value : ℕ → List ℕ → Option T) (spells : T → List ℕ → Type 0) → Knows (automaton_of table) grammar → check_gaps gap table ≡ true → check_quiet gap loud quotes table ≡ true → Stand grammar gap value spells → IsPrompt (automaton_of table) spells (words_of quotes)
+table_is_prompt gap loud quotes table grammar value spells knows h q s =
     let a = automaton_of table in
     let p = passes gap table h in
-    let quiet = and_parts (rows_are_quiet loud (space_classes table) 0 table.rows) (tokens_are_quiet gap loud 0 table.kinds) q in
+    let rows = rows_lead (leads_quietly loud quotes table) 0 table.rows in
+    let all = and_parts (rows && tokens_are_quiet gap loud 0 table.kinds) (list_all (is_quote table) quotes) q in
+    let quiet = and_parts rows (tokens_are_quiet gap loud 0 table.kinds) all.0 in
     record {
       token = λ t cs more c x w.
           let lexeme = s.token t cs x in
           let gapless = no_gap_kind gap (value lexeme.0 cs) t lexeme.0 (s.none lexeme.0 cs) lexeme.2 in
-          run-append a (Some a.start) cs (more ++ c ∷ [])
-          ∙ quiet_run loud table quiet.0 (run a (Some a.start) cs) more c (quiet_token gap loud table (run a (Some a.start) cs) lexeme.0 quiet.1 ((knows lexeme.0 cs).1 lexeme.1) gapless) w;
+          elim (quiet_run loud quotes table quiet.0 (run a (Some a.start) cs) more c (quiet_token gap loud table (run a (Some a.start) cs) lexeme.0 quiet.1 ((knows lexeme.0 cs).1 lexeme.1) gapless) w) [
+            | inl none ↦ inl (run-append a (Some a.start) cs (more ++ c ∷ []) ∙ none)
+            | inr opens ↦ inr (opened_behind table quotes all.1 cs (more ++ c ∷ []) opens)
+          ];
       gap = λ c cs state begins e.
           let first = step_in table.rows 0 (class_of table c) in
           gap_spells gap table (run a first cs) state e

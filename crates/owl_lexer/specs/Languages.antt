@@ -5,6 +5,7 @@ use Rattle.owl_characters.specs.Iri.{AllAre}
 use Rattle.owl_characters.specs.Names.{IsRunOf}
 use Rattle.owl_lexer.specs.Automata.{Automaton, Spells, run}
 use Rattle.owl_lexer.specs.Splitting.{is_comment_start, is_line_end, is_space}
+use Rattle.owl_lexer.specs.Words.{HoldsOne}
 use Rattle.owl_lexer.specs.declared.placed.Placed.{Placed}
 
 -- a number sign, and then no line end
@@ -35,11 +36,11 @@ pub record IsLanguage {T : Type 0} (a : Automaton) (value : ℕ → List ℕ →
   pub no_gap : (t : T) (cs : List ℕ) → spells t cs → BeginsNoGap cs
   pub ends : (t : T) (cs : List ℕ) (c : ℕ) → spells t cs → is_space c ≡ true → run a (Some a.start) (cs ++ c ∷ []) ≡ None
 
--- Behind a token no characters lead on to white space, and what begins as white space or a comment is one, as far as the
--- automaton goes on. So a token can be told as soon as white space follows it. The quotes of a long string of Turtle, which
--- begin with an empty string, break the first.
-pub record IsPrompt {T : Type 0} (a : Automaton) (spells : T → List ℕ → Type 0) : Type 0 where
-  pub token : (t : T) (cs more : List ℕ) (c : ℕ) → spells t cs → is_space c ≡ true → run a (Some a.start) (cs ++ (more ++ c ∷ [])) ≡ None
+-- Behind a token no characters lead on to white space, unless one of these words stands among them, and what begins as white
+-- space or a comment is one, as far as the automaton goes on. So a token can be told as soon as white space follows it. The
+-- words are the long quotes of Turtle, which begin with an empty string.
+pub record IsPrompt {T : Type 0} (a : Automaton) (spells : T → List ℕ → Type 0) (words : List (List ℕ)) : Type 0 where
+  pub token : (t : T) (cs more : List ℕ) (c : ℕ) → spells t cs → is_space c ≡ true → (run a (Some a.start) (cs ++ (more ++ c ∷ [])) ≡ None) ⊎ HoldsOne words (cs ++ (more ++ c ∷ []))
   pub gap : (c : ℕ) (cs : List ℕ) (state : ℕ) → (is_space c ≡ true) ⊎ (is_comment_start c ≡ true) → run a (Some a.start) (c ∷ cs) ≡ Some state → (kind : ℕ) × Spells a kind (c ∷ cs)
 
 -- each token is written somehow

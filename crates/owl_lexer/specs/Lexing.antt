@@ -1,8 +1,9 @@
 -- What a lexer has in hand, and what can still come of it.
-use Rattle.std.specs.Prelude.{◌≡◌, ℕ, ◌+◌, Bool, true, false, List, [], ◌∷◌, ◌++◌, length, Option, Some}
+use Rattle.std.specs.Prelude.{◌≡◌, ℕ, ◌+◌, Bool, true, false, List, [], ◌∷◌, ◌++◌, length, map, Option, Some}
 use Rattle.std.specs.Str.{encode_utf8_all}
 use Rattle.owl_characters.specs.Utf8.{behind_mark, mark_size, size}
 use Rattle.owl_lexer.specs.Splitting.{OneEndsFrom, Splits, SplitsAt, is_space}
+use Rattle.owl_lexer.specs.Words.{HoldsOne}
 use Rattle.owl_lexer.specs.declared.fault.LexFault.{LexFault}
 use Rattle.owl_lexer.specs.declared.placed.Placed.{Placed}
 
@@ -80,10 +81,11 @@ OneEnds spells true place bytes tokens ending s end =
     OneEndsFrom spells (mark_size s.characters) (behind_mark s.characters) s.tail tokens ending s.splits end
 OneEnds spells false place bytes tokens ending s end = OneEndsFrom spells place s.characters s.tail tokens ending s.splits end
 
--- Whatever follows, none of the tokens that come of what is begun ends in front of white space that is held.
-abbrev pub HoldsNoEnd : {T : Type 0} → (T → List ℕ → Type 0) → Begun → Type 0
-HoldsNoEnd {T} spells begun =
-    (more : List ℕ) (tokens : List (Placed T)) (ending : Option LexFault) (continues : Continues spells begun more tokens ending) (front rest : List ℕ) (c : ℕ) →
+-- Whatever follows, none of the tokens that come of what is begun ends in front of white space that is held, unless one of
+-- these words is held.
+abbrev pub HoldsNoEnd : {T : Type 0} → (T → List ℕ → Type 0) → List (List ℕ) → Begun → Type 0
+HoldsNoEnd {T} spells words begun =
+    (HoldsOne (map encode_utf8_all words) begun.held → ⊥) → (more : List ℕ) (tokens : List (Placed T)) (ending : Option LexFault) (continues : Continues spells begun more tokens ending) (front rest : List ℕ) (c : ℕ) →
     begun.held ≡ encode_utf8_all (front ++ c ∷ []) ++ rest → is_space c ≡ true →
     OneEnds spells begun.fresh begun.at (begun.held ++ more) tokens ending continues (begun.at + size front) → ⊥
 

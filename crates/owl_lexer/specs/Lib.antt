@@ -22,6 +22,8 @@ pub mod DecodingLaws
 pub mod Sources
 pub mod AddingLaws
 pub mod Splitting
+pub mod Words
+pub mod WordLaws
 pub mod Lexing
 pub mod Languages
 pub mod OneWayLaws

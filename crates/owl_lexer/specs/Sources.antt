@@ -64,7 +64,7 @@ pub record TakesPiece {T : Type 0} (a : Automaton) (spells : T → List ℕ → 
   pub spelled : AreSpelled spells before → AreSpelled spells after
   pub few : length after + length (bytes_in new).held ≤ length before + length (bytes_in old).held + length bytes
   pub early : HoldsNone spells (bytes_in new)
-  pub prompt : IsPrompt a spells → HoldsNoEnd spells (bytes_in new)
+  pub prompt : (words : List (List ℕ)) → IsPrompt a spells words → HoldsNoEnd spells words (bytes_in new)
   pub end : end_of (bytes_in new) ≡ end_of (bytes_in old) + length bytes
   pub ends : KeepsEnd (bytes_in old) bytes (bytes_in new)
 

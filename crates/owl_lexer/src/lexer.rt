@@ -59,9 +59,10 @@ impl<L: TokenLanguage> Lexer<L> {
     /// on, and takes nothing.
     ///
     /// What is kept is the end of what was fed. No token with white space behind
-    /// it stands at the very front of that. Where the language is prompt, each
-    /// token that white space follows is given at once: whatever comes next, no
-    /// token ends in front of white space that is kept.
+    /// it stands at the very front of that. Where the language is prompt, but for
+    /// some words, and none of these is kept, each token that white space follows
+    /// is given at once: whatever comes next, no token ends in front of white
+    /// space that is kept.
     pub fn feed(&mut self, piece: &[u8], into: &mut Vec<Placed<L::Token>>) -> Result<(), LexFault>
         requires { end_of self.old.begun + length piece.now ≤ 2 ^ 62 }
         ensures ok { OnOk result
@@ -75,8 +76,8 @@ impl<L: TokenLanguage> Lexer<L> {
             (length into.new.items + length self.new.begun.held
             ≤ length into.old.items + length self.old.begun.held + length piece.now) }
         ensures early { OnOk result (HoldsNone L.spells self.new.begun) }
-        ensures prompt { IsPrompt L.automaton L.spells → OnOk result
-            (HoldsNoEnd L.spells self.new.begun) }
+        ensures prompt { (words : List (List ℕ)) → IsPrompt L.automaton L.spells words →
+            OnOk result (HoldsNoEnd L.spells words self.new.begun) }
         ensures end { OnOk result
             (end_of self.new.begun ≡ end_of self.old.begun + length piece.now) }
         ensures ends { OnOk result (KeepsEnd self.old.begun piece.now self.new.begun) }

@@ -1,5 +1,5 @@
 -- Tokens that white space follows are not held back.
-use Rattle.std.proofs.Common.{◌≡◌, inl, inr, ℕ, ◌+◌, Bool, true, false, Option, None, Some, List, [], ◌∷◌, ◌++◌, length, get_or, refl, sym, ap, ◌∙◌, subst, arith}
+use Rattle.std.proofs.Common.{◌≡◌, inl, inr, ℕ, ◌+◌, Bool, true, false, Option, None, Some, List, [], ◌∷◌, ◌++◌, length, map, get_or, refl, sym, ap, ◌∙◌, subst, arith}
 use Rattle.std.specs.Prelude.{◌==◌, ◌||◌, if◌then◌else◌}
 use Rattle.std.specs.List.{list_all}
 use Rattle.std.specs.Str.{encode_utf8_all}
@@ -19,15 +19,17 @@ use Rattle.owl_characters.specs.Utf8Laws.{scalars_behind, size_append, size_is}
 use Rattle.owl_lexer.specs.BytesLaws.{same_decoded}
 use Rattle.owl_lexer.specs.Lexing.{Begun, Continues, EndWith, HoldsNoEnd, Lexing, OneEnds, SplitsBehind}
 use Rattle.owl_lexer.specs.Splitting.{IsLongest, OneEndsFrom, Splits, SplitsFrom, is_space}
+use Rattle.owl_lexer.specs.Words.{HoldsOne}
+use Rattle.owl_lexer.specs.WordLaws.{holds_within}
 use Rattle.owl_lexer.specs.declared.fault.LexFault.{LexFault}
 use Rattle.owl_lexer.specs.declared.placed.Placed.{Placed}
-use Rattle.owl_reader.specs.Defects.{Begin, IsRefused}
-use Rattle.owl_reader.specs.Early.{HasDefectBeforeSpace, TellsEarly, end_from, end_in}
+use Rattle.owl_reader.specs.Defects.{Begin, HasDefectBeforeSpace, HasNoneBeforeSpace, IsRefused, end_from, end_in}
+use Rattle.owl_reader.specs.Early.{TellsEarly}
 use Rattle.owl_reader.specs.OneDefectLaws.{Fronts, fronts, never_taken}
 use Rattle.owl_reader.specs.OneDefectLaws.Fronts.{alike, later, sooner}
 use Rattle.owl_reader.specs.Readings.{IsOpen, Reading}
 use Rattle.owl_reader.specs.Steps.{Step, tokens_in}
-use Rattle.owl_reader.specs.Syntaxes.{Rules}
+use Rattle.owl_reader.specs.Syntaxes.{HoldsQuotes, Rules}
 use Rattle.owl_reader.specs.declared.fault.ReadFault.{ReadFault}
 use Rattle.owl_reader.specs.declared.item.Item.{Item}
 use Rattle.owl_reader.proofs.Taking.{begun}
@@ -60,8 +62,8 @@ no_space [] more c e = cc
 no_space (b ∷ bytes) more c e = cc
 
 -- where nothing was fed
-pub none_held : {T : Type 0} (spells : T → List ℕ → Type 0) (begun : Begun) → begun.held ≡ [] → HoldsNoEnd spells begun
-none_held spells begun none more tokens ending continues front rest c e w ends =
+pub none_held : {T : Type 0} (spells : T → List ℕ → Type 0) (words : List (List ℕ)) (begun : Begun) → begun.held ≡ [] → HoldsNoEnd spells words begun
+none_held spells words begun none quotes more tokens ending continues front rest c e w ends =
     no_space (encode_utf8_all front) rest c (sym none ∙ e ∙ sym (space_behind front rest c w))
 
 -- ---- where a token stands
@@ -268,8 +270,8 @@ origin_is : (fresh : Bool) (at : ℕ) (front : List ℕ) → at ≡ length front
 origin_is true at front e none = sym (ap (λ (l : List ℕ). length l) (none refl))
 origin_is false at front e none = e
 
-pub no_defect : {T S : Type 0} {spells : T → List ℕ → Type 0} {g : List Entry} {rules : Rules T} {Made : List (Event T) → S → Type 0} {lexing : Lexing} {parsing : Parsing} {made : S} {last : Option Item} {bytes : List ℕ} {r : ReadFault} → is_predictive g ≡ true → has_rule g rules.document ≡ true → HoldsNoEnd spells lexing.begun → IsOpen spells g rules Made lexing parsing made last bytes → HasDefectBeforeSpace spells g rules bytes r → ⊥
-no_defect {T} {spells = spells} {lexing = lexing} {bytes = bytes} predicts known holds o d =
+no_defect : {T S : Type 0} {spells : T → List ℕ → Type 0} {g : List Entry} {rules : Rules T} {Made : List (Event T) → S → Type 0} {lexing : Lexing} {parsing : Parsing} {made : S} {last : Option Item} {bytes : List ℕ} {r : ReadFault} → is_predictive g ≡ true → has_rule g rules.document ≡ true → HoldsNoEnd spells rules.long_quotes lexing.begun → IsOpen spells g rules Made lexing parsing made last bytes → (HoldsQuotes rules bytes → ⊥) → HasDefectBeforeSpace spells g rules bytes r → ⊥
+no_defect {T} {spells = spells} {rules = rules} {lexing = lexing} {bytes = bytes} predicts known holds o none d =
     let b = lexing.begun in
     let e = o.ends in
     let held = b.held ++ [] in
@@ -283,11 +285,15 @@ no_defect {T} {spells = spells} {lexing = lexing} {bytes = bytes} predicts known
     let parts : bytes ≡ e.front ++ held = e.parts ∙ ap (λ (l : List ℕ). e.front ++ l) (sym (append-nil b.held)) in
     let end = v.ends ∙ same_end e.front v w parts in
     let space = held_space e.front w parts (subst (λ (n : ℕ). is_space (get_or bytes n 0) ≡ true) end d.space) in
-    holds [] tokens d.ending come.continues (w.front ++ w.spelling) space.1 space.0 (sym (append-nil b.held) ∙ space.2) space.3
+    let unquoted : HoldsOne (map encode_utf8_all rules.long_quotes) b.held → ⊥ = λ q. none (holds_within (map encode_utf8_all rules.long_quotes) bytes e.front b.held [] parts q) in
+    holds unquoted [] tokens d.ending come.continues (w.front ++ w.spelling) space.1 space.0 (sym (append-nil b.held) ∙ space.2) space.3
     (subst (λ (n : ℕ). Ends (n + size (w.front ++ w.spelling))) (sym at) w.ends)
 
-pub tells_early : {T S : Type 0} {spells : T → List ℕ → Type 0} {g : List Entry} {rules : Rules T} {Made : List (Event T) → S → Type 0} (x r : Reading S) → x ≡ r → is_predictive g ≡ true → has_rule g rules.document ≡ true → x.refused ≡ None → HoldsNoEnd spells x.lexing.begun → TellsEarly spells g rules Made r
+pub none_before_space : {T S : Type 0} {spells : T → List ℕ → Type 0} {g : List Entry} {rules : Rules T} {Made : List (Event T) → S → Type 0} {lexing : Lexing} {parsing : Parsing} {made : S} {last : Option Item} {bytes : List ℕ} → is_predictive g ≡ true → has_rule g rules.document ≡ true → HoldsNoEnd spells rules.long_quotes lexing.begun → IsOpen spells g rules Made lexing parsing made last bytes → HasNoneBeforeSpace spells g rules bytes
+none_before_space predicts known holds o unquoted refusal d = no_defect predicts known holds o unquoted d
+
+pub tells_early : {T S : Type 0} {spells : T → List ℕ → Type 0} {g : List Entry} {rules : Rules T} {Made : List (Event T) → S → Type 0} (x r : Reading S) → x ≡ r → is_predictive g ≡ true → has_rule g rules.document ≡ true → x.refused ≡ None → HoldsNoEnd spells rules.long_quotes x.lexing.begun → TellsEarly spells g rules Made r
 tells_early {spells = spells} {g = g} {rules = rules} {Made = Made} x r same predicts known none holds = subst (TellsEarly spells g rules Made) same (record {
   holds = holds;
-  none = λ bytes h refusal d. no_defect predicts known holds (h.open_yet none) d;
+  none = λ bytes h. none_before_space predicts known holds (h.open_yet none);
 })

@@ -1,6 +1,6 @@
 -- What comes of a reader's calls.
 use Rattle.std.proofs.Common.{◌≡◌, ◌≤◌, ◌<◌, ◌+◌, ◌-◌, inl, inr, ℕ, true, Option, None, Some, List, [], ◌∷◌, ◌++◌, length, take, drop, refl, sym, ap, ◌∙◌, subst, arith}
-use Rattle.std.proofs.lemmas.List.{append_assoc, append-nil, length-append, length-take, take-append-drop}
+use Rattle.std.proofs.lemmas.List.{append_assoc, append-nil, length-append, length-take, take-append-drop, take-append-le}
 use Rattle.std.proofs.lemmas.Bool.{cases_lt}
 use Rattle.std.proofs.Math.Nat.{min-le_left}
 use Rattle.std.proofs.Math.Seq.{take-append-add}
@@ -12,7 +12,7 @@ use Rattle.grammar.specs.Predicting.{is_predictive, is_productive}
 use Rattle.grammar.specs.declared.symbol.Symbol.TheVariants.{Rule}
 use Rattle.owl_characters.specs.Limit.{most_bytes}
 use Rattle.owl_lexer.specs.Lexing.{Lexing, nothing_fed}
-use Rattle.owl_reader.specs.Defects.{HasDefect, IsFirstDefect, IsRefused}
+use Rattle.owl_reader.specs.Defects.{HasDefect, HasNoneBeforeSpace, IsFirstDefect, IsRefused}
 use Rattle.owl_reader.specs.Defects.HasDefect.{at_end}
 use Rattle.owl_reader.specs.Defects.IsFirstDefect.{beyond, too_long, within}
 use Rattle.owl_reader.specs.Readings.{AreAllTaken, CanRead, HasDefectAlways, HasRead, IsOpen, IsRead, Reading, Refuses}
@@ -82,10 +82,18 @@ refuses_front {spells = spells} {g = g} {rules = rules} bytes piece front n r h 
     append_assoc bytes front (drop n piece) ∙ ap (λ (l : List ℕ). bytes ++ l) (ap (λ (l : List ℕ). l ++ drop n piece) e ∙ take-append-drop n piece) in
     subst (λ (l : List ℕ). Refuses spells g rules l r) parts (refuses_on (bytes ++ front) (drop n piece) r (first_always (bytes ++ front) r h few))
 
-pub refuses_long : {T : Type 0} {spells : T → List ℕ → Type 0} {g : List Entry} {rules : Rules T} (bytes piece : List ℕ) (r : ReadFault) → most_bytes < length bytes + length piece → r ≡ read.TooLong → Refuses spells g rules (bytes ++ piece) r
-refuses_long bytes piece r long e more =
+-- the bytes that a document may have end within the piece
+long_front : (bytes piece more : List ℕ) → length bytes ≤ most_bytes → most_bytes - length bytes ≤ length piece → take most_bytes ((bytes ++ piece) ++ more) ≡ bytes ++ take (most_bytes - length bytes) piece
+long_front bytes piece more few long =
+    ap (λ (l : List ℕ). take most_bytes l) (append_assoc bytes piece more) ∙ taken_front bytes (piece ++ more) most_bytes few
+    ∙ ap (λ (l : List ℕ). bytes ++ l) (take-append-le (most_bytes - length bytes) piece more long)
+
+pub refuses_long : {T : Type 0} {spells : T → List ℕ → Type 0} {g : List Entry} {rules : Rules T} (bytes piece : List ℕ) (fed : ℕ) → fed ≡ length bytes → fed ≤ most_bytes → most_bytes - fed < length piece → HasNoneBeforeSpace spells g rules (bytes ++ take (most_bytes - fed) piece) → Refuses spells g rules (bytes ++ piece) read.TooLong
+refuses_long {spells = spells} {g = g} {rules = rules} bytes piece fed e few long none more =
     let long_all : most_bytes < length ((bytes ++ piece) ++ more) = subst (λ (n : ℕ). most_bytes < n) (sym (length-append (bytes ++ piece) more ∙ ap (λ (n : ℕ). n + length more) (length-append bytes piece))) (omega arith) in
-    too_long long_all e
+    let front = long_front bytes piece more (omega arith) (omega arith) in
+    let same : take (most_bytes - fed) piece ≡ take (most_bytes - length bytes) piece = ap (λ (n : ℕ). take (most_bytes - n) piece) e in
+    too_long long_all refl (subst (HasNoneBeforeSpace spells g rules) (ap (λ (l : List ℕ). bytes ++ l) same ∙ sym front) none)
 
 -- the bytes of a document and a front of a piece for which there is room
 pub front_fits : (bytes piece : List ℕ) (fed : ℕ) → fed ≡ length bytes → fed ≤ most_bytes → length (bytes ++ take (most_bytes - fed) piece) ≤ most_bytes

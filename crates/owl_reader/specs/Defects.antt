@@ -1,17 +1,18 @@
 -- The first defect of a document, and where it is told.
-use Rattle.std.specs.Prelude.{◌≡◌, ◌≢◌, ◌<◌, ◌≤◌, ℕ, false, List, [], ◌∷◌, ◌++◌, length, map, take, Option, None, Some}
+use Rattle.std.specs.Prelude.{◌≡◌, ◌≢◌, ◌<◌, ◌≤◌, ℕ, false, true, List, [], ◌∷◌, ◌++◌, length, map, take, get_or, Option, None, Some}
 use Rattle.grammar.specs.Derivations.{Begins, Derives, Event}
 use Rattle.grammar.specs.Grammars.{Entry}
 use Rattle.grammar.specs.Lowering.{lower}
 use Rattle.grammar.specs.declared.symbol.Symbol.TheVariants.{Rule}
 use Rattle.owl_characters.specs.Limit.{most_bytes}
-use Rattle.owl_lexer.specs.Splitting.{Splits}
+use Rattle.owl_characters.specs.Utf8.{behind_mark, mark_size}
+use Rattle.owl_lexer.specs.Splitting.{Splits, SplitsFrom, is_space}
 use Rattle.owl_lexer.specs.declared.fault.LexFault.{LexFault}
 use Rattle.owl_lexer.specs.declared.placed.Placed.{Placed}
 use Rattle.owl_reader.specs.Faults.{fault_at, lexing_refusal}
 use Rattle.owl_reader.specs.Items.{item_start, last_item, resumes_item}
 use Rattle.owl_reader.specs.Steps.{MayFollow, Step, events_of, plain, tokens_in}
-use Rattle.owl_reader.specs.Syntaxes.{Rules}
+use Rattle.owl_reader.specs.Syntaxes.{HoldsQuotes, Rules}
 use Rattle.owl_reader.specs.declared.fault.ReadFault.{ReadFault}
 use Rattle.owl_reader.specs.declared.fault.ReadFault.TheVariants as read
 use Rattle.owl_reader.specs.declared.fault.Reason.TheVariants as reason
@@ -44,9 +45,35 @@ pub data HasDefect {T : Type 0} (spells : T → List ℕ → Type 0) (g : List E
   at_end : (steps : List (Step T)) → Splits spells bytes (tokens_in steps) None → Begin g rules steps → IsRefused g rules steps (length bytes) None refusal → HasDefect spells g rules bytes refusal
   no_token : (steps : List (Step T)) (fault : LexFault) → Splits spells bytes (tokens_in steps) (Some fault) → Begin g rules steps → refusal ≡ lexing_refusal fault (last_item rules.mark steps) → HasDefect spells g rules bytes refusal
 
+-- the byte behind the token that stands behind these
+abbrev pub end_from : {T : Type 0} (spells : T → List ℕ → Type 0) (place : ℕ) (cs tail : List ℕ) (before : List (Placed T)) (p : Placed T) (others : List (Placed T)) (ending : Option LexFault) → SplitsFrom spells place cs tail (before ++ p ∷ others) ending → ℕ
+end_from spells place cs tail [] p others ending s = s.0
+end_from spells place cs tail (first ∷ before) p others ending s = end_from spells s.0 s.1 tail before p others ending s.3
+
+-- the same in all the bytes
+abbrev pub end_in : {T : Type 0} (spells : T → List ℕ → Type 0) (bytes : List ℕ) (before : List (Placed T)) (p : Placed T) (others : List (Placed T)) (ending : Option LexFault) → Splits spells bytes (before ++ p ∷ others) ending → ℕ
+end_in spells bytes before p others ending s =
+    end_from spells (mark_size s.characters) (behind_mark s.characters) s.tail before p others ending s.splits
+
+-- The bytes have this defect at a token, and the byte behind the token is white space.
+pub record HasDefectBeforeSpace {T : Type 0} (spells : T → List ℕ → Type 0) (g : List Entry) (rules : Rules T) (bytes : List ℕ) (refusal : ReadFault) : Type 0 where
+  pub steps : List (Step T)
+  pub token : Placed T
+  pub others : List (Placed T)
+  pub ending : Option LexFault
+  pub splits : Splits spells bytes (tokens_in steps ++ token ∷ others) ending
+  pub begin : Begin g rules steps
+  pub refused : IsRefused g rules steps token.at (Some token.token) refusal
+  pub space : is_space (get_or bytes (end_in spells bytes (tokens_in steps) token others ending splits) 0) ≡ true
+
+-- The bytes have no such defect, unless they hold long quotes.
+abbrev pub HasNoneBeforeSpace : {T : Type 0} → (T → List ℕ → Type 0) → List Entry → Rules T → List ℕ → Type 0
+HasNoneBeforeSpace spells g rules bytes =
+    (HoldsQuotes rules bytes → ⊥) → (refusal : ReadFault) → HasDefectBeforeSpace spells g rules bytes refusal → ⊥
+
 -- The first defect of these bytes. Where there are more than a document may have, it is one that the first so many have however
--- they go on, or else their number.
+-- they go on, or else their number, where the first so many have none at a token that white space follows.
 pub data IsFirstDefect {T : Type 0} (spells : T → List ℕ → Type 0) (g : List Entry) (rules : Rules T) (bytes : List ℕ) (refusal : ReadFault) : Type 0 where
   within : length bytes ≤ most_bytes → HasDefect spells g rules bytes refusal → IsFirstDefect spells g rules bytes refusal
   beyond : most_bytes < length bytes → ((more : List ℕ) → HasDefect spells g rules (take most_bytes bytes ++ more) refusal) → IsFirstDefect spells g rules bytes refusal
-  too_long : most_bytes < length bytes → refusal ≡ read.TooLong → IsFirstDefect spells g rules bytes refusal
+  too_long : most_bytes < length bytes → refusal ≡ read.TooLong → HasNoneBeforeSpace spells g rules (take most_bytes bytes) → IsFirstDefect spells g rules bytes refusal

@@ -180,7 +180,7 @@ one_defect {g = g} come predicts known bars bytes r s h k =
 has_it : {T : Type 0} {spells : T → List ℕ → Type 0} {g : List Entry} {rules : Rules T} {bytes : List ℕ} {r : ReadFault} → length bytes ≤ most_bytes → IsFirstDefect spells g rules bytes r → HasDefect spells g rules bytes r
 has_it few (within fits h) = h
 has_it few (beyond many h) = absurd (omega (arith, few, many))
-has_it few (too_long many h) = absurd (omega (arith, few, many))
+has_it few (too_long many h none) = absurd (omega (arith, few, many))
 
 pub one_first_defect : {T : Type 0} {spells : T → List ℕ → Type 0} {g : List Entry} {rules : Rules T} → ComeOneWay spells → is_predictive g ≡ true → has_rule g rules.document ≡ true → BarOneWay rules → (bytes : List ℕ) (r s : ReadFault) → length bytes ≤ most_bytes → IsFirstDefect spells g rules bytes r → IsFirstDefect spells g rules bytes s → r ≡ s
 one_first_defect come predicts known bars bytes r s few h k = one_defect come predicts known bars bytes r s (has_it few h) (has_it few k)

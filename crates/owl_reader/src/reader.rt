@@ -2,7 +2,6 @@
 
 ghost use Rattle.std.specs.Prelude.{◌≡◌, ◌≢◌, ◌≤◌, ◌+◌, ◌-◌, ◌++◌, [], List, ℕ, length, None, Some, Err, IfErr, IfOk, IsOk, OnOk};
 ghost use Rattle.owl_characters.specs.Limit.{most_bytes};
-ghost use Rattle.owl_lexer.specs.Languages.{IsPrompt};
 ghost use Rattle.owl_lexer.specs.Lexing.{HoldsNoEnd};
 ghost use Rattle.owl_reader.specs.Defects.{HasDefect, IsFirstDefect};
 ghost use Rattle.owl_reader.specs.Early.{TellsEarly};
@@ -33,7 +32,6 @@ pub struct Reader<S: Syntax> {
 
 impl<S: Syntax> Model for Reader<S> {
     ghost use Rattle.std.specs.Prelude.{◌≡◌, None};
-    ghost use Rattle.owl_lexer.specs.Languages.{IsPrompt};
     ghost use Rattle.owl_lexer.specs.Lexing.{HoldsNoEnd};
     ghost use Rattle.owl_reader.specs.Readings.{CanRead, Reading};
 
@@ -48,8 +46,8 @@ impl<S: Syntax> Model for Reader<S> {
       refused = r.refused;
     } };
 
-    ghost invariant = { λ r. (r.refused ≡ None → IsPrompt S.Language.automaton S.Language.spells →
-        HoldsNoEnd S.Language.spells r.lexer.begun)
+    ghost invariant = { λ r. (r.refused ≡ None →
+        HoldsNoEnd S.Language.spells S.rules.long_quotes r.lexer.begun)
         × (r.refused ≡ None → CanRead S.Language.spells S.Grammar.grammar S.rules S.Made
         (record {
           lexing = r.lexer;
@@ -90,8 +88,8 @@ impl<S: Syntax> Reader<S> {
     /// fed, with these, whatever follows. A reader that has refused answers the
     /// same refusal from then on. An empty piece takes no memory.
     ///
-    /// Where the language is prompt, no token is held back that white space
-    /// follows. So a defect at such a token is told at once (`TellsEarly`).
+    /// No token is held back that white space follows, unless the quotes of a
+    /// long string are. So a defect at such a token is told at once (`TellsEarly`).
     pub fn feed(&mut self, piece: &[u8]) -> Result<(), ReadFault>
         ensures reads { OnOk result ((bytes : List ℕ)
             → HasRead S.Language.spells S.Grammar.grammar S.rules S.Made self.old bytes
@@ -99,7 +97,7 @@ impl<S: Syntax> Reader<S> {
         ensures refuses { IfErr result (λ fault. fault ≢ ReadFault.Memory → (bytes : List ℕ)
             → HasRead S.Language.spells S.Grammar.grammar S.rules S.Made self.old bytes
             → Refuses S.Language.spells S.Grammar.grammar S.rules (bytes ++ piece.now) fault) }
-        ensures early { IsPrompt S.Language.automaton S.Language.spells → OnOk result
+        ensures early { OnOk result
             (TellsEarly S.Language.spells S.Grammar.grammar S.rules S.Made self.new) }
         ensures empty { self.old.refused ≡ None → piece.now ≡ [] → IsOk result }
         ensures keeps { IfErr result (λ fault. self.new.refused ≡ Some fault) }
@@ -178,8 +176,8 @@ fn read<S: Syntax>(
         progress.old.parser progress.old.syntax progress.old.last bytes
         → Refuses S.Language.spells S.Grammar.grammar S.rules (bytes ++ piece.now) fault) }
     ensures within { OnOk result (fed + length piece.now ≤ most_bytes) }
-    ensures prompt { IsPrompt S.Language.automaton S.Language.spells → OnOk result
-        (HoldsNoEnd S.Language.spells lexer.new.begun) }
+    ensures prompt { OnOk result
+        (HoldsNoEnd S.Language.spells S.rules.long_quotes lexer.new.begun) }
 {
     let room = MOST_BYTES - fed;
     if room < piece.len() as u64 {

@@ -1,7 +1,6 @@
 //! Bytes, token by token.
 
 ghost use Rattle.std.specs.Prelude.{◌≡◌, ◌≢◌, ◌++◌, List, ℕ, length, IfErr, OnOk};
-ghost use Rattle.owl_lexer.specs.Languages.{IsPrompt};
 ghost use Rattle.owl_lexer.specs.Lexing.{HoldsNoEnd};
 ghost use Rattle.owl_reader.specs.Defects.{HasDefect};
 ghost use Rattle.owl_reader.specs.Faults.{lexing_refusal};
@@ -52,8 +51,8 @@ pub fn take<S: Syntax>(
         → IsOpen S.Language.spells S.Grammar.grammar S.rules S.Made lexer.old
         progress.old.parser progress.old.syntax progress.old.last bytes
         → HasDefectAlways S.Language.spells S.Grammar.grammar S.rules (bytes ++ piece.now) fault) }
-    ensures prompt { IsPrompt S.Language.automaton S.Language.spells → OnOk result
-        (HoldsNoEnd S.Language.spells lexer.new.begun) }
+    ensures prompt { OnOk result
+        (HoldsNoEnd S.Language.spells S.rules.long_quotes lexer.new.begun) }
 {
     tokens_come_always::<S::Language>();
     let mut tokens = Vec::new(alloc);

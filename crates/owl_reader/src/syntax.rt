@@ -3,6 +3,7 @@
 ghost use Rattle.std.specs.Prelude.{◌≡◌, ◌≢◌, ℕ, List, Option, IfErr, OnOk, true};
 ghost use Rattle.grammar.specs.Derivations.{Event};
 ghost use Rattle.grammar.specs.Grammars.{has_rule};
+ghost use Rattle.owl_lexer.specs.Languages.{IsPrompt};
 ghost use Rattle.owl_reader.specs.Steps.{GoesOn, MayFollow, MayTake};
 ghost use Rattle.owl_reader.specs.declared.fault.TokenFault.{TokenFault};
 ghost use Rattle.owl_reader.specs.declared.fault.TokenFault.TheVariants.{Memory};
@@ -65,4 +66,6 @@ pub trait Syntax: Drop {
             → rules.Bars events acts.now next fault) };
 
     ghost has_document: { has_rule Self.Grammar.grammar rules.document ≡ true };
+
+    ghost is_prompt: { IsPrompt Self.Language.automaton Self.Language.spells rules.long_quotes };
 }

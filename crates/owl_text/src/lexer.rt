@@ -77,7 +77,7 @@ impl Lexer {
             (length into.new.items + length self.new.begun.held
             ≤ length into.old.items + length self.old.begun.held + length piece.now) }
         ensures early { OnOk result (HoldsNone (SpellsIn self.old.dialect) self.new.begun) }
-        ensures prompt { OnOk result (HoldsNoEnd (SpellsIn self.old.dialect) self.new.begun) }
+        ensures prompt { OnOk result (HoldsNoEnd (SpellsIn self.old.dialect) [] self.new.begun) }
         ensures end { OnOk result
             (end_of self.new.begun ≡ end_of self.old.begun + length piece.now) }
         ensures dialect { self.new.dialect ≡ self.old.dialect }

@@ -75,10 +75,10 @@ functional_is_language = table_is_language is_gap functional_table (IsLexeme fun
 loud : List ℕ
 loud = 0 ∷ 1 ∷ 2 ∷ 3 ∷ 15 ∷ []
 
-quiet : check_quiet is_gap loud functional_table ≡ true
+quiet : check_quiet is_gap loud [] functional_table ≡ true
 unfolding functional_table loud
 quiet = refl
 
 -- Each token of Functional-Style Syntax can be told as soon as white space follows it.
-pub functional_is_prompt : IsPrompt functional_automaton Spells
-functional_is_prompt = table_is_prompt is_gap loud functional_table (IsLexeme functional_grammar) value_of Spells functional_knows gaps_pass quiet stand
+pub functional_is_prompt : IsPrompt functional_automaton Spells []
+functional_is_prompt = table_is_prompt is_gap loud [] functional_table (IsLexeme functional_grammar) value_of Spells functional_knows gaps_pass quiet stand

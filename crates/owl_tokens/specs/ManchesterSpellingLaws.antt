@@ -190,10 +190,10 @@ manchester_is_language = table_is_language is_gap manchester_table (IsLexeme man
 loud : List ℕ
 loud = 0 ∷ 1 ∷ 2 ∷ 3 ∷ 21 ∷ []
 
-quiet : check_quiet is_gap loud manchester_table ≡ true
+quiet : check_quiet is_gap loud [] manchester_table ≡ true
 unfolding manchester_table loud
 quiet = refl
 
 -- Each token of Manchester Syntax can be told as soon as white space follows it.
-pub manchester_is_prompt : IsPrompt manchester_automaton SpellsManchester
-manchester_is_prompt = table_is_prompt is_gap loud manchester_table (IsLexeme manchester_grammar) value_of SpellsManchester manchester_knows gaps_pass quiet stand
+pub manchester_is_prompt : IsPrompt manchester_automaton SpellsManchester []
+manchester_is_prompt = table_is_prompt is_gap loud [] manchester_table (IsLexeme manchester_grammar) value_of SpellsManchester manchester_knows gaps_pass quiet stand

@@ -1,6 +1,6 @@
 //! Laws of the languages.
 
-ghost use Rattle.std.specs.Prelude.{◌≡◌, ◌↔◌, ℕ, List, Some};
+ghost use Rattle.std.specs.Prelude.{◌≡◌, ◌↔◌, ℕ, List, Some, []};
 ghost use Rattle.owl_lexer.specs.Automata.{Knows};
 ghost use Rattle.owl_lexer.specs.Grammars.{IsLexeme};
 ghost use Rattle.owl_lexer.specs.Languages.{IsPrompt};
@@ -22,8 +22,8 @@ pub fn lexemes_are_known()
 /// A law: behind a token no characters lead on to white space, so that each
 /// token can be told as soon as white space follows it.
 pub fn languages_are_prompt()
-    ensures functional { IsPrompt functional_automaton Spells }
-    ensures manchester { IsPrompt manchester_automaton SpellsManchester }
+    ensures functional { IsPrompt functional_automaton Spells [] }
+    ensures manchester { IsPrompt manchester_automaton SpellsManchester [] }
 {}
 
 /// A law: characters are written for a token of Functional-Style Syntax exactly

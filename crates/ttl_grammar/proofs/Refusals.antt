@@ -149,4 +149,4 @@ pub defect_is_of_none : (bytes : List ℕ) (fault : ReadFault) (p : List Prefix)
 defect_is_of_none bytes fault p g (within few defect) d =
     read_has_no_defect is_predictive has_document splits_one_way bytes fault (read_is_read bytes p g d) defect
 defect_is_of_none bytes fault p g (beyond many defect) d = let few = d.few in omega (arith, many, few)
-defect_is_of_none bytes fault p g (too_long many is) d = let few = d.few in omega (arith, many, few)
+defect_is_of_none bytes fault p g (too_long many is none) d = let few = d.few in omega (arith, many, few)

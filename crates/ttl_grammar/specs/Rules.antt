@@ -6,6 +6,7 @@ use Rattle.owl_reader.specs.Syntaxes.{Rules}
 use Rattle.owl_reader.specs.declared.fault.TokenFault.{TokenFault}
 use Rattle.owl_reader.specs.declared.item.Mark.{Mark}
 use Rattle.owl_reader.specs.declared.item.Mark.TheVariants.{Last, Within}
+use Rattle.ttl_tokens.specs.TurtleSpellings.{long_quotes}
 use Rattle.ttl_tokens.specs.declared.token.Token.{Token}
 use Rattle.ttl_grammar.specs.Acts.{act_number}
 use Rattle.ttl_grammar.specs.Classes.{class_of}
@@ -24,7 +25,7 @@ abbrev pub Bars : List (Event Token) → List ℕ → Option Token → TokenFaul
 Bars events acts next fault = answer events acts next ≡ Err fault
 
 abbrev pub turtle_rules : Rules Token
-turtle_rules = record { class = class_of; document = rule_number document; mark = mark_of; Bars = Bars }
+turtle_rules = record { class = class_of; document = rule_number document; mark = mark_of; Bars = Bars; long_quotes = long_quotes }
 
 pub has_document : has_rule turtle turtle_rules.document ≡ true
 unfolding turtle turtle_document

@@ -1,5 +1,6 @@
 -- How a reader of Turtle stands to the bytes that it was fed.
 use Rattle.std.specs.Prelude.{ℕ, List}
+use Rattle.owl_reader.specs.Early as early
 use Rattle.owl_reader.specs.Readings as readings
 use Rattle.owl_reader.specs.declared.fault.ReadFault.{ReadFault}
 use Rattle.ttl_tokens.specs.TurtleSpellings.{Spells}
@@ -15,3 +16,7 @@ Refuses bytes fault = readings.Refuses Spells turtle turtle_rules bytes fault
 -- the reader was fed these bytes
 abbrev pub HasRead : readings.Reading Assembler → List ℕ → Type 0
 HasRead r bytes = readings.HasRead Spells turtle turtle_rules Made r bytes
+
+-- No defect before white space is left among them, where they hold neither `"""` nor `'''`.
+abbrev pub TellsEarly : readings.Reading Assembler → Type 0
+TellsEarly r = early.TellsEarly Spells turtle turtle_rules Made r

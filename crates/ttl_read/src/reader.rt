@@ -4,7 +4,7 @@ ghost use Rattle.std.specs.Prelude.{◌≡◌, ◌≢◌, ◌++◌, [], List, �
 ghost use Rattle.owl_reader.specs.declared.fault.ReadFault.{ReadFault};
 ghost use Rattle.ttl_grammar.specs.Documents.{IsFirstDefect, ReadsTurtle};
 ghost use Rattle.ttl_read.specs.NameTables.{ArePlain};
-ghost use Rattle.ttl_read.specs.Reading.{HasRead, Refuses};
+ghost use Rattle.ttl_read.specs.Reading.{HasRead, Refuses, TellsEarly};
 
 use crate::assembler::Assembler;
 use owl_atom::Prefixes;
@@ -55,12 +55,15 @@ impl Reader {
     ///
     /// A refusal other than `Memory` is the first defect of all bytes that were
     /// fed, with these, whatever follows. A reader that has refused answers the
-    /// same refusal from then on. An empty piece takes no memory.
+    /// same refusal from then on. A defect at a token that white space follows
+    /// is told at once, where the bytes hold no quotes of long strings. An empty
+    /// piece takes no memory.
     pub fn feed(&mut self, piece: &[u8]) -> Result<(), ReadFault>
         ensures reads { (bytes : List ℕ) → HasRead self.old bytes
             → HasRead self.new (bytes ++ piece.now) }
         ensures refuses { IfErr result (λ fault. fault ≢ ReadFault.Memory → (bytes : List ℕ)
             → HasRead self.old bytes → Refuses (bytes ++ piece.now) fault) }
+        ensures early { OnOk result (TellsEarly self.new) }
         ensures empty { self.old.refused ≡ None → piece.now ≡ [] → IsOk result }
         ensures keeps { IfErr result (λ fault. self.new.refused ≡ Some fault) }
         ensures same { (fault : ReadFault) → self.old.refused ≡ Some fault → result ≡ Err fault }

@@ -4,6 +4,7 @@ ghost use Rattle.std.specs.Prelude.{◌≡◌, ◌≢◌, List, IfErr, OnOk};
 ghost use Rattle.grammar.specs.Derivations.{Event};
 ghost use Rattle.owl_reader.specs.Steps.{GoesOn, MayFollow, MayTake};
 ghost use Rattle.owl_reader.specs.declared.fault.TokenFault as token;
+ghost use Rattle.ttl_tokens.specs.TurtleSpellingLaws.{turtle_is_prompt};
 ghost use Rattle.ttl_tokens.specs.TurtleSpellings.{Spells};
 ghost use Rattle.ttl_tokens.specs.declared.token.Token as lexeme;
 ghost use Rattle.ttl_grammar.specs.Rules.{Bars, has_document, turtle_rules};
@@ -60,4 +61,6 @@ impl Syntax for Assembler {
     }
 
     ghost has_document = { has_document };
+
+    ghost is_prompt = { turtle_is_prompt };
 }

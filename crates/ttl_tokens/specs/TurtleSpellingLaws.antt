@@ -6,10 +6,10 @@ use Rattle.std.proofs.Math.Bool.{or_assoc, or_comm}
 use Rattle.owl_characters.specs.Iri.{is_among}
 use Rattle.std.proofs.lemmas.Bool.{and_parts, eqb-true, or_cases}
 use Rattle.owl_characters.specs.Names.{IsRunOf}
-use Rattle.owl_lexer.specs.GapTestLaws.{Stand, table_is_language}
-use Rattle.owl_lexer.specs.GapTests.{check_gaps}
+use Rattle.owl_lexer.specs.GapTestLaws.{Stand, table_is_language, table_is_prompt}
+use Rattle.owl_lexer.specs.GapTests.{Quote, check_gaps, check_quiet}
 use Rattle.owl_lexer.specs.Grammars.{IsLexeme, IsLexemeOf, Terminal, test_of}
-use Rattle.owl_lexer.specs.Languages.{IsCommentText, IsLanguage, IsLexemeWith}
+use Rattle.owl_lexer.specs.Languages.{IsCommentText, IsLanguage, IsLexemeWith, IsPrompt}
 use Rattle.owl_lexer.specs.Languages.IsLexemeWith.{token, space, comment}
 use Rattle.owl_lexer.specs.PatternLaws.{Means, comment_is, each_is, one_is, run_is}
 use Rattle.owl_lexer.specs.Patterns.Pattern.{both, many, one}
@@ -18,7 +18,7 @@ use Rattle.owl_lexer.specs.Splitting.{is_line_end, is_space}
 use Rattle.owl_lexer.specs.Tables.{automaton_of}
 use Rattle.ttl_tokens.specs.TurtleGrammar.{comment_kind, turtle_grammar, white_space_kind}
 use Rattle.ttl_tokens.specs.TurtleLaws.{turtle_knows}
-use Rattle.ttl_tokens.specs.TurtleSpellings.{Spells}
+use Rattle.ttl_tokens.specs.TurtleSpellings.{Spells, long_quotes}
 use Rattle.ttl_tokens.specs.TurtleTable.{turtle_table}
 use Rattle.ttl_tokens.specs.TurtleValues.{token_of}
 use Rattle.ttl_tokens.specs.declared.token.Token.{Token}
@@ -103,3 +103,21 @@ lexemes_stand = record {
 
 pub turtle_is_language : IsLanguage (automaton_of turtle_table) token_of Spells
 turtle_is_language = table_is_language is_gap turtle_table (IsLexeme turtle_grammar) token_of Spells turtle_knows gaps_pass lexemes_stand
+
+-- white space may come at the first state, in white space and comments, and in strings and behind what is escaped in them
+
+loud : List ℕ
+loud = 0 ∷ 1 ∷ 2 ∷ 3 ∷ 4 ∷ 25 ∷ 27 ∷ 28 ∷ 30 ∷ 50 ∷ 51 ∷ 52 ∷ 54 ∷ 55 ∷ 56 ∷ 72 ∷ 73 ∷ 74 ∷ 75 ∷ 76 ∷ 77 ∷ 78 ∷ 79 ∷ 80 ∷ 81 ∷ 92 ∷ 93 ∷ 94 ∷ 95 ∷ 96 ∷ 97 ∷ 98 ∷ 99 ∷ 100 ∷ 101 ∷ 107 ∷ 108 ∷ 109 ∷ 110 ∷ 111 ∷ 112 ∷ 114 ∷ 115 ∷ 116 ∷ 117 ∷ 118 ∷ 119 ∷ 123 ∷ 124 ∷ 125 ∷ 126 ∷ 127 ∷ 128 ∷ 129 ∷ 130 ∷ 131 ∷ 132 ∷ 133 ∷ 134 ∷ 135 ∷ 136 ∷ []
+
+-- a quotation mark or an apostrophe leads to one state, two of them to another one
+quotes : List Quote
+quotes = record { character = 34; once = 2; twice = 26 } ∷ record { character = 39; once = 4; twice = 29 } ∷ []
+
+quiet : check_quiet is_gap loud quotes turtle_table ≡ true
+unfolding turtle_table loud quotes
+quiet = refl
+
+-- Each token of Turtle can be told as soon as white space follows it, unless a long string may still be open.
+pub turtle_is_prompt : IsPrompt (automaton_of turtle_table) Spells long_quotes
+unfolding quotes
+turtle_is_prompt = table_is_prompt is_gap loud quotes turtle_table (IsLexeme turtle_grammar) token_of Spells turtle_knows gaps_pass quiet lexemes_stand

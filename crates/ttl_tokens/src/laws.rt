@@ -4,6 +4,7 @@ ghost use Rattle.std.specs.Prelude.{◌≡◌, ℕ, List, ◌++◌, codes, flat_
 ghost use Rattle.std.specs.List.{AllByRecursion};
 ghost use Rattle.owl_lexer.specs.Automata.{Knows};
 ghost use Rattle.owl_lexer.specs.Grammars.{IsLexeme};
+ghost use Rattle.owl_lexer.specs.Languages.{IsPrompt};
 ghost use Rattle.owl_lexer.specs.Tables.{automaton_of};
 ghost use Rattle.owl_characters.specs.Names.{IsPrefixName, SpellsLocal};
 ghost use Rattle.ttl_tokens.specs.EscapedText.{IsPiece, Piece, characters_of, piece_spelling};
@@ -11,7 +12,7 @@ ghost use Rattle.ttl_tokens.specs.Escapes.{unescaped};
 ghost use Rattle.ttl_tokens.specs.StringLaws.{IsUndone};
 ghost use Rattle.ttl_tokens.specs.TokenForms.{IsFormed};
 ghost use Rattle.ttl_tokens.specs.TurtleGrammar.{string_literal_long_quote_kind, string_literal_long_single_quote_kind, string_literal_quote_kind, string_literal_single_quote_kind, turtle_grammar};
-ghost use Rattle.ttl_tokens.specs.TurtleSpellings.{Spells};
+ghost use Rattle.ttl_tokens.specs.TurtleSpellings.{Spells, long_quotes};
 ghost use Rattle.ttl_tokens.specs.TurtleTable.{turtle_table};
 ghost use Rattle.ttl_tokens.specs.TurtleValues.{local_text, prefix_text};
 ghost use Rattle.ttl_tokens.specs.declared.token.Token.{Token};
@@ -19,6 +20,13 @@ ghost use Rattle.ttl_tokens.specs.declared.token.Token.{Token};
 /// A law: the automaton of Turtle knows the lexemes of the grammar.
 pub fn lexemes_are_known()
     ensures { Knows (automaton_of turtle_table) (IsLexeme turtle_grammar) }
+{}
+
+/// A law: behind a token no characters lead on to white space, unless the quotes
+/// of a long string stand among them. So each token can be told as soon as white
+/// space follows it, where there are none.
+pub fn language_is_prompt()
+    ensures { IsPrompt (automaton_of turtle_table) Spells long_quotes }
 {}
 
 /// A law: each escape is undone, and nothing else.

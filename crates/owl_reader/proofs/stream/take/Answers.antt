@@ -10,10 +10,13 @@ returns-in-Ok-clause-takes g c = on_ok_weaker c.take_all.result (λ takes bytes 
 pub returns-in-Ok-clause-refuses : goal.returns-in-Ok-clause-refuses
 returns-in-Ok-clause-refuses g c = IfErr-weaker c.take_all.result _ _ (λ e refuses other bytes o. refused_among c.tokens_come_always.ensures.rest o c.new-tokens.ensures.items c.in-Ok.ensures.ok (refuses other o.steps o.stands)) c.take_all.ensures.refuses
 
+pub returns-in-Ok-clause-prompt : goal.returns-in-Ok-clause-prompt
+returns-in-Ok-clause-prompt g c = on_ok_weaker c.take_all.result (λ takes. c.in-Ok.ensures.prompt g.S.Syntax.rules.long_quotes g.met.S.Syntax.is_prompt) c.take_all.ensures.takes
+
 pub returns-in_ok-take_all-in-Err : goal.returns-in_ok-take_all-in-Err
 returns-in_ok-take_all-in-Err g c = record {
   takes = tt;
-  prompt = λ p. tt;
+  prompt = tt;
   refuses = λ other bytes o. stopped_there o c.new-tokens.ensures.items (c.in-Err.ensures.bad o.lexer_open (search rules)) (c.in_ok-take_all-in-Err.ensures.takes o.steps o.stands) c.refusal_of.ensures;
 }
 

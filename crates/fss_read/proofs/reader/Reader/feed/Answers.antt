@@ -2,7 +2,6 @@ use Rattle.std.proofs.Common.{subst, sym}
 use Rattle.std.proofs.lemmas.Result.{IfErr-weaker}
 use Rattle.owl_reader.specs.FedLaws.{fed}
 use Rattle.owl_reader.specs.Readings.{Reading}
-use Rattle.owl_tokens.specs.FunctionalSpellingLaws.{functional_is_prompt}
 use Rattle.fss_read.specs.Reading.{HasRead}
 use Rattle.fss_read.proofs.reader.Reader.feed.Goals as goal
 
@@ -13,4 +12,4 @@ pub returns-clause-refuses : goal.returns-clause-refuses
 returns-clause-refuses c = IfErr-weaker c.feed.result _ _ (λ e refuses other bytes h. refuses other bytes (subst (λ (r : Reading _). HasRead r bytes) (sym c.self.view_is) h)) c.feed.ensures.refuses
 
 pub returns-clause-early : goal.returns-clause-early
-returns-clause-early c = c.feed.ensures.early functional_is_prompt
+returns-clause-early c = c.feed.ensures.early

@@ -9,7 +9,7 @@ returns-in-Some-clause-refuses g c = λ other bytes h.
     refuses_on bytes c.args.piece.now _ (h.refuses c.in-Some.fault (ap (λ (r : Reading _). r.refused) (sym c.self.view_is) ∙ c.in-Some.is) other)
 
 pub invariant_of-self : goal.invariant_of-self
-invariant_of-self g c = (λ none prompt. c.in-Ok.ensures.prompt prompt, λ none. can_read _ c.read.new.lexer c.read.new.progress.parser c.read.new.progress.syntax c.read.new.progress.last c.args.piece.now _ (c.self.invariant.1 none) c.in-Ok.ensures.reads c.in-Ok.ensures.within)
+invariant_of-self g c = (λ none. c.in-Ok.ensures.prompt, λ none. can_read _ c.read.new.lexer c.read.new.progress.parser c.read.new.progress.syntax c.read.new.progress.last c.args.piece.now _ (c.self.invariant.1 none) c.in-Ok.ensures.reads c.in-Ok.ensures.within)
 
 pub returns-in-Err-clause-refuses : goal.returns-in-Err-clause-refuses
 returns-in-Err-clause-refuses g c = λ other bytes h.
@@ -21,9 +21,9 @@ returns-in-Ok-clause-reads g c = λ bytes h.
     reads_more _ c.read.new.lexer c.read.new.progress.parser c.read.new.progress.syntax c.read.new.progress.last bytes c.args.piece.now c.in_default.is (moved _ _ bytes c.self.view_is h) c.in-Ok.ensures.reads
 
 pub returns-then-is_empty-clause-early : goal.returns-then-is_empty-clause-early
-returns-then-is_empty-clause-early g c = λ prompt.
-    tells_early _ _ c.self.view_is g.met.S.Grammar.Table.predictive g.met.S.Syntax.has_document c.in_default.is (c.self.invariant.0 c.in_default.is prompt)
+returns-then-is_empty-clause-early g c =
+    tells_early _ _ c.self.view_is g.met.S.Grammar.Table.predictive g.met.S.Syntax.has_document c.in_default.is (c.self.invariant.0 c.in_default.is)
 
 pub returns-in-Ok-clause-early : goal.returns-in-Ok-clause-early
-returns-in-Ok-clause-early g c = λ prompt.
-    tells_early _ _ refl g.met.S.Grammar.Table.predictive g.met.S.Syntax.has_document c.in_default.is (c.in-Ok.ensures.prompt prompt)
+returns-in-Ok-clause-early g c =
+    tells_early _ _ refl g.met.S.Grammar.Table.predictive g.met.S.Syntax.has_document c.in_default.is c.in-Ok.ensures.prompt

@@ -6,7 +6,7 @@ use Rattle.owl_reader.proofs.reader.Reader.new.Goals as goal
 
 pub invariant_of-result : goal.invariant_of-result
 invariant_of-result g c = (
-  λ none prompt. none_held g.S.Language.TokenLanguage.spells c.new-3.result.begun (ap (λ (l : Lexing). l.begun.held) c.new-3.ensures),
+  λ none. none_held g.S.Language.TokenLanguage.spells g.S.Syntax.rules.long_quotes c.new-3.result.begun (ap (λ (l : Lexing). l.begun.held) c.new-3.ensures),
   λ none. record {
     bytes = [];
     open_yet = nothing_open g.met.S.Grammar.Table.predictive g.met.S.Grammar.Table.productive g.met.S.Syntax.has_document c.args.syntax c.requires c.new-3.result c.new-3.ensures c.document.result c.document.ensures c.in_ok-parser.parser c.in_ok-parser.ensures;
