@@ -7,7 +7,6 @@ pub mod ClassLaws
 pub mod Making
 pub mod Doing
 pub mod ActingLaws
-pub mod FormLaws
 pub mod OneWayLaws
 pub mod DoingLaws
 pub mod DeclaringLaws

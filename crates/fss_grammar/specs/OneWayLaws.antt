@@ -20,7 +20,7 @@ use Rattle.owl_tree.specs.Trees.{Tree, leaf}
 use Rattle.fss_terms.specs.Terms.{iri_of_token}
 use Rattle.fss_grammar.specs.ActLaws.{same_act}
 use Rattle.fss_grammar.specs.Doing.{Does, prefixes_behind}
-use Rattle.fss_grammar.specs.FormLaws.{one_denoted}
+use Rattle.rdf_terms.specs.FormLaws.{one_denoted}
 use Rattle.fss_grammar.specs.Making.{Adds, BeginsConstruct, BeginsLeaf, Comes, ComesAtom, Declares, DoneThen, Kept, Maker, MakesHeld, MakesLiteral, Performs, Shuts, Versions, add_annotation, add_axiom, declare, import_iri, name_ontology, next_token, put}
 use Rattle.fss_grammar.specs.Making.Kept.{iri, item, prefix, string}
 use Rattle.fss_grammar.specs.Meaning.{Events}

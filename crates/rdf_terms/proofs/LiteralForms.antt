@@ -1,7 +1,6 @@
 -- What the forms of literals denote.
-use Rattle.std.proofs.Common.{Result, Ok, Err, IfOk, IsErrOf, IsNone, ◌⊎◌, Option, length, inl, inr, arith, ◌≡◌, ◌≢◌, ℕ, ◌<◌, ◌↔◌, Bool, true, false, not, List, [], ◌∷◌, ◌++◌, get_or, take, drop, Some, None, refl, sym, ap, ◌∙◌, subst}
+use Rattle.std.proofs.Common.{Result, Ok, Err, IfOk, IsErrOf, IsNone, ◌⊎◌, Option, length, inl, inr, arith, ◌≡◌, ◌≢◌, ℕ, ◌<◌, ◌↔◌, true, false, not, List, [], ◌∷◌, ◌++◌, get_or, take, drop, Some, None, refl, sym, ap, ◌∙◌, subst}
 use Rattle.std.specs.Prelude.{◌==◌}
-use Rattle.std.specs.Char.{is_ascii_alphanumeric}
 use Rattle.std.specs.Str.{IsUtf8, chars}
 use Rattle.std.specs.Str.Pattern.{RFindsChar}
 use denote.Ref.{Bor}
@@ -9,24 +8,12 @@ use Rattle.std.proofs.lemmas.Bool.{false≢true}
 use Rattle.std.specs.Option.{option_map}
 use Rattle.rdf_terms.specs.declared.fault.LiteralFault.{LiteralFault}
 use Rattle.rdf_terms.specs.declared.fault.LiteralFault.TheVariants.{BadLiteral}
-use Rattle.owl_characters.specs.Iri.{AllAre}
 use Rattle.owl_characters.specs.Names.{IsLanguageTag}
-use Rattle.owl_characters.specs.CutLaws.{SameCut, found}
+use Rattle.owl_characters.specs.CutLaws.{found}
 use Rattle.owl_characters.specs.AsciiLaws.{ascii_chars}
+use Rattle.rdf_terms.specs.FormLaws.{rest_passes, same_last_cut}
 use Rattle.rdf_terms.specs.Literals.{DenotesLiteral, DenotesTyped, FitsTag, LiteralParts, PlainForm, PlainParts, lang_string, of_datatype, plain_literal, string, with_tag}
 use Rattle.rdf_terms.proofs.Characters.{NoneAre, back_utf8, cut_at, none_of}
-use Rattle.rdf_terms.proofs.Iris.{another}
-use Rattle.rdf_terms.proofs.LanguageTags.{tag_passes}
-
--- lists that are cut at the last character that fails are cut alike
-same_last_cut : (p : ℕ → Bool) (xs ys : List ℕ) (c : ℕ) (a b : List ℕ) → AllAre p a → AllAre p b → p c ≡ false → xs ++ c ∷ a ≡ ys ++ c ∷ b → SameCut xs ys c c a b
-same_last_cut p [] [] c a b ha hb f e = record { front = refl; fails = refl; rest = cc }
-same_last_cut p [] (y ∷ ys) c a b ha hb f e = absurd (found p ys c b a ha f (cc))
-same_last_cut p (x ∷ xs) [] c a b ha hb f e = absurd (found p xs c a b hb f (cc))
-same_last_cut p (x ∷ xs) (y ∷ ys) c a b ha hb f e =
-    let s = same_last_cut p xs ys c a b ha hb f (cc) in
-    let h : x ≡ y = cc in
-    record { front = cc; fails = refl; rest = s.rest }
 
 -- what `rsplit_once` tells of the characters
 pub last_cut : (c : ℕ) (bs : List ℕ) (front back : Bor (List ℕ)) (i j : ℕ) → IsUtf8 bs → RFindsChar c bs (Some (i, j)) → front.now ≡ take i bs → back.now ≡ drop j bs → c < 128 → (chars bs ≡ chars front.now ++ c ∷ chars back.now) × NoneAre (λ d. d == c) (chars back.now)
@@ -35,39 +22,14 @@ last_cut c bs front back i j u h before after small = (
   subst (λ x. NoneAre (λ d. d == c) (chars x)) (sym after) (none_of (λ d. d == c) (drop j bs) (back_utf8 c bs i j u h.1) h.0),
 )
 
--- what stands behind the `@` of a form has none itself
-rest_has_none : (text rest : List ℕ) (literal : LiteralParts) → PlainParts text rest literal → NoneAre (λ d. d == 64) rest
-rest_has_none text [] literal h = tt
-rest_has_none text (c ∷ cs) literal h =
-    tag_passes (λ d. not (d == 64)) refl (λ d t. another is_ascii_alphanumeric 64 d refl t) (c ∷ cs) h.0
-
 -- what a form denotes is what the parts at its last `@` denote
 pub parts_of_form : (form before after : List ℕ) → form ≡ before ++ 64 ∷ after → NoneAre (λ d. d == 64) after → (literal : LiteralParts) → PlainParts before after literal ↔ PlainForm form literal
 parts_of_form form before after e fresh literal = (
   λ h. record { text = before; rest = after; parts = e; denotes = h },
   λ f.
-      let same = same_last_cut (λ d. not (d == 64)) before f.text 64 after f.rest fresh (rest_has_none f.text f.rest literal f.denotes) refl (sym e ∙ f.parts) in
+      let same = same_last_cut (λ d. not (d == 64)) before f.text 64 after f.rest fresh (rest_passes f.text f.rest literal f.denotes) refl (sym e ∙ f.parts) in
       subst (λ x. PlainParts x after literal) (sym same.front) (subst (λ y. PlainParts f.text y literal) (sym same.rest) f.denotes),
 )
-
--- a form denotes one literal at most
-one_of_parts : (text rest : List ℕ) (a b : LiteralParts) → PlainParts text rest a → PlainParts text rest b → a ≡ b
-one_of_parts text [] a b h k = h ∙ sym k
-one_of_parts text (c ∷ cs) a b h k = h.1 ∙ sym k.1
-
-one_of_form : (form : List ℕ) (a b : LiteralParts) → PlainForm form a → PlainForm form b → a ≡ b
-one_of_form form a b f g =
-    one_of_parts g.text g.rest a b ((parts_of_form form g.text g.rest g.parts (rest_has_none g.text g.rest b g.denotes) a).1 f) g.denotes
-
-pub one_typed : (form datatype : List ℕ) (a b : LiteralParts) → DenotesTyped form datatype a → DenotesTyped form datatype b → a ≡ b
-one_typed form datatype a b (inl h) (inl k) = one_of_form form a b h.1 k.1
-one_typed form datatype a b (inl h) (inr k) = absurd (k.0 h.0)
-one_typed form datatype a b (inr h) (inl k) = absurd (h.0 k.0)
-one_typed form datatype a b (inr h) (inr k) = h.2 ∙ sym k.2
-
-pub one_untyped : (form : List ℕ) (tag : Option (List ℕ)) (a b : LiteralParts) → DenotesLiteral form None tag a → DenotesLiteral form None tag b → a ≡ b
-one_untyped form None a b h k = h ∙ sym k
-one_untyped form (Some tag) a b h k = h ∙ sym k
 
 pub no_form : (form : List ℕ) → NoneAre (λ d. d == 64) form → (literal : LiteralParts) → PlainForm form literal → ⊥
 no_form form fresh literal f = found (λ d. not (d == 64)) f.text 64 f.rest form fresh refl f.parts

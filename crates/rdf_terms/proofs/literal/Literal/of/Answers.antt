@@ -2,7 +2,8 @@ use Rattle.std.proofs.Common.{◌≡◌, Some, None}
 use Rattle.std.specs.Option.{option_map}
 use Rattle.std.specs.Str.{chars}
 use Rattle.rdf_terms.specs.Literals.{DenotesLiteral, DenotesTyped, LiteralParts}
-use Rattle.rdf_terms.proofs.LiteralForms.{alike, given, one_of_two, one_typed, one_untyped, taken, without_datatype, without_tag}
+use Rattle.rdf_terms.specs.FormLaws.{one_denoted, one_typed}
+use Rattle.rdf_terms.proofs.LiteralForms.{alike, given, one_of_two, taken, without_datatype, without_tag}
 use Rattle.rdf_terms.proofs.literal.Literal.of.Goals as goal
 
 pub returns-in-Some-clause-bad : goal.returns-in-Some-clause-bad
@@ -24,7 +25,7 @@ pub returns-in-None-clause-only : goal.returns-in-None-clause-only
 returns-in-None-clause-only c =
     let form = chars c.args.lexical.now in
     let tag = option_map (λ t. chars t.now) c.args.tag in
-    let only = given c.of_tag.result (DenotesLiteral form None tag) (λ l. (other : LiteralParts) → DenotesLiteral form None tag other → other ≡ l) (λ l h other k. one_untyped form tag other l k h) c.of_tag.ensures.ok in
+    let only = given c.of_tag.result (DenotesLiteral form None tag) (λ l. (other : LiteralParts) → DenotesLiteral form None tag other → other ≡ l) (λ l h other k. one_denoted form None tag other l k h) c.of_tag.ensures.ok in
     rw c.in-None.is only
 
 pub returns-in-None-clause-bad : goal.returns-in-None-clause-bad

@@ -11,7 +11,7 @@ use Rattle.owl_characters.specs.Names.{is_hyphen}
 use Rattle.owl_characters.specs.Subtags.{tag_fits}
 
 -- lists that are cut at the last character that fails are cut alike
-same_last_cut : (p : ℕ → Bool) (xs ys : List ℕ) (c : ℕ) (a b : List ℕ) → AllAre p a → AllAre p b → p c ≡ false → xs ++ c ∷ a ≡ ys ++ c ∷ b → SameCut xs ys c c a b
+pub same_last_cut : (p : ℕ → Bool) (xs ys : List ℕ) (c : ℕ) (a b : List ℕ) → AllAre p a → AllAre p b → p c ≡ false → xs ++ c ∷ a ≡ ys ++ c ∷ b → SameCut xs ys c c a b
 same_last_cut p [] [] c a b h k f e = record { front = refl; fails = refl; rest = cc }
 same_last_cut p [] (y ∷ ys) c a b h k f e = absurd (found p ys c b a h f (cc))
 same_last_cut p (x ∷ xs) [] c a b h k f e = absurd (found p xs c a b k f (cc))
@@ -22,7 +22,7 @@ same_last_cut p (x ∷ xs) (y ∷ ys) c a b h k f e =
 
 -- ---- no language tag has an `@`
 
-abbrev is_other : ℕ → Bool
+abbrev pub is_other : ℕ → Bool
 is_other c = not (c == 64)
 
 others_pass : (test : ℕ → Bool) → test 64 ≡ false → (c : ℕ) → test c ≡ true → is_other c ≡ true
@@ -47,7 +47,7 @@ fits_pass test some (c ∷ cs) e h =
 
 -- ---- plain forms
 
-rest_passes : (text rest : List ℕ) (literal : LiteralParts) → PlainParts text rest literal → AllAre is_other rest
+pub rest_passes : (text rest : List ℕ) (literal : LiteralParts) → PlainParts text rest literal → AllAre is_other rest
 rest_passes text [] literal h = tt
 rest_passes text (c ∷ cs) literal h = fits_pass is_ascii_alphabetic false (c ∷ cs) refl (tag_to_fits (c ∷ cs) h.0)
 
@@ -62,7 +62,7 @@ one_of_form form a b f g =
     one_of_parts g.text g.rest a b
     (subst (λ l. PlainParts l g.rest a) same.front (subst (λ l. PlainParts f.text l a) same.rest f.denotes)) g.denotes
 
-one_typed : (form datatype : List ℕ) (a b : LiteralParts) → DenotesTyped form datatype a → DenotesTyped form datatype b → a ≡ b
+pub one_typed : (form datatype : List ℕ) (a b : LiteralParts) → DenotesTyped form datatype a → DenotesTyped form datatype b → a ≡ b
 one_typed form datatype a b (inl h) (inl k) = one_of_form form a b h.1 k.1
 one_typed form datatype a b (inl h) (inr k) = absurd (k.0 h.0)
 one_typed form datatype a b (inr h) (inl k) = absurd (h.0 k.0)
