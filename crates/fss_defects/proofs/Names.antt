@@ -16,7 +16,7 @@ use Rattle.grammar.specs.declared.symbol.Symbol.TheVariants.{Act, Need, Rule}
 use Rattle.owl_reader.specs.Steps.{Step, events_of}
 use Rattle.owl_tokens.specs.declared.token.Token.{Token}
 use Rattle.owl_tree.specs.declared.row.AtomSort.TheVariants as atom
-use Rattle.owl_tree.specs.Rows.{Leaf, Node, row_of}
+use Rattle.owl_tree.specs.Rows.{Leaf, row_of}
 use Rattle.owl_tree.specs.Rows as trees
 use Rattle.owl_tree.specs.Tags.{all_tags, number_of}
 use Rattle.fss_grammar.specs.Acts.{act_number}

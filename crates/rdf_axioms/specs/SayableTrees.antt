@@ -17,7 +17,7 @@ use Rattle.owl_tree.specs.declared.atom.Atom.TheVariants as atom
 use Rattle.owl_tree.specs.declared.row.AtomSort.TheVariants as held
 use Rattle.owl_tree.specs.declared.tag.Tag.{Tag}
 use Rattle.owl_tree.specs.declared.tag.Tag.TheVariants as tag
-use Rattle.owl_tree.specs.Rows.{admits, row_of, takes}
+use Rattle.owl_tree.specs.Rows.{row_of, takes}
 use Rattle.owl_tree.specs.Rows as tree
 use Rattle.owl_tree.specs.Shape.{AreShaped, IsShaped}
 use Rattle.owl_tree.specs.Trees.{Tree, Kids, leaf, node, no_kids, kid, list_of, tag_of}

@@ -9,7 +9,7 @@ use Rattle.owl_tree.specs.declared.row.Sort.{Sort}
 use Rattle.owl_tree.specs.declared.row.Sort.TheVariants as sort
 use Rattle.owl_tree.specs.declared.tag.Tag.{Tag}
 use Rattle.owl_tree.specs.declared.tag.Tag.TheVariants as tag
-use Rattle.owl_tree.specs.Rows.{admits, fits, is_tag, row_of, takes}
+use Rattle.owl_tree.specs.Rows.{admits, fits, is_tag, row_of}
 use Rattle.owl_tree.specs.Rows as tree
 use Rattle.owl_tree.specs.Shape.{AreShaped, IsShaped}
 use Rattle.owl_tree.specs.Tags.{number_of}

@@ -18,9 +18,9 @@ use Rattle.owl_tree.specs.Order.{tree_cmp}
 use Rattle.owl_tree.specs.OrderLaws.{same_number, only_equal_trees_tie, trees_total}
 use Rattle.owl_tree.specs.Rows.{is_tag, row_of, set_start}
 use Rattle.owl_tree.specs.Tags.{number_of}
-use Rattle.owl_tree.specs.Trees.{Tree, Kids, leaf, node, no_kids, kid, atom_in, kids_in, list_of, tag_of}
+use Rattle.owl_tree.specs.Trees.{Tree, leaf, node, atom_in, kids_in, tag_of}
 use Rattle.rdf_normal.specs.Makings.{AreMade, IsMade, image}
-use Rattle.rdf_normal.specs.NormalForms.{is_needless, needed, needed_in, over, tidied, tidieds}
+use Rattle.rdf_normal.specs.NormalForms.{is_needless, needed, needed_in, over, tidied}
 use Rattle.rdf_normal.proofs.Extending.{are_made_at, forms_at, made_at, made_more, tree_later}
 use Rattle.rdf_normal.specs.TidiedLaws.{tidieds_map}
 

@@ -11,7 +11,7 @@ use Rattle.std.proofs.lemmas.List.Concat.{flat_map-cons}
 use Rattle.std.proofs.lemmas.Option.{none-some, same_Some}
 use Rattle.owl_doc.specs.Heads.{iri_in}
 use Rattle.owl_list.specs.Ascending.{ascending, by_order, put}
-use Rattle.owl_list.specs.AscendingLaws.{all_ascending, all_from, all_in, all_later, all_map}
+use Rattle.owl_list.specs.AscendingLaws.{all_from, all_in, all_later}
 use Rattle.owl_tree.specs.declared.tag.Tag.{Tag}
 use Rattle.owl_tree.specs.declared.tag.Tag.TheVariants as tag
 use Rattle.owl_tree.specs.Canonical.{canonical, canonicals, arranged, arranged_from}

@@ -10,15 +10,13 @@ use Rattle.owl_doc.specs.Entities.{Declares, declaration, declared_over}
 use Rattle.owl_doc.specs.Heads.{iri_in}
 use Rattle.owl_kind.specs.declared.kind.Kind.{Kind}
 use Rattle.owl_kind.specs.Kinds.{Entity}
-use Rattle.owl_list.specs.Ascending.{HoldSame, ascending}
-use Rattle.owl_list.specs.AscendingLaws.{ascending_holds, from_map, in_cases, in_head, in_map, in_none, in_tail}
+use Rattle.owl_list.specs.AscendingLaws.{from_map, in_cases, in_head, in_map, in_none, in_tail}
 use Rattle.owl_tree.specs.declared.atom.Atom.{Atom}
 use Rattle.owl_tree.specs.declared.tag.Tag.{Tag}
 use Rattle.owl_tree.specs.declared.tag.Tag.TheVariants as tag
 use Rattle.owl_tree.specs.Canonical.{canonical}
 use Rattle.owl_tree.specs.Ontologies.{Ontology, canonical_list}
-use Rattle.owl_tree.specs.Order.{tree_cmp}
-use Rattle.owl_tree.specs.OrderLaws.{only_equal_trees_tie, same_number, trees_total}
+use Rattle.owl_tree.specs.OrderLaws.{same_number}
 use Rattle.owl_tree.specs.Rows.{is_tag, row_of}
 use Rattle.owl_tree.specs.Tags.{number_of}
 use Rattle.owl_tree.specs.Trees.{Tree, Kids, leaf, node, no_kids, kid, kids_in, tag_of}

@@ -1,4 +1,4 @@
-use Rattle.std.proofs.Common.{◌≡◌, ◌∙◌, Bool, None, Some, sym, ap}
+use Rattle.std.proofs.Common.{◌∙◌, Bool, None, Some, sym, ap}
 use Rattle.std.specs.Prelude.{if◌then◌else◌}
 use Rattle.std.specs.Str.{chars}
 use Rattle.iri_references.proofs.Allowed.{with_scheme_iri}
