@@ -1,9 +1,13 @@
 //! Lists in ascending order, in which each item stands once.
 #![tactic(auto)]
 
-ghost use Rattle.std.specs.Prelude.{◌≡◌, ◌↔◌, List};
+mod ranks;
+
+ghost use Rattle.std.specs.Prelude.{◌≡◌, ◌↔◌, IsTrue, List};
 ghost use Rattle.std.specs.FinMap.{IsAntisymmetric};
 ghost use Rattle.owl_list.specs.Ascending.{ascending, HoldSame, IsAscending};
+
+pub use ranks::sort_by_ranks;
 
 /// Puts the items in ascending order, each once.
 ///
@@ -12,8 +16,18 @@ pub fn arrange<T: Ord + Drop>(items: &mut Vec<T>)
     requires { IsAntisymmetric T.cmp }
     ensures { items.new.items ≡ ascending T.cmp items.old.items }
 {
+    if is_ascending(items) {
+        return;
+    }
     items.sort_unstable();
     items.dedup();
+}
+
+/// Whether each item comes before the next one.
+fn is_ascending<T: Ord>(items: &[T]) -> bool
+    ensures { IsTrue result → IsAscending T.cmp items.now }
+{
+    items.is_sorted_by(|a, b| a.cmp(b).is_lt())
 }
 
 /// Laws: a list has one list in ascending order with the same items, which is

@@ -4,4 +4,3 @@ pub mod Halving
 pub mod Subjects
 pub mod Places
 pub mod Index
-pub mod Lent

@@ -1,10 +1,9 @@
 -- The places of triples in the order of their objects.
-use Rattle.std.specs.Prelude.{◌≡◌, ◌↔◌, ◌<◌, ◌≤◌, ℕ, Bool, true, false, List, Some, Contains, length, map}
+use Rattle.std.specs.Prelude.{◌≡◌, ◌↔◌, ◌<◌, ◌≤◌, ℕ, Bool, true, false, List, Some, Contains, length}
 use Rattle.std.specs.declared.cmp.Ordering.{Ordering}
 use Rattle.std.specs.List.Sorted.{IsPartitionPoint, IsSorted}
 use Rattle.std.specs.Option.{option_cmp}
 use Rattle.std.specs.Ordering.{is_lt, nat_cmp, on, ordering_then, then_cmp}
-use Rattle.rdf_graph.specs.declared.by_object.Ranked.{Ranked}
 use Rattle.rdf_graph.specs.declared.term.Term.{Term}
 use Rattle.rdf_graph.specs.declared.triple.Triple.{Triple}
 use Rattle.rdf_graph.specs.Graphs.{object_at}
@@ -18,10 +17,6 @@ place_cmp triples = then_cmp (on (object_at triples) (option_cmp term_cmp)) nat_
 abbrev pub is_before : List Triple → Term → ℕ → ℕ → Bool
 is_before triples object from place =
     is_lt (ordering_then (option_cmp term_cmp (object_at triples place) (Some object)) (nat_cmp place from))
-
--- places without the ranks of their objects
-abbrev pub places_of : List Ranked → List ℕ
-places_of = map (λ ranked. ranked.place)
 
 -- so many of the places are before, and the others stand behind them
 pub record IsCountBefore (triples : List Triple) (places : List ℕ) (object : Term) (from count : ℕ) : Type 0 where

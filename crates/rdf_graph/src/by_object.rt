@@ -3,13 +3,14 @@
 ghost use Rattle.std.specs.Prelude.{◌≡◌, ◌↔◌, ◌<◌, ◌≤◌, ℕ, length, Contains, IfOk, IfSome, IsNone, IsTrue, Some};
 ghost use Rattle.std.specs.List.Sorted.{IsPermutation, IsSorted};
 ghost use Rattle.std.specs.Option.{option_cmp, option_copied};
-ghost use Rattle.rdf_graph.specs.ByObject.{IsCountBefore, IsIndex, is_before, place_cmp, places_of};
+ghost use Rattle.rdf_graph.specs.ByObject.{IsCountBefore, IsIndex, is_before, place_cmp};
 ghost use Rattle.rdf_graph.specs.Graphs.{HasNoneWith, IsNextWith, most_triples, object_at};
 ghost use Rattle.rdf_graph.specs.Terms.{term_cmp};
 
 use crate::ranks::Fronts;
 use crate::term::Term;
 use crate::triple::Triple;
+use owl_list::sort_by_ranks;
 use std::alloc::{AllocError, Global};
 use std::cmp::Ordering;
 
@@ -18,7 +19,8 @@ pub fn places_by_object(alloc: Global, triples: &[Triple]) -> Result<Vec<u32>, A
     requires { length triples.now ≤ most_triples }
     ensures { IfOk result (λ places. IsIndex triples.now places.items) }
 {
-    let mut places = places_by_rank(alloc, triples, &Fronts::of_objects(triples))?;
+    let mut places = all_places(alloc, triples)?;
+    order_by_ranks(triples, &Fronts::of_objects(triples), &mut places);
     // What is in order already is only gone through.
     order(triples, &mut places);
     Ok(places)
@@ -69,89 +71,36 @@ fn count_before(triples: &[Triple], places: &[u32], object: &Term, from: usize) 
     places.partition_point(|place| is_before(triples, *place as usize, object, from))
 }
 
-/// The places of all triples, by the ranks of their objects.
-fn places_by_rank(
-    alloc: Global,
-    triples: &[Triple],
-    fronts: &Fronts,
-) -> Result<Vec<u32>, AllocError>
+/// The places of all triples.
+fn all_places(alloc: Global, triples: &[Triple]) -> Result<Vec<u32>, AllocError>
     requires { length triples.now ≤ most_triples }
     ensures { IfOk result (λ places. (place : ℕ)
         → Contains places.items place ↔ (place < length triples.now)) }
 {
-    let mut ranked = ranked_places(alloc, triples, fronts)?;
-    order_ranked(triples, &mut ranked);
-    places_of(alloc, &ranked)
-}
-
-/// A place, with the rank of its object.
-#[derive(Clone, Copy, Debug, PartialEq, Eq, PartialOrd, Ord)]
-struct Ranked {
-    rank: u128,
-    place: u32,
-}
-
-/// All places, in their order.
-fn ranked_places(
-    alloc: Global,
-    triples: &[Triple],
-    fronts: &Fronts,
-) -> Result<Vec<Ranked>, AllocError>
-    requires { length triples.now ≤ most_triples }
-    ensures { IfOk result (λ ranked. (place : ℕ)
-        → Contains (places_of ranked.items) place ↔ (place < length triples.now)) }
-{
-    let mut ranked = Vec::with_capacity(alloc, triples.len())?;
+    let mut places = Vec::with_capacity(alloc, triples.len())?;
     for place in 0..triples.len() as u32 {
-        let rank = fronts.rank(&triples[place as usize].object);
-        ranked.push(Ranked { rank, place })?;
+        places.push(place)?;
     }
-    Ok(ranked)
+    Ok(places)
 }
 
-/// Puts places in order by rank, and those of one rank by their objects.
-fn order_ranked(triples: &[Triple], ranked: &mut Vec<Ranked>)
-    ensures { IsPermutation ranked.old.items ranked.new.items }
+/// Puts places in about the order of their objects, where there is memory for it.
+fn order_by_ranks(triples: &[Triple], fronts: &Fronts, places: &mut Vec<u32>)
+    ensures { IsPermutation places.old.items places.new.items }
 {
-    ranked.sort_unstable();
-    order_ties(triples, ranked);
+    sort_by_ranks(
+        places,
+        |place| rank_at(triples, fronts, *place as usize),
+        |a, b| compare(triples, *a as usize, *b as usize),
+    );
 }
 
-/// Puts in order what stands side by side and has one rank.
-fn order_ties(triples: &[Triple], ranked: &mut [Ranked])
-    ensures { IsPermutation ranked.old ranked.new }
-{
-    let mut start = 0;
-    while start < ranked.len() {
-        let end = end_of_ties(ranked, start);
-        ranked[start..end].sort_unstable_by(|a, b| compare(
-            triples,
-            a.place as usize,
-            b.place as usize,
-        ));
-        start = end;
+/// The rank of the object of the triple at this place; 0 where none stands there.
+fn rank_at(triples: &[Triple], fronts: &Fronts, place: usize) -> u128 {
+    match triples.get(place) {
+        Some(triple) => fronts.rank(&triple.object),
+        None => 0,
     }
-}
-
-/// Where the places end that have the rank of this one.
-fn end_of_ties(ranked: &[Ranked], start: usize) -> usize
-    requires { start < length ranked.now }
-    ensures { (start < result) × (result ≤ length ranked.now) }
-{
-    let rank = ranked[start].rank;
-    for end in start + 1..ranked.len() {
-        if ranked[end].rank != rank {
-            return end;
-        }
-    }
-    ranked.len()
-}
-
-/// The places alone.
-fn places_of(alloc: Global, ranked: &[Ranked]) -> Result<Vec<u32>, AllocError>
-    ensures { IfOk result (λ places. places.items ≡ places_of ranked.now) }
-{
-    ranked.iter().map(|it| it.place).collect(alloc)
 }
 
 /// Puts places in order, by object and then by place.

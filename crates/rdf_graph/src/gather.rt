@@ -12,7 +12,7 @@ use crate::graph::{Graph, MOST_TRIPLES};
 use crate::ranks::Fronts;
 use crate::triple::Triple;
 use owl_characters::NoMemory;
-use owl_list::arrange;
+use owl_list::{arrange, sort_by_ranks};
 use std::alloc::{AllocError, Global};
 use std::marker::Model;
 
@@ -118,34 +118,5 @@ fn order_by_ranks(triples: &mut Vec<Triple>, fronts: &Fronts)
     if triples.is_sorted() {
         return;
     }
-    let ranked = triples.sort_by_cached_key(|triple| fronts.rank(&triple.subject));
-    if ranked.is_ok() {
-        order_ties(triples, fronts);
-    }
-}
-
-/// Puts in order what stands side by side and has one rank.
-fn order_ties(triples: &mut [Triple], fronts: &Fronts)
-    ensures { IsPermutation triples.old triples.new }
-{
-    let mut start = 0;
-    while start < triples.len() {
-        let end = end_of_ties(triples, fronts, start);
-        triples[start..end].sort_unstable();
-        start = end;
-    }
-}
-
-/// Where the triples end that have the rank of the one at this place.
-fn end_of_ties(triples: &[Triple], fronts: &Fronts, start: usize) -> usize
-    requires { start < length triples.now }
-    ensures { (start < result) × (result ≤ length triples.now) }
-{
-    let rank = fronts.rank(&triples[start].subject);
-    for end in start + 1..triples.len() {
-        if fronts.rank(&triples[end].subject) != rank {
-            return end;
-        }
-    }
-    triples.len()
+    sort_by_ranks(triples, |triple| fronts.rank(&triple.subject), Ord::cmp);
 }

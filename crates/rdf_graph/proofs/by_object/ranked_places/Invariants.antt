@@ -1,7 +1,0 @@
-use Rattle.std.proofs.Common.{◌<◌, ◌↔◌, ℕ}
-use Rattle.std.specs.Prelude.{Contains}
-use Rattle.rdf_graph.specs.ByObject.{places_of}
-use Rattle.rdf_graph.proofs.by_object.ranked_places.Given as goal
-
-abbrev pub invariant-loop-place : goal.invariant-loop-place
-invariant-loop-place l = (place : ℕ) → Contains (places_of l.ranked.items) place ↔ (place < l.place)
