@@ -5,6 +5,7 @@
 
 use anyhow::Result;
 use std::io::{Read, Write};
+use std::mem;
 use ttl_read::Reader;
 
 /// How many bytes are read at a time.
@@ -16,6 +17,8 @@ fn main(rt: HostRuntime) -> Result<()> {
     let doc = reader.finish()?;
     let text = ttl_write::write(rt.alloc(), &doc.graph, &doc.prefixes)?;
     rt.stdout().write_all(text.as_str().as_bytes())?;
+    // The process ends here, so its many small texts need not be given back one by one.
+    mem::forget(doc);
     Ok(())
 }
 
