@@ -5,3 +5,4 @@ pub mod Stacks
 pub mod Tables
 pub mod Turns
 pub mod Finished
+pub mod Gathering

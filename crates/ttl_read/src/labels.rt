@@ -1,15 +1,16 @@
 //! Labels for the blank nodes that have none.
 
-ghost use Rattle.std.specs.Prelude.{◌≡◌, ◌<◌, ◌≤◌, ◌+◌, ◌^◌, List, IfErr, IfOk, IsErrOf, length, map};
+ghost use Rattle.std.specs.Prelude.{◌≡◌, ◌<◌, ◌≤◌, ◌+◌, ◌++◌, ◌^◌, List, IfErr, IfOk, IsErrOf, OnOk, length, map};
+ghost use Rattle.owl_list.specs.Ascending.{HoldSame};
 ghost use Rattle.rdf_graph.specs.declared.fault.GraphFault.{GraphFault};
-ghost use Rattle.rdf_graph.specs.Graphs.{most_triples};
+ghost use Rattle.rdf_graph.specs.Graphs.{most_triples, set_of};
 ghost use Rattle.rdf_graph.specs.Terms.{IsSubject};
 ghost use Rattle.ttl_grammar.specs.Labels.{graph_of, greater, greatest_number, greatest_with, named, named_object, named_triple, node_number, object_number};
 
 use blank_labels::{fresh_label, label_number};
 use owl_characters::NoMemory;
 use rdf_graph::{Gather, Graph, GraphFault, Term, Triple};
-use std::alloc::Global;
+use std::alloc::{AllocError, Global};
 use ttl_grammar::{Node, NodeTriple, Object};
 
 fn node_number(node: &Node) -> u64
@@ -88,17 +89,58 @@ fn named_triple(alloc: Global, greatest: u64, triple: NodeTriple) -> Result<Trip
     })
 }
 
-/// The triples with all labels, gathered.
+/// The triples with all labels, gathered. Those of IRIs come first, as in a graph,
+/// so that a document in which they ascend has little to sort.
 fn gathered(alloc: Global, triples: Vec<NodeTriple>) -> Result<Gather, NoMemory>
-    ensures { IfOk result (λ gather. gather
-        ≡ map (named_triple (greatest_number triples.items)) triples.items) }
+    ensures { IfOk result (λ gather. set_of gather ≡ graph_of triples.items) }
 {
     let greatest = greatest_number(&triples);
     let mut gather = Gather::new(alloc);
+    let others = gather_of_iris(alloc, greatest, triples, &mut gather)?;
+    gather_all(alloc, greatest, others, &mut gather)?;
+    Ok(gather)
+}
+
+/// Gathers the triples whose subjects are IRIs, and gives the others.
+fn gather_of_iris(
+    alloc: Global,
+    greatest: u64,
+    triples: Vec<NodeTriple>,
+    gather: &mut Gather,
+) -> Result<Vec<NodeTriple>, NoMemory>
+    ensures { IfOk result (λ others.
+        HoldSame (gather.new ++ map (named_triple greatest) others.items)
+        (gather.old ++ map (named_triple greatest) triples.items)) }
+{
+    let mut others = Vec::new(alloc);
+    for triple in triples {
+        if is_iri(&triple.subject) {
+            gather.add(named_triple(alloc, greatest, triple)?)?;
+        } else {
+            others.push(triple).map_err(AllocError::from)?;
+        }
+    }
+    Ok(others)
+}
+
+fn is_iri(node: &Node) -> bool {
+    matches!(node, Node::Iri(_))
+}
+
+/// Gathers all of these triples.
+fn gather_all(
+    alloc: Global,
+    greatest: u64,
+    triples: Vec<NodeTriple>,
+    gather: &mut Gather,
+) -> Result<(), NoMemory>
+    ensures { OnOk result (gather.new
+        ≡ gather.old ++ map (named_triple greatest) triples.items) }
+{
     for triple in triples {
         gather.add(named_triple(alloc, greatest, triple)?)?;
     }
-    Ok(gather)
+    Ok(())
 }
 
 /// The graph of triples, once all blank nodes have labels. `TooMany` exactly
