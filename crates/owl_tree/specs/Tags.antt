@@ -1,5 +1,5 @@
 -- The tags of trees, and their names (Structural Specification, sections 5 to 10).
-use Rattle.std.specs.Prelude.{ℕ, Bool, List, [], ◌∷◌, nat_le, codes}
+use Rattle.std.specs.Prelude.{ℕ, Bool, List, [], ◌∷◌, get_or, nat_le, codes}
 use Rattle.owl_tree.specs.declared.tag.Tag.{Tag}
 use Rattle.owl_tree.specs.declared.tag.Tag.TheVariants.{Class, Datatype, ObjectProperty, DataProperty, AnnotationProperty, NamedIndividual, Anonymous, PlainIri, Literal, Number, Facet, ObjectInverseOf, ObjectPropertyChain, ObjectIntersectionOf, ObjectUnionOf, ObjectComplementOf, ObjectOneOf, ObjectSomeValuesFrom, ObjectAllValuesFrom, ObjectHasValue, ObjectHasSelf, ObjectMinCardinality, ObjectMaxCardinality, ObjectExactCardinality, DataSomeValuesFrom, DataAllValuesFrom, DataHasValue, DataMinCardinality, DataMaxCardinality, DataExactCardinality, DataIntersectionOf, DataUnionOf, DataComplementOf, DataOneOf, DatatypeRestriction, FacetPair, ObjectKeys, DataKeys, Annotation, Notes, Declaration, SubClassOf, EquivalentClasses, DisjointClasses, DisjointUnion, SubObjectPropertyOf, EquivalentObjectProperties, DisjointObjectProperties, InverseObjectProperties, ObjectPropertyDomain, ObjectPropertyRange, FunctionalObjectProperty, InverseFunctionalObjectProperty, ReflexiveObjectProperty, IrreflexiveObjectProperty, SymmetricObjectProperty, AsymmetricObjectProperty, TransitiveObjectProperty, SubDataPropertyOf, EquivalentDataProperties, DisjointDataProperties, DataPropertyDomain, DataPropertyRange, FunctionalDataProperty, DatatypeDefinition, HasKey, SameIndividual, DifferentIndividuals, ClassAssertion, ObjectPropertyAssertion, NegativeObjectPropertyAssertion, DataPropertyAssertion, NegativeDataPropertyAssertion, AnnotationAssertion, SubAnnotationPropertyOf, AnnotationPropertyDomain, AnnotationPropertyRange}
 
@@ -184,3 +184,30 @@ all_tags =
     DifferentIndividuals ∷ ClassAssertion ∷ ObjectPropertyAssertion ∷ NegativeObjectPropertyAssertion ∷
     DataPropertyAssertion ∷ NegativeDataPropertyAssertion ∷ AnnotationAssertion ∷ SubAnnotationPropertyOf ∷
     AnnotationPropertyDomain ∷ AnnotationPropertyRange ∷ []
+
+-- the tags whose keywords have a length, by that length
+unfoldable pub tags_by_length : List (List Tag)
+tags_by_length =
+    [] ∷ [] ∷ [] ∷ [] ∷ [] ∷ (Class ∷ Facet ∷ Notes ∷ []) ∷ (HasKey ∷ Number ∷ []) ∷ (Literal ∷
+    []) ∷ (Datatype ∷ PlainIri ∷ DataKeys ∷ []) ∷ (Anonymous ∷ DataOneOf ∷ FacetPair ∷ []) ∷
+    (SubClassOf ∷ Annotation ∷ ObjectKeys ∷ []) ∷ (Declaration ∷ ObjectOneOf ∷ DataUnionOf ∷ []) ∷
+    (DataProperty ∷ DataHasValue ∷ []) ∷ (ObjectUnionOf ∷ ObjectHasSelf ∷ DisjointUnion ∷ []) ∷
+    (ObjectProperty ∷ ClassAssertion ∷ ObjectHasValue ∷ SameIndividual ∷ []) ∷ (NamedIndividual ∷
+    DisjointClasses ∷ ObjectInverseOf ∷ []) ∷ (DataComplementOf ∷ []) ∷ (EquivalentClasses ∷
+    SubDataPropertyOf ∷ DataPropertyRange ∷ DataAllValuesFrom ∷ []) ∷ (AnnotationProperty ∷
+    DataSomeValuesFrom ∷ ObjectComplementOf ∷ DataMinCardinality ∷ DataMaxCardinality ∷
+    DataIntersectionOf ∷ DataPropertyDomain ∷ DatatypeDefinition ∷ []) ∷ (AnnotationAssertion ∷
+    SubObjectPropertyOf ∷ DatatypeRestriction ∷ ObjectAllValuesFrom ∷ ObjectPropertyChain ∷
+    ObjectPropertyRange ∷ []) ∷ (ObjectSomeValuesFrom ∷ ObjectIntersectionOf ∷
+    ObjectMinCardinality ∷ ObjectMaxCardinality ∷ DifferentIndividuals ∷ ObjectPropertyDomain ∷
+    DataExactCardinality ∷ []) ∷ (DataPropertyAssertion ∷ []) ∷ (FunctionalDataProperty ∷
+    ObjectExactCardinality ∷ DisjointDataProperties ∷ []) ∷ (ObjectPropertyAssertion ∷
+    InverseObjectProperties ∷ SubAnnotationPropertyOf ∷ ReflexiveObjectProperty ∷
+    SymmetricObjectProperty ∷ AnnotationPropertyRange ∷ []) ∷ (TransitiveObjectProperty ∷
+    FunctionalObjectProperty ∷ DisjointObjectProperties ∷ AsymmetricObjectProperty ∷
+    EquivalentDataProperties ∷ AnnotationPropertyDomain ∷ []) ∷ (IrreflexiveObjectProperty ∷ []) ∷
+    (EquivalentObjectProperties ∷ []) ∷ [] ∷ [] ∷ (NegativeDataPropertyAssertion ∷ []) ∷ [] ∷
+    (InverseFunctionalObjectProperty ∷ NegativeObjectPropertyAssertion ∷ []) ∷ []
+
+abbrev pub with_length : ℕ → List Tag
+with_length n = get_or tags_by_length n []

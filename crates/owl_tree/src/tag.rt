@@ -8,7 +8,7 @@ ghost use Rattle.std.specs.Hash as fed;
 ghost use Rattle.std.specs.Ordering.{as_partial_cmp, nat_cmp, on};
 ghost use Rattle.std.proofs.Common.{rules, sym};
 ghost use Rattle.owl_tree.specs.Rows.{is_bare, is_group};
-ghost use Rattle.owl_tree.specs.Tags.{is_axiom, keyword_of, number_of};
+ghost use Rattle.owl_tree.specs.Tags.{is_axiom, keyword_of, number_of, with_length};
 
 use std::cmp::Ordering;
 use std::hash::{Hash, Hasher};
@@ -283,12 +283,108 @@ impl Tag {
         }
     }
 
+    /// The tags whose names have this length, the commonest first.
+    #[tactic(auto, unfolding(crate::specs::Tags::tags_by_length))]
+    fn with_length(length: usize) -> &'static [Tag]
+        ensures { result.now ≡ with_length length }
+    {
+        match length {
+            5 => &[Tag::Class, Tag::Facet, Tag::Notes],
+            6 => &[Tag::HasKey, Tag::Number],
+            7 => &[Tag::Literal],
+            8 => &[Tag::Datatype, Tag::PlainIri, Tag::DataKeys],
+            9 => &[Tag::Anonymous, Tag::DataOneOf, Tag::FacetPair],
+            10 => &[Tag::SubClassOf, Tag::Annotation, Tag::ObjectKeys],
+            11 => &[Tag::Declaration, Tag::ObjectOneOf, Tag::DataUnionOf],
+            12 => &[Tag::DataProperty, Tag::DataHasValue],
+            13 => &[Tag::ObjectUnionOf, Tag::ObjectHasSelf, Tag::DisjointUnion],
+            14 => &[
+                Tag::ObjectProperty,
+                Tag::ClassAssertion,
+                Tag::ObjectHasValue,
+                Tag::SameIndividual,
+            ],
+            15 => &[
+                Tag::NamedIndividual,
+                Tag::DisjointClasses,
+                Tag::ObjectInverseOf,
+            ],
+            16 => &[Tag::DataComplementOf],
+            17 => &[
+                Tag::EquivalentClasses,
+                Tag::SubDataPropertyOf,
+                Tag::DataPropertyRange,
+                Tag::DataAllValuesFrom,
+            ],
+            18 => &[
+                Tag::AnnotationProperty,
+                Tag::DataSomeValuesFrom,
+                Tag::ObjectComplementOf,
+                Tag::DataMinCardinality,
+                Tag::DataMaxCardinality,
+                Tag::DataIntersectionOf,
+                Tag::DataPropertyDomain,
+                Tag::DatatypeDefinition,
+            ],
+            19 => &[
+                Tag::AnnotationAssertion,
+                Tag::SubObjectPropertyOf,
+                Tag::DatatypeRestriction,
+                Tag::ObjectAllValuesFrom,
+                Tag::ObjectPropertyChain,
+                Tag::ObjectPropertyRange,
+            ],
+            20 => &[
+                Tag::ObjectSomeValuesFrom,
+                Tag::ObjectIntersectionOf,
+                Tag::ObjectMinCardinality,
+                Tag::ObjectMaxCardinality,
+                Tag::DifferentIndividuals,
+                Tag::ObjectPropertyDomain,
+                Tag::DataExactCardinality,
+            ],
+            21 => &[Tag::DataPropertyAssertion],
+            22 => &[
+                Tag::FunctionalDataProperty,
+                Tag::ObjectExactCardinality,
+                Tag::DisjointDataProperties,
+            ],
+            23 => &[
+                Tag::ObjectPropertyAssertion,
+                Tag::InverseObjectProperties,
+                Tag::SubAnnotationPropertyOf,
+                Tag::ReflexiveObjectProperty,
+                Tag::SymmetricObjectProperty,
+                Tag::AnnotationPropertyRange,
+            ],
+            24 => &[
+                Tag::TransitiveObjectProperty,
+                Tag::FunctionalObjectProperty,
+                Tag::DisjointObjectProperties,
+                Tag::AsymmetricObjectProperty,
+                Tag::EquivalentDataProperties,
+                Tag::AnnotationPropertyDomain,
+            ],
+            25 => &[Tag::IrreflexiveObjectProperty],
+            26 => &[Tag::EquivalentObjectProperties],
+            29 => &[Tag::NegativeDataPropertyAssertion],
+            31 => &[
+                Tag::InverseFunctionalObjectProperty,
+                Tag::NegativeObjectPropertyAssertion,
+            ],
+            _ => &[],
+        }
+    }
+
     /// The tag with this name, if there is one.
     pub fn named(word: &str) -> Option<Tag>
         ensures some { IfSome result (λ tag. keyword_of tag ≡ chars word.now) }
         ensures none { IsNone result → (tag : Tag) → keyword_of tag ≡ chars word.now → ⊥ }
     {
-        TAGS.iter().copied().find(|tag| tag.keyword() == word)
+        Tag::with_length(word.len())
+            .iter()
+            .copied()
+            .find(|tag| tag.keyword() == word)
     }
 
     /// Whether the parts of trees with this tag stand without a keyword and
