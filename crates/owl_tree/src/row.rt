@@ -78,6 +78,8 @@ pub enum Row {
 
 impl Tag {
     /// What the tag has below it (Structural Specification, sections 5 to 10).
+    // Most callers ask for a part of the row, which then is one look at a table.
+    #[inline(always)]
     #[tactic(auto, unfolding(crate::specs::Rows::row_of))]
     pub fn row(self) -> Row
         ensures { row_seen result ≡ row_of self }
