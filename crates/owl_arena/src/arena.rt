@@ -6,6 +6,7 @@ ghost use Rattle.std.specs.Option.{option_map};
 ghost use Rattle.owl_arena.specs.declared.grow.Grow.{Grow};
 ghost use Rattle.owl_arena.specs.Growth.{Adds, IsOneTooMany, IsTooDeep, IsTooHeavy, IsWithin, Lacks};
 ghost use Rattle.owl_arena.specs.Held.{AreHeld, IsLeafTag, node_over, tree_at, trees_at};
+ghost use Rattle.owl_arena.specs.Mixes.{form_mix};
 ghost use Rattle.owl_arena.specs.Nodes.{AreKidsBelow, IsMeasured, IsRefusal, tree_of};
 ghost use Rattle.owl_arena.specs.Shared.{AreShared, IsEntry, TellEquivalence, deepest, heaviest, most_trees};
 ghost use Rattle.owl_tree.specs.Canonical.{canonical};
@@ -225,30 +226,34 @@ impl Arena {
         ensures room { self.old.spare ≤ self.new.spare + 1 }
         ensures err { OnErr result (self.new ≡ self.old) }
     {
-        match self.find(&node.form) {
+        let mix = node.form.mix();
+        match self.find(&node.form, mix) {
             Some(id) => Ok(id),
             None if MOST_TREES <= self.distinct() => Err(Grow::TooMany),
-            None => Ok(self.append(node)?),
+            None => Ok(self.append(node, mix)?),
         }
     }
 
-    /// The number of an equal form, if one is here.
-    fn find(&self, form: &Form) -> Option<ExprId>
-        requires { AreKidsBelow (length self.now.trees) form.now }
+    /// The number of a form that equals this one, whose mix is given, if one is
+    /// here.
+    fn find(&self, form: &Form, mix: u64) -> Option<ExprId>
+        requires below { AreKidsBelow (length self.now.trees) form.now }
+        requires mix { mix ≡ form_mix form.now }
         ensures some { IfSome result (λ id. slice_get self.now.trees id ≡ Some (tree_of self.now.trees form.now)) }
         ensures none { IsNone result → Lacks self.now.trees (tree_of self.now.trees form.now) }
     {
-        let place = self.table.find(form)?;
+        let place = self.table.find(form, mix)?;
         Some(ExprId::at(place))
     }
 
     /// The number of a node that is not here, and comes behind the others.
-    fn append(&mut self, node: Node) -> Result<ExprId, NoMemory>
+    fn append(&mut self, node: Node, mix: u64) -> Result<ExprId, NoMemory>
         requires below { AreKidsBelow (length self.old.trees) node.form }
         requires measured { IsMeasured (tree_of self.old.trees node.form) node }
         requires entry { IsEntry (tree_of self.old.trees node.form) }
         requires absent { Lacks self.old.trees (tree_of self.old.trees node.form) }
         requires few { length self.old.trees < most_trees }
+        requires mix { mix ≡ form_mix node.form }
         ensures id { IfOk result (λ id. slice_get self.new.trees id ≡ Some (tree_of self.old.trees node.form)) }
         ensures added { OnOk result (self.new.trees ≡ self.old.trees ++ tree_of self.old.trees node.form ∷ []) }
         ensures memory { OnErr result (self.old.spare ≡ 0) }
@@ -257,7 +262,7 @@ impl Arena {
     {
         self.table.reserve(1)?;
         let id = ExprId::at(self.table.len());
-        self.table.push(node);
+        self.table.push(node, mix);
         Ok(id)
     }
 

@@ -3,7 +3,7 @@
 ghost use Rattle.std.specs.Prelude.{◌≡◌, ◌<◌, ◌≤◌, ◌+◌, ◌-◌, ◌%◌, [], ◌∷◌, ◌++◌, IfOk, IfSome, IsNone, IsOk, OnOk, OnErr, length, replicate, slice_index, slice_index_or, slice_set, vec_capacity, vec_len};
 ghost use Rattle.std.specs.List.{AllWithin, HoldsAt};
 ghost use Rattle.owl_arena.specs.Chains.{AreLinked};
-ghost use Rattle.owl_arena.specs.Mixes.{mixes};
+ghost use Rattle.owl_arena.specs.Mixes.{form_mix, mixes};
 ghost use Rattle.owl_arena.specs.Nodes.{Differs, HasForm};
 ghost use Rattle.owl_arena.specs.Shared.{most_trees};
 
@@ -61,8 +61,9 @@ impl Table {
         &self.nodes[place]
     }
 
-    /// The place of the node with this form, if one has it.
-    pub fn find(&self, form: &Form) -> Option<usize>
+    /// The place of the node with this form, whose mix is given, if one has it.
+    pub fn find(&self, form: &Form, mix: u64) -> Option<usize>
+        requires { mix ≡ form_mix form.now }
         ensures some { IfSome result (λ place. place < length self.now.nodes.items) }
         ensures here { IfSome result (λ place. HoldsAt (HasForm form.now) self.now.nodes.items place) }
         ensures none { IsNone result → AllWithin (Differs form.now) self.now.nodes.items 0 (length self.now.nodes.items) }
@@ -70,7 +71,7 @@ impl Table {
         if self.heads.is_empty() {
             return None;
         }
-        let mut link = self.heads[bucket(form.mix(), self.heads.len())];
+        let mut link = self.heads[bucket(mix, self.heads.len())];
         while link != 0 {
             let place = link as usize - 1;
             if self.nodes[place].form.is(form) {
@@ -102,15 +103,15 @@ impl Table {
         Ok(())
     }
 
-    /// Puts a node behind the others. Takes no memory.
-    pub fn push(&mut self, node: Node)
+    /// Puts a node, whose mix is given, behind the others. Takes no memory.
+    pub fn push(&mut self, node: Node, mix: u64)
+        requires mix { mix ≡ form_mix node.form }
         requires room { length self.old.nodes.items < length self.old.heads.items }
         requires few { length self.old.nodes.items < most_trees }
         ensures nodes { self.new.nodes.items ≡ self.old.nodes.items ++ node ∷ [] }
         ensures heads { length self.new.heads.items ≡ length self.old.heads.items }
     {
         let place = self.nodes.len();
-        let mix = node.form.mix();
         self.nodes.push(node).unwrap();
         self.nexts.push(0).unwrap();
         link(&mut self.heads, &mut self.nexts, place, mix);

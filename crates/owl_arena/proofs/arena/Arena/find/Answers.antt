@@ -4,7 +4,7 @@ use Rattle.owl_arena.proofs.Found.{found, not_found}
 use Rattle.owl_arena.proofs.arena.Arena.find.Goals as goal
 
 pub returns-in_err-place-clause-none : goal.returns-in_err-place-clause-none
-returns-in_err-place-clause-none c = λ _. not_found _ _ _ (ap (λ (held : Held). held.trees) c.self.view_is) c.self.invariant c.requires (c.find.ensures.none (search rules))
+returns-in_err-place-clause-none c = λ _. not_found _ _ _ (ap (λ (held : Held). held.trees) c.self.view_is) c.self.invariant c.requires.below (c.find.ensures.none (search rules))
 
 pub at-requires : goal.at-requires
 at-requires c =

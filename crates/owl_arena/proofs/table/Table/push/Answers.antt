@@ -7,11 +7,11 @@ use Rattle.owl_arena.proofs.table.Table.push.Goals as goal
 pub invariant_of-self-clause-linked : goal.invariant_of-self-clause-linked
 invariant_of-self-clause-linked c =
     let pushed : c.push-2.new.self.items ≡ c.args.self.now.nexts.items ++ 0 ∷ [] = search rules in
-    let put = λ (hs : List ℕ). slice_set hs (c.mix-mix.result % length hs) (c.len-place.result + 1) in
-    let put_behind = λ (hs ls : List ℕ). slice_set ls c.len-place.result (slice_index hs (c.mix-mix.result % length hs)) in
-    linked_pushed _ _ c.args.node _ _ _ _ c.len-place.result c.mix-mix.result c.args.self.now.linked record {
+    let put = λ (hs : List ℕ). slice_set hs (c.args.mix % length hs) (c.len-place.result + 1) in
+    let put_behind = λ (hs ls : List ℕ). slice_set ls c.len-place.result (slice_index hs (c.args.mix % length hs)) in
+    linked_pushed _ _ c.args.node _ _ _ _ c.len-place.result c.args.mix c.args.self.now.linked record {
       nodes_are = search rules;
-      mix_is = search rules;
+      mix_is = c.requires.mix;
       place_is = search rules;
       long = omega arith;
       inside = omega arith;
