@@ -1,5 +1,5 @@
 -- What an assembler has in hand is what the maker of the grammar is.
-use Rattle.std.specs.Prelude.{◌≡◌, ◌≢◌, ◌<◌, ◌≤◌, ℕ, Bool, true, false, List, ◌∷◌, length, IfSome, Option, None, Some, Result, Ok, Err}
+use Rattle.std.specs.Prelude.{◌≡◌, ◌≢◌, ◌<◌, ◌≤◌, ℕ, List, ◌∷◌, length, IfSome, Option, None, Some, Result, Ok, Err}
 use Rattle.grammar.specs.Derivations.{Event}
 use Rattle.owl_arena.specs.Shared.{deepest}
 use Rattle.owl_atom.specs.declared.prefixes.Prefix.{Prefix}
@@ -98,11 +98,6 @@ pub record Made (events : List (Event Token)) (a : Assembler) : Type 0 where
 pub record Stands (prefixes : List Prefix) (next : Option Token) : Type 0 where
   pub iri : List ℕ
   pub comes : Comes prefixes next iri
-
--- an IRI that is written with a prefix
-abbrev pub is_abbreviated : Token → Bool
-is_abbreviated (token.Name name local) = true
-is_abbreviated _ = false
 
 -- a name comes whose prefix is not there
 pub record IsUnknown (prefixes : List Prefix) (next : Option Token) : Type 0 where

@@ -6,6 +6,7 @@ ghost use Rattle.owl_tokens.specs.declared.token.Token.{Token};
 ghost use Rattle.owl_tokens.specs.declared.token.Token.TheVariants as token;
 ghost use Rattle.owl_tree.specs.declared.row.AtomSort.TheVariants as atom;
 ghost use Rattle.owl_tree.specs.Rows.{Leaf, row_of};
+ghost use Rattle.owl_tree.specs.declared.tag.Tag.TheVariants as variant;
 ghost use Rattle.fss_grammar.specs.Making.{Maker};
 ghost use Rattle.fss_grammar.specs.Ready.{ComesFor, ComesName, IsReady, IsWithin};
 ghost use Rattle.fss_acts.specs.Assembling.{Answers, IsComing, IsNode, May};
@@ -14,7 +15,7 @@ use crate::assembler::Assembler;
 use crate::kept::Kept;
 use crate::leaves::put_leaf;
 use crate::refusals::of_making;
-use crate::tokens::{digits_in, form_in, iri_behind, label_in, label_of, value};
+use crate::tokens::{digits_in, form_in, iri_behind, label_in, label_of, take_form, value};
 use fss_grammar::Act;
 use owl_atom::Iri;
 use owl_characters::Text;
@@ -28,10 +29,10 @@ impl Assembler {
         &mut self,
         tag: Tag,
         next: &Option<Token>,
-        made: Option<Iri>,
+        made: &mut Option<Iri>,
     ) -> Result<(), TokenFault>
         requires may { May (IsReady (Act.Begin tag) next.now) self.old }
-        requires coming { IsComing self.old.prefixes next.now made }
+        requires coming { IsComing self.old.prefixes next.now made.old }
         ensures { Answers (Act.Begin tag) next.now self.old result self.new }
     {
         match tag.row() {
@@ -60,11 +61,11 @@ impl Assembler {
         &mut self,
         tag: Tag,
         next: &Option<Token>,
-        made: Option<Iri>,
+        made: &mut Option<Iri>,
     ) -> Result<(), TokenFault>
         requires row { row_of tag ≡ Leaf atom.Iri }
         requires may { May (λ m. IsWithin m × ComesName next.now) self.old }
-        requires coming { IsComing self.old.prefixes next.now made }
+        requires coming { IsComing self.old.prefixes next.now made.old }
         ensures { Answers (Act.Begin tag) next.now self.old result self.new }
     {
         let iri = iri_behind(self.alloc, &self.prefixes, next, made)?;
@@ -109,8 +110,17 @@ impl Assembler {
         self.keep_text(tag, form)
     }
 
+    /// The string that comes is taken and kept.
+    pub(crate) fn keep_literal(&mut self, next: &mut Option<Token>) -> Result<(), TokenFault>
+        requires may { May (IsReady (Act.Begin variant.Literal) next.old) self.old }
+        ensures { Answers (Act.Begin variant.Literal) next.old self.old result self.new }
+    {
+        let form = take_form(next);
+        self.keep_text(Tag::Literal, form)
+    }
+
     /// A string is kept.
-    pub(crate) fn keep_text(&mut self, tag: Tag, form: Text) -> Result<(), TokenFault>
+    fn keep_text(&mut self, tag: Tag, form: Text) -> Result<(), TokenFault>
         requires row { row_of tag ≡ Leaf atom.Literal }
         ensures { Answers (Act.Begin tag) (Some (token.Str form)) self.old result self.new }
     {
@@ -122,9 +132,13 @@ impl Assembler {
     }
 
     /// The IRI that comes is kept.
-    pub(crate) fn hold(&mut self, next: &Option<Token>, made: Option<Iri>) -> Result<(), TokenFault>
+    pub(crate) fn hold(
+        &mut self,
+        next: &Option<Token>,
+        made: &mut Option<Iri>,
+    ) -> Result<(), TokenFault>
         requires may { May (IsReady Act.Hold next.now) self.old }
-        requires coming { IsComing self.old.prefixes next.now made }
+        requires coming { IsComing self.old.prefixes next.now made.old }
         ensures { Answers Act.Hold next.now self.old result self.new }
     {
         if self.maker.is_full() {

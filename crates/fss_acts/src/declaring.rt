@@ -35,10 +35,10 @@ impl Assembler {
     pub(crate) fn declare(
         &mut self,
         next: &Option<Token>,
-        made: Option<Iri>,
+        made: &mut Option<Iri>,
     ) -> Result<(), TokenFault>
         requires may { May (IsReady Act.DeclareIri next.now) self.old }
-        requires coming { IsComing self.old.prefixes next.now made }
+        requires coming { IsComing self.old.prefixes next.now made.old }
         ensures { Answers Act.DeclareIri next.now self.old result self.new }
     {
         let iri = iri_behind(self.alloc, &self.prefixes, next, made)?;

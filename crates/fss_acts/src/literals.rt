@@ -75,10 +75,10 @@ impl Assembler {
     pub(crate) fn typed(
         &mut self,
         next: &Option<Token>,
-        made: Option<Iri>,
+        made: &mut Option<Iri>,
     ) -> Result<(), TokenFault>
         requires may { May (IsReady Act.Typed next.now) self.old }
-        requires coming { IsComing self.old.prefixes next.now made }
+        requires coming { IsComing self.old.prefixes next.now made.old }
         ensures { Answers Act.Typed next.now self.old result self.new }
     {
         let datatype = iri_behind(self.alloc, &self.prefixes, next, made)?;

@@ -15,10 +15,10 @@ impl Assembler {
     pub(crate) fn name_ontology(
         &mut self,
         next: &Option<Token>,
-        made: Option<Iri>,
+        made: &mut Option<Iri>,
     ) -> Result<(), TokenFault>
         requires may { May (IsReady Act.OntologyIri next.now) self.old }
-        requires coming { IsComing self.old.prefixes next.now made }
+        requires coming { IsComing self.old.prefixes next.now made.old }
         ensures { Answers Act.OntologyIri next.now self.old result self.new }
     {
         let iri = iri_behind(self.alloc, &self.prefixes, next, made)?;
@@ -32,10 +32,10 @@ impl Assembler {
     pub(crate) fn name_version(
         &mut self,
         next: &Option<Token>,
-        made: Option<Iri>,
+        made: &mut Option<Iri>,
     ) -> Result<(), TokenFault>
         requires may { May (IsReady Act.VersionIri next.now) self.old }
-        requires coming { IsComing self.old.prefixes next.now made }
+        requires coming { IsComing self.old.prefixes next.now made.old }
         ensures { Answers Act.VersionIri next.now self.old result self.new }
     {
         let version = iri_behind(self.alloc, &self.prefixes, next, made)?;
@@ -48,10 +48,10 @@ impl Assembler {
     pub(crate) fn import(
         &mut self,
         next: &Option<Token>,
-        made: Option<Iri>,
+        made: &mut Option<Iri>,
     ) -> Result<(), TokenFault>
         requires may { May (IsReady Act.ImportIri next.now) self.old }
-        requires coming { IsComing self.old.prefixes next.now made }
+        requires coming { IsComing self.old.prefixes next.now made.old }
         ensures { Answers Act.ImportIri next.now self.old result self.new }
     {
         let iri = iri_behind(self.alloc, &self.prefixes, next, made)?;

@@ -19,10 +19,10 @@ impl Assembler {
         &mut self,
         act: Act,
         next: &Option<Token>,
-        made: Option<Iri>,
+        made: &mut Option<Iri>,
     ) -> Result<(), TokenFault>
         requires may { May (IsReady act next.now) self.old }
-        requires coming { IsComing self.old.prefixes next.now made }
+        requires coming { IsComing self.old.prefixes next.now made.old }
         ensures { Answers act next.now self.old result self.new }
     {
         match act {

@@ -65,7 +65,8 @@ impl Syntax for Assembler {
             → MayFollow functional functional_rules events acts.now next
             → Bars events acts.now next fault) }
     {
-        self.do_all(acts, next)
+        let mut next = next;
+        self.do_all(acts, &mut next)
     }
 
     ghost has_document = { has_document };

@@ -19,45 +19,45 @@ use owl_tree::Tag;
 impl Assembler {
     /// Does the acts in front of this token or of the end. That a prefix is
     /// unknown is told before all else.
-    pub(crate) fn do_all(&mut self, acts: &[u8], next: Option<Token>) -> Result<(), TokenFault>
-        requires ready { May (AreReady acts.now next) self.old }
-        requires token { IfSome next IsToken }
-        ensures { AnswersToken acts.now next self.old result self.new }
+    pub(crate) fn do_all(&mut self, acts: &[u8], next: &mut Option<Token>) -> Result<(), TokenFault>
+        requires ready { May (AreReady acts.now next.old) self.old }
+        requires token { IfSome next.old IsToken }
+        ensures { AnswersToken acts.now next.old self.old result self.new }
     {
         if is_naming(acts) {
-            self.name_prefix(&next)
+            self.name_prefix(next)
         } else {
             self.do_known(acts, next)
         }
     }
 
     /// The same where the token is not the name that a declaration gives.
-    fn do_known(&mut self, acts: &[u8], next: Option<Token>) -> Result<(), TokenFault>
+    fn do_known(&mut self, acts: &[u8], next: &mut Option<Token>) -> Result<(), TokenFault>
         requires other { acts.now ≡ act_number Act.DeclareName ∷ [] → ⊥ }
-        requires ready { May (AreReady acts.now next) self.old }
-        requires token { IfSome next IsToken }
-        ensures { AnswersToken acts.now next self.old result self.new }
+        requires ready { May (AreReady acts.now next.old) self.old }
+        requires token { IfSome next.old IsToken }
+        ensures { AnswersToken acts.now next.old self.old result self.new }
     {
-        let made = iri_ahead(self.alloc, &self.prefixes, &next)?;
-        self.perform_all(acts, next, made)
+        let mut made = iri_ahead(self.alloc, &self.prefixes, next)?;
+        self.perform_all(acts, next, &mut made)
     }
 
-    /// Does acts in turn, of which the last may keep what the token holds.
+    /// Does acts in turn, of which the last may take what the token holds.
     fn perform_all(
         &mut self,
         acts: &[u8],
-        next: Option<Token>,
-        made: Option<Iri>,
+        next: &mut Option<Token>,
+        made: &mut Option<Iri>,
     ) -> Result<(), TokenFault>
-        requires ready { May (AreReady acts.now next) self.old }
-        requires coming { IsComing self.old.prefixes next made }
-        ensures { AnswersAll acts.now next self.old result self.new }
+        requires ready { May (AreReady acts.now next.old) self.old }
+        requires coming { IsComing self.old.prefixes next.old made.old }
+        ensures { AnswersAll acts.now next.old self.old result self.new }
     {
         match acts {
             [] => Ok(()),
             [last] => self.perform_last(act_of(*last), next, made),
             [first, others @ ..] => {
-                self.perform(act_of(*first), &next, None)?;
+                self.perform(act_of(*first), next, &mut None)?;
                 self.perform_all(others, next, made)
             }
         }
@@ -67,18 +67,16 @@ impl Assembler {
     fn perform_last(
         &mut self,
         act: Act,
-        next: Option<Token>,
-        made: Option<Iri>,
+        next: &mut Option<Token>,
+        made: &mut Option<Iri>,
     ) -> Result<(), TokenFault>
-        requires ready { May (IsReady act next) self.old }
-        requires coming { IsComing self.old.prefixes next made }
-        ensures { Answers act next self.old result self.new }
+        requires ready { May (IsReady act next.old) self.old }
+        requires coming { IsComing self.old.prefixes next.old made.old }
+        ensures { Answers act next.old self.old result self.new }
     {
-        match (act, next) {
-            (Act::Begin(Tag::Literal), Some(Token::Str(form))) => {
-                self.keep_text(Tag::Literal, form)
-            }
-            (_, next) => self.perform(act, &next, made),
+        match act {
+            Act::Begin(Tag::Literal) => self.keep_literal(next),
+            _ => self.perform(act, next, made),
         }
     }
 }

@@ -14,7 +14,7 @@ ghost use Rattle.owl_tree.specs.declared.row.AtomSort.TheVariants as atom;
 ghost use Rattle.fss_terms.specs.Terms.{iri_of_token};
 ghost use Rattle.fss_grammar.specs.Ready.{ComesFor};
 ghost use Rattle.fss_grammar.specs.Making.{Comes};
-ghost use Rattle.fss_acts.specs.Assembling.{IsComing, IsUnknown, Stands, is_abbreviated};
+ghost use Rattle.fss_acts.specs.Assembling.{IsComing, IsUnknown, Stands};
 
 use owl_atom::{ExpandFault, Iri, Label, Prefixes};
 use owl_characters::{NoMemory, Text};
@@ -87,19 +87,19 @@ fn iri_of_token(alloc: Global, prefixes: &Prefixes, token: &Token) -> Result<Opt
 }
 
 /// The IRI that the token which comes stands for, which may have been made
-/// before.
+/// before, and is taken then.
 pub fn iri_behind(
     alloc: Global,
     prefixes: &Prefixes,
     next: &Option<Token>,
-    made: Option<Iri>,
+    made: &mut Option<Iri>,
 ) -> Result<Iri, NoMemory>
-    requires coming { IsComing prefixes.now next.now made }
+    requires coming { IsComing prefixes.now next.now made.old }
     requires stands { Stands prefixes.now next.now }
     ensures comes { IfOk result (Comes prefixes.now next.now) }
     ensures iri { IfOk result IsIri }
 {
-    let iri = match made {
+    let iri = match made.take() {
         Some(iri) => iri,
         None => {
             let token = next.as_ref().unwrap();
@@ -109,16 +109,6 @@ pub fn iri_behind(
     // What was made an IRI is one.
     iri.text();
     Ok(iri)
-}
-
-/// Whether the token is an abbreviated IRI.
-fn is_abbreviated(token: &Token) -> bool
-    ensures { result ≡ is_abbreviated token.now }
-{
-    match token {
-        Token::Name(_, _) => true,
-        _ => false,
-    }
 }
 
 /// The IRI that the token which comes stands for, if it stands for one. It is
@@ -134,17 +124,12 @@ pub fn iri_ahead(
         → (f ≡ TokenFault.Defect Reason.UnknownPrefix) × IsUnknown prefixes.now next.now) }
 {
     match next {
-        Some(token) => match iri_of_token(alloc, prefixes, token)? {
+        Some(Token::Name(name, local)) => match expand(alloc, prefixes, name, local)? {
             Some(iri) => Ok(Some(iri)),
-            None => {
-                if is_abbreviated(token) {
-                    Err(TokenFault::Defect(Reason::UnknownPrefix))
-                } else {
-                    Ok(None)
-                }
-            }
+            None => Err(TokenFault::Defect(Reason::UnknownPrefix)),
         },
-        None => Ok(None),
+        Some(Token::Iri(iri)) => Ok(Some(iri_of(alloc, iri)?)),
+        _ => Ok(None),
     }
 }
 
@@ -166,6 +151,17 @@ pub fn digits_in(next: &Option<Token>) -> &Text
 {
     match next {
         Some(Token::Int(digits)) => digits,
+        _ => unreachable!(),
+    }
+}
+
+/// The string that comes, after which no token does.
+pub fn take_form(next: &mut Option<Token>) -> Text
+    requires { ComesFor atom.Literal next.old }
+    ensures { next.old ≡ Some (token.Str result) }
+{
+    match next.take() {
+        Some(Token::Str(form)) => form,
         _ => unreachable!(),
     }
 }
