@@ -3,7 +3,7 @@
 //! once more by the trees themselves, which a list that ascends already makes
 //! cheap.
 
-ghost use Rattle.std.specs.Prelude.{◌≡◌, ◌<◌, ◌≤◌, length};
+ghost use Rattle.std.specs.Prelude.{◌≡◌};
 ghost use Rattle.std.specs.List.Sorted.{IsPermutation};
 ghost use Rattle.owl_arena.specs.Held.{AreHeld, trees_at};
 ghost use Rattle.owl_list.specs.Ascending.{HoldSame, ascending};
@@ -12,6 +12,7 @@ ghost use Rattle.owl_tree.specs.Order.{tree_cmp};
 use crate::arena::Arena;
 use crate::expr_id::ExprId;
 use owl_characters::NoMemory;
+use owl_list::sort_by_ranks;
 use std::alloc::{AllocError, Global};
 use std::cmp::Ordering;
 
@@ -77,36 +78,11 @@ impl Arena {
     fn sort_by_ranks(&self, ranks: &Ranks, ids: &mut Vec<ExprId>)
         ensures { IsPermutation ids.old.items ids.new.items }
     {
-        let ranked = ids.sort_by_cached_key(|id| self.rank(ranks, *id));
-        if ranked.is_ok() {
-            self.sort_ties(ranks, ids);
-        }
-    }
-
-    /// Puts in order what stands side by side and has one rank.
-    fn sort_ties(&self, ranks: &Ranks, ids: &mut [ExprId])
-        ensures { IsPermutation ids.old ids.new }
-    {
-        let mut start = 0;
-        while start < ids.len() {
-            let end = self.end_of_ties(ranks, ids, start);
-            self.order(&mut ids[start..end]);
-            start = end;
-        }
-    }
-
-    /// Where the numbers end that have the rank of the one at this place.
-    fn end_of_ties(&self, ranks: &Ranks, ids: &[ExprId], start: usize) -> usize
-        requires { start < length ids.now }
-        ensures { (start < result) × (result ≤ length ids.now) }
-    {
-        let rank = self.rank(ranks, ids[start]);
-        for end in start + 1..ids.len() {
-            if self.rank(ranks, ids[end]) != rank {
-                return end;
-            }
-        }
-        ids.len()
+        sort_by_ranks(
+            ids,
+            |id| self.rank(ranks, *id),
+            |a, b| self.compare_any(*a, *b),
+        );
     }
 
     /// The rank of a tree: its tag, and its first kids as far as one rank tells all

@@ -1,7 +1,0 @@
-use Rattle.owl_list.specs.LentLaws.{moved_back}
-use Rattle.owl_arena.proofs.arena.Arena.sort_by_ranks.Goals as goal
-
-pub returns-then-is_ok : goal.returns-then-is_ok
-returns-then-is_ok c =
-    moved_back c.args.ids.now.items c.sort_by_cached_key-ranked.new.self.items c.deref_mut.result.now c.sort_ties.new.ids _ c.sort_by_cached_key-ranked.ensures.permutation
-    c.deref_mut.ensures.value c.deref_mut.ensures.len c.sort_ties.ensures
