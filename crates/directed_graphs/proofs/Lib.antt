@@ -1,2 +1,3 @@
 pub mod Finding
 pub mod Ranking
+pub mod Reaching

@@ -4,9 +4,9 @@ use Rattle.std.specs.Prelude.{Contains}
 use Rattle.std.specs.List.Sorted.{IsNonDecreasingBy}
 use Rattle.std.proofs.lemmas.List.Sorted.{Contains-permutation, IsNonDecreasingBy-drop}
 use Rattle.owl_list.specs.AscendingLaws.{in_cases, in_head, in_tail}
-use Rattle.directed_graphs.specs.Cycles.{IsOnCycle, IsOrder, Leads, StandBehind, one_more, one_step}
+use Rattle.directed_graphs.specs.Cycles.{IsOnCycle, IsOrder, Leads, StandBehind, one_more, one_step, successors}
 use Rattle.directed_graphs.specs.CycleLaws.{begins_within, in_range}
-use Rattle.directed_graphs.specs.Ranks.{AllGoDown, AreByRank, GoesDown, NoneGoesUp, rank_in}
+use Rattle.directed_graphs.specs.Ranks.{AreByRank, GoesDown, NoneGoesUp, rank_in}
 
 module _ (edges : List (List ℕ)) (ranks : List ℕ) where
   -- where no edge leads up, no way does
@@ -28,7 +28,8 @@ module _ (edges : List (List ℕ)) (ranks : List ℕ) where
   pub clear_by_ranks : NoneGoesUp edges ranks → (node : ℕ) → GoesDown edges ranks node → IsOnCycle edges node → ⊥
   clear_by_ranks none node down cycle = let below = below_by_ranks none node node down cycle in omega arith
 
-  module _ (down : AllGoDown edges ranks) where
+  -- edges to nodes lead to lower ranks
+  module _ (down : (from next : ℕ) → Contains (successors edges from) next → next < length edges → rank_in ranks next < rank_in ranks from) where
     first_least : (node : ℕ) (nodes : List ℕ) → IsNonDecreasingBy (rank_in ranks) (node ∷ nodes) → (other : ℕ) → Contains (node ∷ nodes) other → rank_in ranks node ≤ rank_in ranks other
     first_least node nodes up other m =
         subst (λ x. rank_in ranks node ≤ rank_in ranks x) m.2 (up 0 m.0 other (omega arith) m.1)
@@ -40,7 +41,7 @@ module _ (edges : List (List ℕ)) (ranks : List ℕ) where
       λ next step within. elim (all next within) [
         | inl b ↦ b
         | inr m ↦
-            let lower = down node (begins_within edges node next step) next step in
+            let lower = down node next step within in
             let least = first_least node nodes up next m in
             absurd (omega arith)
       ],

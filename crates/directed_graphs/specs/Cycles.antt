@@ -22,6 +22,9 @@ pub data Leads (edges : List (List ℕ)) : ℕ → ℕ → Type 0 where
 abbrev pub IsOnCycle : List (List ℕ) → ℕ → Type 0
 IsOnCycle edges node = Leads edges node node
 
+abbrev pub HasNoCycle : List (List ℕ) → Type 0
+HasNoCycle edges = (node : ℕ) → IsOnCycle edges node → ⊥
+
 -- the least node that is on a cycle
 pub record IsFirstOnCycle (edges : List (List ℕ)) (node : ℕ) : Type 0 where
   pub within : node < length edges

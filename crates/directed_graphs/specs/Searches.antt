@@ -1,5 +1,5 @@
 -- The nodes that a search has found.
-use Rattle.std.specs.Prelude.{◌≡◌, ◌<◌, ◌↔◌, ℕ, true, false, List, ◌++◌, length, Contains, slice_index_or}
+use Rattle.std.specs.Prelude.{◌≡◌, ◌<◌, ◌↔◌, ℕ, Bool, true, false, List, ◌++◌, length, Contains, slice_index, slice_index_or}
 use Rattle.std.specs.List.{count_by}
 use Rattle.directed_graphs.specs.Cycles.{Leads}
 use Rattle.directed_graphs.specs.declared.found.Found.{Found}
@@ -22,3 +22,14 @@ pub record Finds (nexts : List ℕ) (old new : Found) : Type 0 where
 pub record HoldsReached (edges : List (List ℕ)) (from : ℕ) (nodes : List ℕ) : Type 0 where
   pub reached : (node : ℕ) → Contains nodes node → Leads edges from node
   pub all : (node : ℕ) → Leads edges from node → node < length edges → Contains nodes node
+
+-- so many nodes there are to which ways lead from this one
+pub record CountsReached (edges : List (List ℕ)) (from count : ℕ) : Type 0 where
+  pub marks : List Bool
+  pub graph : length marks ≡ length edges
+  pub told : (to : ℕ) → to < length edges → (slice_index_or marks to false ≡ true) ↔ Leads edges from to
+  pub many : count_by (λ mark. mark) marks ≡ count
+
+-- for each node the number of those to which ways lead from it
+abbrev pub AreReachCounts : List (List ℕ) → List ℕ → Type 0
+AreReachCounts edges counts = (node : ℕ) → node < length counts → CountsReached edges node (slice_index counts node)

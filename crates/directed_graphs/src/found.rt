@@ -33,6 +33,13 @@ impl Found {
         self.nodes.get(place).copied()
     }
 
+    /// How many were found.
+    pub fn count(&self) -> usize
+        ensures { result ≡ length self.now.nodes.items }
+    {
+        self.nodes.len()
+    }
+
     /// Whether the node was found.
     pub fn has(&self, node: usize) -> bool
         requires { AreMarked self.now }

@@ -10,6 +10,7 @@ mod found;
 mod laws;
 mod order;
 mod ranks;
+mod reach;
 
 pub use laws::ordered_nodes_are_on_no_cycle;
 pub use order::{Order, order_nodes};

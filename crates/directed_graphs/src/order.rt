@@ -1,11 +1,12 @@
 //! Orders of nodes.
 
 ghost use Rattle.std.specs.Prelude.{IfOk};
-ghost use Rattle.directed_graphs.specs.Cycles.{IsAnswer, edges_of};
+ghost use Rattle.directed_graphs.specs.Cycles.{HasNoCycle, IsAnswer, IsOrder, edges_of};
 
 use crate::components::component_ranks;
 use crate::cycles::first_on_cycle;
 use crate::ranks::{all_go_down, nodes_by_rank};
+use crate::reach::reach_counts;
 use owl_characters::NoMemory;
 use std::alloc::Global;
 
@@ -19,7 +20,7 @@ pub enum Order {
 }
 
 /// All nodes of a graph, each behind those to which its edges lead, or else the
-/// least node that is on a cycle. `NoMemory` may come in place of any answer.
+/// least node that is on a cycle. `NoMemory` comes only where memory runs out.
 ///
 /// The graph is given by the nodes to which the edges of each node lead. What is
 /// no node of the graph has no edges. The time grows with the number of edges, and
@@ -29,8 +30,21 @@ pub fn order_nodes(alloc: Global, edges: &[Vec<usize>]) -> Result<Order, NoMemor
 {
     let ranks = component_ranks(alloc, edges)?;
     if all_go_down(edges, &ranks) {
-        Ok(Order::Of(nodes_by_rank(alloc, edges.len(), &ranks)?))
-    } else {
-        Ok(Order::Cycle(first_on_cycle(alloc, edges, &ranks)?))
+        return Ok(Order::Of(nodes_by_rank(alloc, edges.len(), &ranks)?));
     }
+    match first_on_cycle(alloc, edges, &ranks)? {
+        Some(node) => Ok(Order::Cycle(node)),
+        None => Ok(Order::Of(order_by_reach(alloc, edges)?)),
+    }
+}
+
+/// All nodes of a graph without cycles by how many nodes ways lead to from each.
+/// No proof says what the ranks of components are, so this stands behind them: it
+/// is slow, and an order whatever they are.
+fn order_by_reach(alloc: Global, edges: &[Vec<usize>]) -> Result<Vec<usize>, NoMemory>
+    requires { HasNoCycle (edges_of edges.now) }
+    ensures { IfOk result (λ nodes. IsOrder (edges_of edges.now) nodes.items) }
+{
+    let counts = reach_counts(alloc, edges)?;
+    Ok(nodes_by_rank(alloc, edges.len(), &counts)?)
 }
