@@ -1,13 +1,15 @@
 -- Prefixes by their IRIs.
-use Rattle.std.specs.Prelude.{◌≡◌, ◌↔◌, ◌<◌, ◌≤◌, ℕ, List, length, Some, slice_get, Contains}
+use Rattle.std.specs.Prelude.{◌≡◌, ◌↔◌, ◌+◌, ◌<◌, ◌≤◌, ℕ, List, drop, false, length, Some, slice_get, slice_index, Contains}
 use Rattle.std.specs.declared.cmp.Ordering.{Ordering}
 use Rattle.std.specs.Ordering.{nat_cmp, then_cmp}
 use Rattle.std.specs.List.Sorted.{IsStrictlySortedBy}
 use Rattle.std.specs.Str.{encode_utf8_all}
+use Rattle.owl_characters.specs.Iri.{AllAre}
 use Rattle.owl_characters.specs.Order.{text_cmp}
 use Rattle.owl_atom.specs.declared.by_iri.ByIri.{ByIri}
 use Rattle.owl_atom.specs.declared.by_iri.Front.{Front}
 use Rattle.owl_atom.specs.declared.prefixes.Prefix.{Prefix}
+use Rattle.owl_atom.specs.Prefixes.{is_plain_character}
 
 -- by IRI, and then by place
 abbrev pub front_cmp : Front → Front → Ordering
@@ -42,3 +44,9 @@ sized lengths place prefix = Contains lengths (size_of prefix)
 
 abbrev pub of_size : ℕ → ℕ → Prefix → Type 0
 of_size size place prefix = size_of prefix ≡ size
+
+-- from this byte on all characters are of plain local parts, and the byte before is of none of these
+pub record IsPlainFrom (bytes : List ℕ) (from : ℕ) : Type 0 where
+  pub within : from ≤ length bytes
+  pub plain : AllAre is_plain_character (drop from bytes)
+  pub before : (place : ℕ) → place + 1 ≡ from → is_plain_character (slice_index bytes place) ≡ false

@@ -1,18 +1,18 @@
 //! Prefixes by their IRIs.
 
 ghost use Rattle.std.specs.Prelude.{◌≡◌, ◌<◌, ◌≤◌, ◌++◌, ◌∷◌, [], ℕ, List, map, length, slice_get, true, false, Contains, IfOk, IfSome, IsNone, Some};
-ghost use Rattle.std.specs.Str.{chars};
+ghost use Rattle.std.specs.Str.{chars, encode_utf8_all};
 ghost use Rattle.std.specs.Ordering.{is_lt};
 ghost use Rattle.std.specs.List.Sorted.{IsPartitionPoint, IsStrictlySortedBy};
 ghost use Rattle.owl_characters.specs.Order.{text_cmp};
 ghost use Rattle.owl_atom.specs.declared.by_iri.Front.{Front};
 ghost use Rattle.owl_atom.specs.declared.prefixes.Prefix.{Prefix};
-ghost use Rattle.owl_atom.specs.ByIri.{AreFronts, IsFirst, IsIndex, front_cmp, of_size, size_of, sized};
+ghost use Rattle.owl_atom.specs.ByIri.{AreFronts, IsFirst, IsIndex, IsPlainFrom, front_cmp, of_size, size_of, sized};
 ghost use Rattle.owl_atom.specs.Places.{IsBest, first};
 ghost use Rattle.owl_atom.specs.Prefixes.{AreAscending};
 
 use crate::blocks::Blocks;
-use crate::prefixes::{is_plain_local, longer, push};
+use crate::prefixes::{is_plain_behind, is_plain_character, longer, push};
 use owl_characters::NoMemory;
 use owl_list::arrange;
 use rdf_terms::Iri;
@@ -53,9 +53,10 @@ impl ByIri {
         requires { IsStrictlySortedBy front_cmp self.now.fronts.items }
         ensures { (held : List Prefix) → AreAscending held → IsIndex held self.now → IsBest held (first (length held)) iri.now result }
     {
+        let plain_from = plain_from(iri.text());
         let mut best = None;
         for length in &self.lengths {
-            best = self.better_at(iri, best, *length);
+            best = self.better_at(iri, best, *length, plain_from);
         }
         best
     }
@@ -67,29 +68,46 @@ impl ByIri {
         iri: &Iri,
         best: Option<(usize, usize)>,
         length: usize,
+        plain_from: usize,
     ) -> Option<(usize, usize)>
-        requires { IsStrictlySortedBy front_cmp self.now.fronts.items }
+        requires sorted { IsStrictlySortedBy front_cmp self.now.fronts.items }
+        requires plain { IsPlainFrom (encode_utf8_all iri.now) plain_from }
         ensures { (held : List Prefix) (lengths : List ℕ) → AreAscending held → IsIndex held self.now
             → IsBest held (sized lengths) iri.now best → IsBest held (sized (lengths ++ length ∷ [])) iri.now result }
     {
         match best {
             Some((_, begin)) if length < begin => best,
-            _ => longer(best, self.cut_at(iri, length)),
+            _ => longer(best, self.cut_at(iri, length, plain_from)),
         }
     }
 
-    /// The best of the prefixes that cut the IRI at this byte.
-    fn cut_at(&self, iri: &Iri, length: usize) -> Option<(usize, usize)>
-        requires { IsStrictlySortedBy front_cmp self.now.fronts.items }
+    /// The best of the prefixes that cut the IRI at this byte. Where its characters
+    /// are plain is asked once for all bytes, since there may be many.
+    fn cut_at(&self, iri: &Iri, length: usize, plain_from: usize) -> Option<(usize, usize)>
+        requires sorted { IsStrictlySortedBy front_cmp self.now.fronts.items }
+        requires plain { IsPlainFrom (encode_utf8_all iri.now) plain_from }
         ensures { (held : List Prefix) → AreAscending held → IsIndex held self.now → IsBest held (of_size length) iri.now result }
     {
         let (front, local) = iri.text().split_at_checked(length)?;
-        if !is_plain_local(local) {
+        if !is_plain_behind(local, plain_from <= length) {
             return None;
         }
         let place = first_of(&self.fronts, front)?;
         Some((place, length))
     }
+}
+
+/// Where the characters that may stand in a plain local part begin of which the
+/// text ends: the byte behind the last other one.
+fn plain_from(text: &str) -> usize
+    ensures { IsPlainFrom text.now result }
+{
+    let bytes = text.as_bytes();
+    let mut from = bytes.len();
+    while from > 0 && is_plain_character(char::from(bytes[from - 1])) {
+        from -= 1;
+    }
+    from
 }
 
 /// The fronts of all prefixes of a table.

@@ -309,10 +309,18 @@ fn cut(prefix: &Prefix, iri: &Iri) -> Option<usize>
 
 /// Whether a local part is made of letters, digits, `_` and `-` alone, and
 /// begins with a letter or `_`.
-pub fn is_plain_local(text: &str) -> bool
+fn is_plain_local(text: &str) -> bool
     ensures { IsTrue result ↔ IsPlainLocal (chars text.now) }
 {
-    begins_plain(text) && are_plain(text)
+    is_plain_behind(text, are_plain(text))
+}
+
+/// The same, where it is known whether the characters are such.
+pub fn is_plain_behind(text: &str, are_plain: bool) -> bool
+    requires { IsTrue are_plain ↔ AllAre is_plain_character (chars text.now) }
+    ensures { IsTrue result ↔ IsPlainLocal (chars text.now) }
+{
+    begins_plain(text) && are_plain
 }
 
 fn begins_plain(text: &str) -> bool
@@ -336,7 +344,7 @@ fn is_plain_start(c: char) -> bool
     c.is_ascii_alphabetic() || c == '_'
 }
 
-fn is_plain_character(c: char) -> bool
+pub fn is_plain_character(c: char) -> bool
     ensures { result ≡ is_plain_character c }
 {
     c.is_ascii_alphanumeric() || c == '_' || c == '-'
