@@ -20,14 +20,6 @@ ends_behind n held mid cs new c none is e = record {
       ∙ ap (λ (l : List ℕ). take n held ++ l) (sym is ∙ ap (λ (l : List ℕ). l ++ cs) (sym none) ∙ e.parts) ∙ sym (append_assoc (take n held) e.front new);
 }
 
-pub ends_both : (old cs mid ds new : List ℕ) → EndsIn (old ++ cs) mid → EndsIn (mid ++ ds) new → EndsIn (old ++ (cs ++ ds)) new
-ends_both old cs mid ds new e f = record {
-  front = e.front ++ f.front;
-  parts =
-      sym (append_assoc old cs ds) ∙ ap (λ (l : List ℕ). l ++ ds) e.parts ∙ append_assoc e.front mid ds
-      ∙ ap (λ (l : List ℕ). e.front ++ l) f.parts ∙ sym (append_assoc e.front f.front new);
-}
-
 -- ---- bytes
 
 pub keeps_both : (old mid new : Begun) (bs ds : List ℕ) → KeepsEnd old bs mid → KeepsEnd mid ds new → KeepsEnd old (bs ++ ds) new

@@ -2,24 +2,22 @@
 use Rattle.std.proofs.Common.{◌≡◌, ℕ, zero, suc, ◌+◌, ◌<◌, ◌≤◌, Option, None, Some, List, [], ◌∷◌, ◌++◌, length, take, drop, get_or, refl, sym, ap, ◌∙◌, subst, arith}
 use Rattle.std.proofs.lemmas.Grind.{get_or_default_zero}
 use Rattle.std.proofs.lemmas.List.{append_assoc, append-nil, drop_all, length-append, length-drop, take-append-drop, take_all}
-use Rattle.std.proofs.Math.Seq.{drop-cons, take-suc}
-use Rattle.std.specs.Char.{len_utf8}
+use Rattle.std.proofs.Math.Seq.{drop-cons}
 use Rattle.std.proofs.lemmas.Str.{len_utf8_bounds}
 use Rattle.owl_characters.specs.Utf8.{size}
 use Rattle.owl_characters.specs.Utf8Laws.{size_append}
 use Rattle.owl_lexer.specs.declared.fault.LexFault.{LexFault}
 use Rattle.owl_lexer.specs.declared.fault.LexFault.TheVariants.{BadToken, Memory}
 use Rattle.owl_lexer.specs.Adding.{placed_at, tokens_of}
-use Rattle.owl_lexer.specs.AddingLaws.{added_both}
 use Rattle.owl_lexer.specs.Automata.{Automaton}
 use Rattle.owl_lexer.specs.Cutting.{Lexeme}
 use Rattle.owl_lexer.specs.Giving.{Begun, EndsAt, Gives, GivesSome}
-use Rattle.owl_lexer.specs.GivingLaws.{behind_front, ends_behind, ends_front, ends_here, ends_some, front_of, gives_both, gives_front, gives_held, some_behind, some_front, some_none}
+use Rattle.owl_lexer.specs.GivingLaws.{behind_front, ends_front, ends_here, ends_some, front_of, gives_front, gives_held, some_front, some_none}
 use Rattle.owl_lexer.specs.Hands.{IsFrontOf, IsReady, Refuses, Takes, begun_of}
 use Rattle.owl_lexer.specs.declared.hand.Front.{Front}
 use Rattle.owl_lexer.specs.declared.hand.Hand.{Hand}
 use Rattle.owl_lexer.specs.declared.placed.Placed.{Placed}
-use Rattle.owl_lexer.proofs.Ends.{ends_behind as end_behind, ends_both as end_both}
+use Rattle.owl_lexer.proofs.Ends.{ends_behind as end_behind}
 use Rattle.owl_lexer.specs.Languages.{IsLanguage}
 use Rattle.owl_lexer.proofs.Hands.{Grows, front_is_all}
 
@@ -46,7 +44,6 @@ takes_held a value old new c before r g =
         gives = subst (Gives a (begun_of old) (c ∷ []) []) (same_begun (record { at = old.at; held = old.held.items ++ c ∷ [] }) (begun_of new) (sym g.at) (sym g.held)) (gives_held a old.at c old.held.items);
       };
       few = omega arith;
-      short = omega arith;
       end = omega arith;
       ends = record { front = []; parts = sym g.held };
     }
@@ -79,7 +76,7 @@ pub record GivesFront {T : Type 0} (a : Automaton) (value : ℕ → List ℕ →
 
 -- all that is held
 abbrev pub all_front : Hand → ℕ → Front
-all_front hand kind = record { length = length hand.held.items; kind = kind; end = hand.end }
+all_front hand kind = record { length = length hand.held.items; state = hand.state; kind = kind; end = hand.end }
 
 pub gives_all : {T : Type 0} → (a : Automaton) (value : ℕ → List ℕ → Option T) (spells : T → List ℕ → Type 0) → IsLanguage a value spells → (old mid : Hand) (kind : ℕ) (before between : List (Placed T)) → IsReady a old → a.kind old.state ≡ Some kind → IsReady a mid → begun_of mid ≡ record { at = old.end; held = [] } → mid.end ≡ old.end → between ≡ before ++ placed_at old.at (value kind old.held.items) → GivesFront a value old mid (all_front old kind) before between
 gives_all {T = T} a value spells l old mid kind before between r e ready begun end added = record {
@@ -147,7 +144,6 @@ takes_front {T = T} a value old mid new front c cs before between after g stuck 
     let n = one_at_most old.at (value front.kind (take front.length old.held.items)) in
     omega arith in
     let few = t.few in
-    let short = t.short in
     let end = t.end in
     let mid_end = g.end in
     record {
@@ -158,7 +154,6 @@ takes_front {T = T} a value old mid new front c cs before between after g stuck 
         gives = gives_front a old.at old.held.items old.state front.length front.kind c t.adds.given (begun_of new) g.old_ready.leads here.0 stuck gives;
       };
       few = omega arith;
-      short = omega arith;
       end = omega arith;
       ends = end_behind front.length old.held.items mid.held.items cs new.held.items c (ap (λ (b : Begun). b.held) g.begun) is t.ends;
     }
@@ -185,68 +180,10 @@ refuses_front a value old mid front c cs before between after fault g stuck is r
           };
     }
 
--- several characters
-
-pub takes_both : {T : Type 0} → (a : Automaton) (value : ℕ → List ℕ → Option T) (old mid new : Hand) (cs ds : List ℕ) (before between after : List (Placed T)) → Takes a value old cs before between mid → Takes a value mid ds between after new → Takes a value old (cs ++ ds) before after new
-takes_both a value old mid new cs ds before between after t u =
-    let many = length-append cs ds in
-    let sizes = size_append cs ds in
-    let few = t.few in
-    let fewer = u.few in
-    let short = t.short in
-    let shorter = u.short in
-    let end = t.end in
-    let later = u.end in
-    record {
-      ready = u.ready;
-      adds = record {
-        given = t.adds.given ++ u.adds.given;
-        added = added_both value before between after t.adds.given u.adds.given t.adds.added u.adds.added;
-        gives = gives_both a (begun_of old) (begun_of mid) (begun_of new) cs ds t.adds.given u.adds.given t.adds.gives u.adds.gives;
-      };
-      few = omega arith;
-      short = omega arith;
-      end = omega arith;
-      ends = end_both old.held.items cs mid.held.items ds new.held.items t.ends u.ends;
-    }
-
-pub takes_more : {T : Type 0} → (a : Automaton) (value : ℕ → List ℕ → Option T) (old mid new : Hand) (cs : List ℕ) (i : ℕ) (before between after : List (Placed T)) → i < length cs → Takes a value old (take i cs) before between mid → Takes a value mid (get_or cs i 0 ∷ []) between after new → Takes a value old (take (i + 1) cs) before after new
-takes_more a value old mid new cs i before between after lt t u =
-    let next : take i cs ++ get_or cs i 0 ∷ [] ≡ take (i + 1) cs = sym (take-suc cs i 0 lt) ∙ ap (λ (n : ℕ). take n cs) (let e : suc i ≡ i + 1 = omega arith in e) in
-    subst (λ (l : List ℕ). Takes a value old l before after new) next (takes_both a value old mid new (take i cs) (get_or cs i 0 ∷ []) before between after t u)
-
 -- a character in a list, what stands before it and what stands behind it
 pub parted : (cs : List ℕ) (i : ℕ) → i < length cs → take i cs ++ (get_or cs i 0 ∷ [] ++ drop (suc i) cs) ≡ cs
 parted cs i lt = ap (λ (l : List ℕ). take i cs ++ l) (sym (drop-cons cs i 0 lt)) ∙ take-append-drop i cs
 
-pub refuses_in : {T : Type 0} → (a : Automaton) (value : ℕ → List ℕ → Option T) (old mid : Hand) (cs : List ℕ) (i : ℕ) (before between after : List (Placed T)) (fault : LexFault) → i < length cs → Takes a value old (take i cs) before between mid → Refuses a value (begun_of mid) (get_or cs i 0 ∷ []) between after fault → Refuses a value (begun_of old) cs before after fault
-refuses_in a value old mid cs i before between after fault lt t r = record {
-  some = record {
-    given = t.adds.given ++ r.some.given;
-    added = added_both value before between after t.adds.given r.some.given t.adds.added r.some.added;
-    next = subst (λ (l : List ℕ). GivesSome a (begun_of old) l (t.adds.given ++ r.some.given)) (parted cs i lt)
-        (some_behind a (begun_of old) (begun_of mid) (take i cs) (get_or cs i 0 ∷ []) (drop (suc i) cs) t.adds.given r.some.given t.adds.gives r.some.next);
-  };
-  bad = λ ne.
-      let bad = r.bad ne in
-      record {
-        given = t.adds.given ++ bad.given;
-        added = added_both value before between after t.adds.given bad.given t.adds.added bad.added;
-        ends = subst (λ (l : List ℕ). EndsAt a (begun_of old) l (t.adds.given ++ bad.given) fault) (parted cs i lt)
-            (ends_behind a (begun_of old) (begun_of mid) (take i cs) (get_or cs i 0 ∷ []) (drop (suc i) cs) t.adds.given bad.given fault t.adds.gives bad.ends);
-      };
-}
-
--- the places of characters in a list
-pub room_left : (cs : List ℕ) (i : ℕ) → i < length cs → size (take i cs) + len_utf8 (get_or cs i 0) ≤ size cs
-room_left cs i lt =
-    let whole : size cs ≡ size (take i cs) + (len_utf8 (get_or cs i 0) + size (drop (suc i) cs)) =
-    ap size (sym (parted cs i lt)) ∙ size_append (take i cs) (get_or cs i 0 ∷ [] ++ drop (suc i) cs) in
-    omega arith
-
+-- the item at a place
 pub item_is : (cs : List ℕ) (i x : ℕ) → i < length cs → x ≡ get_or cs i x → x ≡ get_or cs i 0
 item_is cs i x lt e = e ∙ get_or_default_zero cs i x lt
-
--- what stands behind the front, and the character that came
-pub with_next : (cs added behind rest : List ℕ) (c : ℕ) → cs ≡ added → added ≡ behind ++ c ∷ [] → behind ≡ rest → cs ≡ rest ++ c ∷ []
-with_next cs added behind rest c e f g = e ∙ f ∙ ap (λ (l : List ℕ). l ++ c ∷ []) g

@@ -50,6 +50,7 @@ same_front a at c next held None leads kind f = none_more a held c next 0 leads 
 same_front a at c next held (Some front) leads kind f = (
   front_more a held c next front.length front.kind leads kind f.0,
   f.1 ∙ ap (λ (l : List ℕ). at + size l) (sym (take-append-le front.length held (c ∷ []) f.0.within)),
+  subst (λ (l : List ℕ). LeadsTo a l front.state) (sym (take-append-le front.length held (c ∷ []) f.0.within)) f.2,
 )
 
 -- what stands in front of the characters so far is remembered, where they are no lexeme with the next one
@@ -82,11 +83,12 @@ some_held : {T : Type 0} (a : Automaton) (value : ℕ → List ℕ → Option T)
 some_held a value spells l [] state kind h e = absurd (no_lexeme spells (value kind []) l.some (l.says kind [] (ap (kind_at a) h ∙ e)))
 some_held a value spells l (c ∷ held) state kind h e = omega arith
 
-pub front_is_all : {T : Type 0} (a : Automaton) (value : ℕ → List ℕ → Option T) (spells : T → List ℕ → Type 0) → IsLanguage a value spells → (hand : Hand) (kind : ℕ) → IsReady a hand → (count : ℕ) → count ≡ length hand.held.items → a.kind hand.state ≡ Some kind → IsFrontOf a hand.at hand.held.items (Some (record { length = count; kind = kind; end = hand.end }))
+pub front_is_all : {T : Type 0} (a : Automaton) (value : ℕ → List ℕ → Option T) (spells : T → List ℕ → Type 0) → IsLanguage a value spells → (hand : Hand) (kind : ℕ) → IsReady a hand → (count : ℕ) → count ≡ length hand.held.items → a.kind hand.state ≡ Some kind → IsFrontOf a hand.at hand.held.items (Some (record { length = count; state = hand.state; kind = kind; end = hand.end }))
 front_is_all a value spells l hand kind r count is e =
     let all = front_all a hand.held.items hand.state kind (some_held a value spells l hand.held.items hand.state kind r.leads e) r.leads e in (
       subst (λ (n : ℕ). IsFront a hand.held.items n kind) (sym is) all,
       r.end ∙ ap (λ (l : List ℕ). hand.at + size l) (sym (take_all count hand.held.items (omega arith))),
+      subst (λ (l : List ℕ). LeadsTo a l hand.state) (sym (take_all count hand.held.items (omega arith))) r.leads,
     )
 
 -- a run

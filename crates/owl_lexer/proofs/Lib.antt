@@ -1,7 +1,8 @@
 pub mod Hands
 pub mod Ends
 pub mod Feeding
-pub mod Finishing
+pub mod Lost
+pub mod Cuts
 pub mod Bytes
 pub mod BytesFeeding
 pub mod Classes

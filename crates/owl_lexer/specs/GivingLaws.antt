@@ -6,35 +6,13 @@ use Rattle.owl_lexer.specs.declared.fault.LexFault.{LexFault}
 use Rattle.owl_lexer.specs.declared.fault.LexFault.TheVariants.{BadToken}
 use Rattle.owl_lexer.specs.Automata.{Automaton, Spells}
 use Rattle.owl_lexer.specs.Cutting.{CutsFirst, BeginsNone, Cuts, Lexeme, Stops}
-use Rattle.owl_lexer.specs.Giving.{Begun, Continues, EndsAt, EndsLastAt, Gives, GivesSome, GivesSomeLast}
-use Rattle.owl_lexer.specs.Holding.{GoesNowhere, IsFront, LeadsTo, NoneBeyond}
-use Rattle.owl_lexer.specs.HoldingLaws.{none_first, stands_first}
+use Rattle.owl_lexer.specs.Giving.{Begun, Continues, EndsAt, Gives, GivesSome}
+use Rattle.owl_lexer.specs.Holding.{IsBarren, IsFront, LeadsTo, NoneBeyond}
+use Rattle.owl_lexer.specs.HoldingLaws.{none_first, stands_first, stuck_barren}
 use Rattle.owl_lexer.specs.TotalLaws.{cut}
 
 move : (a : Automaton) (begun : Begun) (cs ds tail : List ℕ) (xs : List Lexeme) (e : Option LexFault) → cs ≡ ds → Continues a begun cs tail xs e → Continues a begun ds tail xs e
 move a begun cs ds tail xs e same h = subst (λ (l : List ℕ). Continues a begun l tail xs e) same h
-
--- characters one behind another
-
-pub gives_both : (a : Automaton) (old mid new : Begun) (cs ds : List ℕ) (xs ys : List Lexeme) → Gives a old cs xs mid → Gives a mid ds ys new → Gives a old (cs ++ ds) (xs ++ ys) new
-gives_both a old mid new cs ds xs ys g h more tail rest e k =
-    subst (λ (l : List Lexeme). Continues a old ((cs ++ ds) ++ more) tail l e) (sym (append_assoc xs ys rest))
-    (move a old (cs ++ (ds ++ more)) ((cs ++ ds) ++ more) tail (xs ++ (ys ++ rest)) e (sym (append_assoc cs ds more)) (g (ds ++ more) tail (ys ++ rest) e (h more tail rest e k)))
-
--- what follows comes first, some of what comes behind it, and more may follow that
-
-comes_behind : (a : Automaton) (old mid : Begun) (cs ds es more tail : List ℕ) (xs ys : List Lexeme) (e : Option LexFault) → Gives a old cs xs mid → Continues a mid (ds ++ (es ++ more)) tail ys e → Continues a old ((cs ++ (ds ++ es)) ++ more) tail (xs ++ ys) e
-comes_behind a old mid cs ds es more tail xs ys e g k =
-    let same : (cs ++ (ds ++ es)) ++ more ≡ cs ++ (ds ++ (es ++ more)) = append_assoc cs (ds ++ es) more ∙ ap (λ (l : List ℕ). cs ++ l) (append_assoc ds es more) in
-    move a old (cs ++ (ds ++ (es ++ more))) ((cs ++ (ds ++ es)) ++ more) tail (xs ++ ys) e (sym same) (g (ds ++ (es ++ more)) tail ys e k)
-
-pub some_behind : (a : Automaton) (old mid : Begun) (cs ds es : List ℕ) (xs ys : List Lexeme) → Gives a old cs xs mid → GivesSome a mid ds ys → GivesSome a old (cs ++ (ds ++ es)) (xs ++ ys)
-some_behind a old mid cs ds es xs ys g h more tail =
-    let o = h (es ++ more) tail in
-    (o.0, o.1, subst (λ (l : List Lexeme). Continues a old ((cs ++ (ds ++ es)) ++ more) tail l o.1) (sym (append_assoc xs ys o.0)) (comes_behind a old mid cs ds es more tail xs (ys ++ o.0) o.1 g o.2))
-
-pub ends_behind : (a : Automaton) (old mid : Begun) (cs ds es : List ℕ) (xs ys : List Lexeme) (fault : LexFault) → Gives a old cs xs mid → EndsAt a mid ds ys fault → EndsAt a old (cs ++ (ds ++ es)) (xs ++ ys) fault
-ends_behind a old mid cs ds es xs ys fault g h more tail = comes_behind a old mid cs ds es more tail xs ys (Some fault) g (h (es ++ more) tail)
 
 -- where it ends at a fault, what was given stands first
 
@@ -43,9 +21,6 @@ all_given a old more tail xs e k = subst (λ (l : List Lexeme). Continues a old 
 
 pub ends_some : (a : Automaton) (old : Begun) (cs : List ℕ) (xs : List Lexeme) (fault : LexFault) → EndsAt a old cs xs fault → GivesSome a old cs xs
 ends_some a old cs xs fault h more tail = ([], Some fault, all_given a old (cs ++ more) tail xs (Some fault) (h more tail))
-
-pub ends_some_last : (a : Automaton) (old : Begun) (xs : List Lexeme) (fault : LexFault) → EndsLastAt a old xs fault → GivesSomeLast a old xs
-ends_some_last a old xs fault h tail = ([], Some fault, all_given a old [] tail xs (Some fault) (h tail))
 
 -- nothing was given yet
 pub some_none : (a : Automaton) (old : Begun) (cs : List ℕ) → GivesSome a old cs []
@@ -63,7 +38,7 @@ front_of at held count kind = record { kind = kind; spelling = take count held; 
 abbrev pub behind_front : ℕ → List ℕ → ℕ → Begun
 behind_front at held count = record { at = at + size (take count held); held = [] }
 
-front_begins : (a : Automaton) (at : ℕ) (held : List ℕ) (state count kind : ℕ) (more : List ℕ) → LeadsTo a held state → IsFront a held count kind → GoesNowhere a state more → CutsFirst (Spells a) at (held ++ more) (front_of at held count kind) (drop count held ++ more)
+front_begins : (a : Automaton) (at : ℕ) (held : List ℕ) (state count kind : ℕ) (more : List ℕ) → LeadsTo a held state → IsFront a held count kind → IsBarren a (Some state) more → CutsFirst (Spells a) at (held ++ more) (front_of at held count kind) (drop count held ++ more)
 front_begins a at held state count kind more h f g = record {
   parts = ap (λ (l : List ℕ). l ++ more) (sym (take-append-drop count held)) ∙ append_assoc (take count held) (drop count held) more;
   at = refl;
@@ -71,13 +46,13 @@ front_begins a at held state count kind more h f g = record {
 }
 
 -- what comes of what is behind the lexeme comes of what is begun, behind it
-pub comes_before : (a : Automaton) (at : ℕ) (held : List ℕ) (state count kind : ℕ) (more tail : List ℕ) (xs : List Lexeme) (e : Option LexFault) → LeadsTo a held state → IsFront a held count kind → GoesNowhere a state more → Continues a (behind_front at held count) (drop count held ++ more) tail xs e → Continues a (record { at = at; held = held }) more tail (front_of at held count kind ∷ xs) e
+pub comes_before : (a : Automaton) (at : ℕ) (held : List ℕ) (state count kind : ℕ) (more tail : List ℕ) (xs : List Lexeme) (e : Option LexFault) → LeadsTo a held state → IsFront a held count kind → IsBarren a (Some state) more → Continues a (behind_front at held count) (drop count held ++ more) tail xs e → Continues a (record { at = at; held = held }) more tail (front_of at held count kind ∷ xs) e
 comes_before a at held state count kind more tail xs e h f g k = (drop count held ++ more, front_begins a at held state count kind more h f g, k)
 
 -- a character that leads nowhere comes again too
 front_before : (a : Automaton) (at : ℕ) (held : List ℕ) (state count kind c : ℕ) (more tail : List ℕ) (xs : List Lexeme) (e : Option LexFault) → LeadsTo a held state → IsFront a held count kind → a.step state c ≡ None → Continues a (behind_front at held count) ((drop count held ++ c ∷ []) ++ more) tail xs e → Continues a (record { at = at; held = held }) (c ∷ more) tail (front_of at held count kind ∷ xs) e
 front_before a at held state count kind c more tail xs e h f stuck k =
-    comes_before a at held state count kind (c ∷ more) tail xs e h f stuck
+    comes_before a at held state count kind (c ∷ more) tail xs e h f (stuck_barren a state c more stuck)
     (move a (behind_front at held count) ((drop count held ++ c ∷ []) ++ more) (drop count held ++ c ∷ more) tail xs e (append_assoc (drop count held) (c ∷ []) more) k)
 
 pub gives_front : (a : Automaton) (at : ℕ) (held : List ℕ) (state count kind c : ℕ) (ys : List Lexeme) (new : Begun) → LeadsTo a held state → IsFront a held count kind → a.step state c ≡ None → Gives a (behind_front at held count) (drop count held ++ c ∷ []) ys new → Gives a (record { at = at; held = held }) (c ∷ []) (front_of at held count kind ∷ ys) new
@@ -95,9 +70,4 @@ stops_here a at [] c more tail n = (n, refl)
 stops_here a at (d ∷ held) c more tail n = (n, refl)
 
 pub ends_here : (a : Automaton) (at : ℕ) (held : List ℕ) (state c : ℕ) → LeadsTo a held state → NoneBeyond a held 0 → a.step state c ≡ None → EndsAt a (record { at = at; held = held }) (c ∷ []) [] (BadToken at)
-ends_here a at held state c h n stuck more tail = stops_here a at held c more tail (none_first a held state (c ∷ more) h stuck n)
-
--- where nothing follows
-
-pub last_here : (a : Automaton) (at : ℕ) (c : ℕ) (held : List ℕ) (state : ℕ) → LeadsTo a (c ∷ held) state → NoneBeyond a (c ∷ held) 0 → EndsLastAt a (record { at = at; held = c ∷ held }) [] (BadToken at)
-last_here a at c held state h n tail = (none_first a (c ∷ held) state [] h tt n, refl)
+ends_here a at held state c h n stuck more tail = stops_here a at held c more tail (none_first a held state (c ∷ more) h (stuck_barren a state c more stuck) n)

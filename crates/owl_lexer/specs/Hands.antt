@@ -12,10 +12,10 @@ use Rattle.owl_lexer.specs.declared.hand.Front.{Front}
 use Rattle.owl_lexer.specs.declared.hand.Hand.{Hand}
 use Rattle.owl_lexer.specs.declared.placed.Placed.{Placed}
 
--- the longest lexeme in front of what is held, where there is one, and the byte behind it
+-- the longest lexeme in front of what is held, where there is one, the byte behind it, and the state to which it leads
 abbrev pub IsFrontOf : Automaton → ℕ → List ℕ → Option Front → Type 0
 IsFrontOf a at held None = NoneBeyond a held 0
-IsFrontOf a at held (Some front) = IsFront a held front.length front.kind × (front.end ≡ at + size (take front.length held))
+IsFrontOf a at held (Some front) = IsFront a held front.length front.kind × (front.end ≡ at + size (take front.length held)) × LeadsTo a (take front.length held) front.state
 
 -- Where the state is that of a lexeme, all that is held is the longest; else it is remembered.
 pub record IsReady (a : Automaton) (hand : Hand) : Type 0 where
@@ -50,7 +50,6 @@ pub record Takes {T : Type 0} (a : Automaton) (value : ℕ → List ℕ → Opti
   pub ready : IsReady a new
   pub adds : Adds a value (begun_of old) cs before after (begun_of new)
   pub few : length after + old.at ≤ length before + new.at
-  pub short : length new.held.items ≤ length old.held.items + length cs
   pub end : new.end ≡ old.end + size cs
   pub ends : EndsIn (old.held.items ++ cs) new.held.items
 

@@ -16,6 +16,7 @@ pub mod TableLaws
 pub mod WorkedCases
 pub mod Adding
 pub mod Hands
+pub mod Retaking
 pub mod BytesGiving
 pub mod BytesLaws
 pub mod DecodingLaws

@@ -5,8 +5,8 @@ use Rattle.std.proofs.lemmas.Bool.{not_from_false}
 use Rattle.owl_lexer.specs.Automata.{kind_at, run}
 use Rattle.owl_lexer.specs.GapTests.{class_of, is_none, is_token_kind, rows_pass, tokens_end}
 use Rattle.owl_lexer.specs.GapTestLaws.{cell_passes, nothing, row_passes, state_ends}
-use Rattle.owl_lexer.specs.Holding.{GoesNowhere, NoneBeyond}
-use Rattle.owl_lexer.specs.HoldingLaws.{no_longer}
+use Rattle.owl_lexer.specs.Holding.{IsBarren, NoneBeyond}
+use Rattle.owl_lexer.specs.HoldingLaws.{no_longer, stuck_barren}
 use Rattle.owl_lexer.specs.Languages.{IsLanguage}
 use Rattle.owl_lexer.specs.Splitting.{IsLongest}
 use Rattle.owl_lexer.specs.Tables.{Table, automaton_of, kind_in, state_of, step_in}
@@ -27,7 +27,7 @@ module _ {T : Type 0} (table : Table) (value : ℕ → List ℕ → Option T) (s
   none_beyond cs n kind lt le s = absurd (omega arith)
 
   -- where the state to which a token leads has no step on what follows
-  longest_at : (cs rest : List ℕ) (kind : ℕ) (o : Option ℕ) → run (automaton_of table) (Some 0) cs ≡ o → kind_at (automaton_of table) o ≡ Some kind → passes kind ≡ false → ((state : ℕ) → is_token_kind passes (kind_in table.kinds state) ≡ true → GoesNowhere (automaton_of table) state rest) → IsLongest spells cs rest
+  longest_at : (cs rest : List ℕ) (kind : ℕ) (o : Option ℕ) → run (automaton_of table) (Some 0) cs ≡ o → kind_at (automaton_of table) o ≡ Some kind → passes kind ≡ false → ((state : ℕ) → is_token_kind passes (kind_in table.kinds state) ≡ true → IsBarren (automaton_of table) (Some state) rest) → IsLongest spells cs rest
   longest_at cs rest kind None leads whole is stuck = absurd (cc)
   longest_at cs rest kind (Some state) leads whole is stuck = λ other longer more s e.
       let lexeme = language.token other longer s in
@@ -38,7 +38,7 @@ module _ {T : Type 0} (table : Table) (value : ℕ → List ℕ → Option T) (s
     pub longest_before : (c : ℕ) (rest : List ℕ) → tokens_end passes (class_of table c) table.rows table.kinds ≡ true → IsLongest spells cs (c ∷ rest)
     longest_before c rest h =
         let lexeme = language.token t cs spelled in
-        longest_at cs (c ∷ rest) lexeme.0 (run (automaton_of table) (Some 0) cs) refl lexeme.1 (is lexeme.0 lexeme.2) (λ state whole. state_ends passes (class_of table c) table.rows table.kinds state h whole)
+        longest_at cs (c ∷ rest) lexeme.0 (run (automaton_of table) (Some 0) cs) refl lexeme.1 (is lexeme.0 lexeme.2) (λ state whole. stuck_barren (automaton_of table) state c rest (state_ends passes (class_of table c) table.rows table.kinds state h whole))
 
     -- before anything, where no such token goes on with any character
     pub longest_always : (rest : List ℕ) → tokens_are_closed passes table.rows table.kinds ≡ true → IsLongest spells cs rest
@@ -46,6 +46,6 @@ module _ {T : Type 0} (table : Table) (value : ℕ → List ℕ → Option T) (s
         let lexeme = language.token t cs spelled in
         longest_at cs rest lexeme.0 (run (automaton_of table) (Some 0) cs) refl lexeme.1 (is lexeme.0 lexeme.2) (λ state whole. stuck rest state whole)
       where
-        stuck : (rest : List ℕ) (state : ℕ) → is_token_kind passes (kind_in table.kinds state) ≡ true → GoesNowhere (automaton_of table) state rest
+        stuck : (rest : List ℕ) (state : ℕ) → is_token_kind passes (kind_in table.kinds state) ≡ true → IsBarren (automaton_of table) (Some state) rest
         stuck [] state whole = tt
-        stuck (c ∷ rest) state whole = state_is_closed passes table.rows table.kinds state (class_of table c) h whole
+        stuck (c ∷ rest) state whole = stuck_barren (automaton_of table) state c rest (state_is_closed passes table.rows table.kinds state (class_of table c) h whole)

@@ -6,8 +6,8 @@ use Rattle.owl_lexer.specs.declared.fault.LexFault.{LexFault}
 use Rattle.owl_lexer.specs.declared.fault.LexFault.TheVariants.{BadToken, BadUtf8}
 use Rattle.owl_lexer.specs.Automata.{Automaton, Spells}
 use Rattle.owl_lexer.specs.Cutting.{BeginsNone, Cuts, Lexeme, Stands}
-use Rattle.owl_lexer.specs.Holding.{GoesNowhere, IsFront, LeadsTo, NoneBeyond}
-use Rattle.owl_lexer.specs.HoldingLaws.{front_all, front_more, leads_on, none_first, none_more, nothing_held, stands_first}
+use Rattle.owl_lexer.specs.Holding.{IsBarren, IsFront, LeadsTo, NoneBeyond}
+use Rattle.owl_lexer.specs.HoldingLaws.{front_all, front_more, leads_on, none_first, none_more, nothing_held, stands_first, stuck_barren}
 
 -- a lexeme stands first, or none does
 data FirstIn (a : Automaton) (cs : List ℕ) : Type 0 where
@@ -19,7 +19,7 @@ data Scanned (a : Automaton) (held : List ℕ) : Type 0 where
   front : (count kind : ℕ) → IsFront a held count kind → Scanned a held
   no_front : NoneBeyond a held 0 → Scanned a held
 
-scanned_first : (a : Automaton) (held : List ℕ) (state : ℕ) (more : List ℕ) → LeadsTo a held state → GoesNowhere a state more → Scanned a held → FirstIn a (held ++ more)
+scanned_first : (a : Automaton) (held : List ℕ) (state : ℕ) (more : List ℕ) → LeadsTo a held state → IsBarren a (Some state) more → Scanned a held → FirstIn a (held ++ more)
 scanned_first a held state more h g (front count kind f) =
     first kind (take count held) (drop count held ++ more)
     (ap (λ (l : List ℕ). l ++ more) (sym (take-append-drop count held)) ∙ append_assoc (take count held) (drop count held) more)
@@ -37,7 +37,7 @@ Scans a more = (held : List ℕ) (state : ℕ) → LeadsTo a held state → Scan
 
 scan_on : (a : Automaton) (c : ℕ) (more : List ℕ) → Scans a more → (held : List ℕ) (state : ℕ) (next : Option ℕ) → a.step state c ≡ next → LeadsTo a held state → Scanned a held → FirstIn a (held ++ c ∷ more)
 unfolding Scans
-scan_on a c more scans held state None e h s = scanned_first a held state (c ∷ more) h e s
+scan_on a c more scans held state None e h s = scanned_first a held state (c ∷ more) h (stuck_barren a state c more e) s
 scan_on a c more scans held state (Some next) e h s =
     let leads = leads_on a held state c next h e in
     subst (FirstIn a) (append_assoc held (c ∷ []) more) (scans (held ++ c ∷ []) next leads (scanned_more a held c next (a.kind next) leads refl s))

@@ -1,24 +1,22 @@
-//! What the machine has in hand, and how it takes characters.
+//! What the machine has in hand.
 
-ghost use Rattle.std.specs.Prelude.{◌≡◌, ◌≢◌, ℕ, ◌+◌, ◌^◌, ◌<◌, ◌≤◌, List, [], ◌∷◌, ◌++◌, length, take, drop, None, Some, IsTrue, OnOk, OnErr, IfOk, IfErr};
+ghost use Rattle.std.specs.Prelude.{◌≡◌, ◌+◌, ◌^◌, ◌<◌, ◌≤◌, [], ◌∷◌, ◌++◌, length, take, Some, IsTrue, OnOk, OnErr, IfOk};
 ghost use Rattle.std.specs.Char.{len_utf8};
-ghost use Rattle.owl_characters.specs.Utf8.{size};
 ghost use Rattle.owl_lexer.specs.Adding.{placed_at};
 ghost use Rattle.owl_lexer.specs.Giving.{nothing_at};
-ghost use Rattle.owl_lexer.specs.declared.placed.Placed.{Placed};
-ghost use Rattle.owl_lexer.specs.Hands.{AreRun, Finishes, FinishesBadly, HoldsRun, IsFrontOf, IsReady, Refuses, Takes, begun_of};
+ghost use Rattle.owl_lexer.specs.Hands.{AreRun, HoldsRun, IsFrontOf, IsReady, begun_of};
 
-use crate::fault::LexFault;
 use crate::language::TokenLanguage;
 use crate::placed::Placed;
 use owl_characters::NoMemory;
 use std::alloc::Global;
 
 /// The longest lexeme in front of the characters that are held: how many of
-/// them it has, its kind, and the byte behind it.
+/// them it has, the state to which they lead, its kind, and the byte behind it.
 #[derive(Clone, Copy, Debug)]
 pub struct Front {
     pub length: usize,
+    pub state: u8,
     pub kind: u8,
     pub end: u64,
 }
@@ -53,7 +51,7 @@ pub fn empty_hand<L: TokenLanguage>(alloc: Global, at: u64) -> Hand
 }
 
 /// Puts an item at the end.
-fn add<T: Drop>(items: &mut Vec<T>, item: T) -> Result<(), NoMemory>
+pub fn add<T: Drop>(items: &mut Vec<T>, item: T) -> Result<(), NoMemory>
     ensures ok { OnOk result (items.new.items ≡ items.old.items ++ item ∷ []) }
     ensures err { OnErr result (items.new.items ≡ items.old.items) }
 {
@@ -82,13 +80,14 @@ fn wide(c: char) -> u64
 
 /// The longest lexeme in front of the characters that are held, if there is one.
 #[inline(always)]
-fn longest_front<L: TokenLanguage>(hand: &Hand) -> Option<Front>
+pub fn longest_front<L: TokenLanguage>(hand: &Hand) -> Option<Front>
     requires { IsReady L.automaton hand.now }
     ensures { IsFrontOf L.automaton hand.now.at hand.now.held.items result }
 {
     match L::kind(hand.state) {
         Some(kind) => Some(Front {
             length: hand.held.len(),
+            state: hand.state,
             kind,
             end: hand.end,
         }),
@@ -108,7 +107,7 @@ fn remember<L: TokenLanguage>(hand: &mut Hand)
 
 /// Holds a character that leads to this state.
 #[inline(always)]
-fn hold<L: TokenLanguage>(hand: &mut Hand, state: u8, c: char) -> Result<(), NoMemory>
+pub fn hold<L: TokenLanguage>(hand: &mut Hand, state: u8, c: char) -> Result<(), NoMemory>
     requires ready { IsReady L.automaton hand.old }
     requires step { L.automaton.step hand.old.state c ≡ Some state }
     requires room { hand.old.end + len_utf8 c < 2 ^ 63 }
@@ -176,7 +175,7 @@ pub fn hold_run<L: TokenLanguage>(hand: &mut Hand, bytes: &[u8]) -> Result<usize
 /// Adds the token of all that is held, a lexeme of this kind that ends at this
 /// byte, if it stands for one. Nothing is in hand then.
 #[inline(always)]
-fn give_all<L: TokenLanguage>(
+pub fn give_all<L: TokenLanguage>(
     hand: &mut Hand,
     kind: u8,
     end: u64,
@@ -201,144 +200,5 @@ fn give_all<L: TokenLanguage>(
     hand.end = end;
     hand.state = L::start();
     hand.front = None;
-    Ok(())
-}
-
-/// Adds the token of the longest lexeme in front, if it stands for one, and
-/// answers the characters behind it. Nothing is in hand then.
-fn give<L: TokenLanguage>(
-    hand: &mut Hand,
-    front: Front,
-    into: &mut Vec<Placed<L::Token>>,
-) -> Result<Vec<char>, NoMemory>
-    requires { front.length ≤ length hand.old.held.items }
-    ensures ready { OnOk result (IsReady L.automaton hand.new) }
-    ensures begun { OnOk result (begun_of hand.new ≡ nothing_at front.end) }
-    ensures end { OnOk result (hand.new.end ≡ front.end) }
-    ensures behind { IfOk result (λ behind. behind.items ≡ drop front.length hand.old.held.items) }
-    ensures added { OnOk result
-        (into.new.items ≡ into.old.items
-        ++ placed_at hand.old.at (L.value_of front.kind (take front.length hand.old.held.items))) }
-    ensures err { OnErr result (into.new.items ≡ into.old.items) }
-{
-    let behind = hand.held.split_off(front.length)?;
-    give_all::<L>(hand, front.kind, front.end, into)?;
-    Ok(behind)
-}
-
-/// Holds a character with which a lexeme begins, where nothing is in hand.
-#[inline(always)]
-fn begin<L: TokenLanguage>(hand: &mut Hand, c: char) -> Result<(), LexFault>
-    requires ready { IsReady L.automaton hand.old }
-    requires nothing { hand.old.held.items ≡ [] }
-    requires room { hand.old.end + len_utf8 c < 2 ^ 63 }
-    ensures ok { OnOk result ((into : List (Placed L.Token)) →
-        Takes L.automaton L.value_of hand.old (c ∷ []) into into hand.new) }
-    ensures err { IfErr result (λ fault. (into : List (Placed L.Token)) →
-        Refuses L.automaton L.value_of (begun_of hand.old) (c ∷ []) into into fault) }
-{
-    match L::step(hand.state, c) {
-        Some(state) => Ok(hold::<L>(hand, state, c)?),
-        None => Err(LexFault::BadToken { at: hand.at }),
-    }
-}
-
-/// Takes a character, and adds the tokens that are whole now to the end of
-/// `into`.
-#[inline(always)]
-#[cycle(feeding)]
-pub fn push<L: TokenLanguage>(
-    hand: &mut Hand,
-    c: char,
-    into: &mut Vec<Placed<L::Token>>,
-) -> Result<(), LexFault>
-    requires ready { IsReady L.automaton hand.old }
-    requires room { hand.old.end + len_utf8 c < 2 ^ 63 }
-    ensures ok { OnOk result
-        (Takes L.automaton L.value_of hand.old (c ∷ []) into.old.items into.new.items hand.new) }
-    ensures err { IfErr result (λ fault.
-        Refuses L.automaton L.value_of (begun_of hand.old) (c ∷ [])
-        into.old.items into.new.items fault) }
-{
-    if let Some(state) = L::step(hand.state, c) {
-        return Ok(hold::<L>(hand, state, c)?);
-    }
-    match L::kind(hand.state) {
-        Some(kind) => {
-            give_all::<L>(hand, kind, hand.end, into)?;
-            begin::<L>(hand, c)
-        }
-        None => turn_back::<L>(hand, c, into),
-    }
-}
-
-/// Takes a character that leads nowhere, where all that is held is no lexeme:
-/// what stands behind the longest one in front is taken again.
-#[inline(never)]
-#[cycle(feeding)]
-fn turn_back<L: TokenLanguage>(
-    hand: &mut Hand,
-    c: char,
-    into: &mut Vec<Placed<L::Token>>,
-) -> Result<(), LexFault>
-    requires ready { IsReady L.automaton hand.old }
-    requires step { L.automaton.step hand.old.state c ≡ None }
-    requires none { L.automaton.kind hand.old.state ≡ None }
-    requires room { hand.old.end + len_utf8 c < 2 ^ 63 }
-    ensures ok { OnOk result
-        (Takes L.automaton L.value_of hand.old (c ∷ []) into.old.items into.new.items hand.new) }
-    ensures err { IfErr result (λ fault.
-        Refuses L.automaton L.value_of (begun_of hand.old) (c ∷ [])
-        into.old.items into.new.items fault) }
-{
-    let Some(front) = hand.front else {
-        return Err(LexFault::BadToken { at: hand.at });
-    };
-    let mut behind = give::<L>(hand, front, into)?;
-    add(&mut behind, c)?;
-    push_all::<L>(hand, &behind, into)
-}
-
-/// Takes characters, one after another.
-#[cycle(feeding)]
-pub fn push_all<L: TokenLanguage>(
-    hand: &mut Hand,
-    chars: &[char],
-    into: &mut Vec<Placed<L::Token>>,
-) -> Result<(), LexFault>
-    requires ready { IsReady L.automaton hand.old }
-    requires room { hand.old.end + size chars.now < 2 ^ 63 }
-    ensures ok { OnOk result
-        (Takes L.automaton L.value_of hand.old chars.now into.old.items into.new.items hand.new) }
-    ensures err { IfErr result (λ fault.
-        Refuses L.automaton L.value_of (begun_of hand.old) chars.now
-        into.old.items into.new.items fault) }
-{
-    for c in chars {
-        push::<L>(hand, *c, into)?;
-    }
-    Ok(())
-}
-
-/// Adds the last tokens, which the end makes whole. Nothing is in hand then.
-pub fn finish<L: TokenLanguage>(
-    hand: &mut Hand,
-    into: &mut Vec<Placed<L::Token>>,
-) -> Result<(), LexFault>
-    requires ready { IsReady L.automaton hand.old }
-    requires room { hand.old.end < 2 ^ 63 }
-    ensures ok { OnOk result
-        (Finishes L.automaton L.value_of hand.old into.old.items into.new.items hand.new) }
-    ensures err { IfErr result (λ fault.
-        FinishesBadly L.automaton L.value_of (begun_of hand.old)
-        into.old.items into.new.items fault) }
-{
-    while !hand.held.is_empty() {
-        let Some(front) = longest_front::<L>(hand) else {
-            return Err(LexFault::BadToken { at: hand.at });
-        };
-        let behind = give::<L>(hand, front, into)?;
-        push_all::<L>(hand, &behind, into)?;
-    }
     Ok(())
 }

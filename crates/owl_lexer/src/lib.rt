@@ -1,6 +1,8 @@
 //! Characters cut into tokens, each the longest, by automata that are tables.
 #![tactic(auto)]
 
+mod again;
+mod characters;
 mod fault;
 mod hand;
 mod language;

@@ -6,8 +6,9 @@ ghost use Rattle.owl_lexer.specs.BytesGiving.{end_of_bytes};
 ghost use Rattle.owl_lexer.specs.Lexing.{end_of, nothing_fed};
 ghost use Rattle.owl_lexer.specs.Sources.{EndsPieces, EndsPiecesBadly, IsOpen, RefusesBytes, RefusesPiece, TakesBytes, TakesPiece, begun_in, bytes_in};
 
+use crate::characters::{finish, push};
 use crate::fault::LexFault;
-use crate::hand::{Hand, empty_hand, finish, hold_run, push};
+use crate::hand::{Hand, empty_hand, hold_run};
 use crate::language::TokenLanguage;
 use crate::placed::Placed;
 use owl_characters::{Utf8Feed, Utf8Step};

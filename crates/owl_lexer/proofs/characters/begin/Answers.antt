@@ -5,7 +5,7 @@ use Rattle.owl_lexer.specs.HoldingLaws.{nothing_held}
 use Rattle.std.proofs.lemmas.Result.{IfErr-weaker}
 use Rattle.owl_lexer.specs.Hands.{begun_of}
 use Rattle.owl_lexer.proofs.Feeding.{refuses_here, refuses_memory}
-use Rattle.owl_lexer.proofs.hand.begin.Goals as goal
+use Rattle.owl_lexer.proofs.characters.begin.Goals as goal
 
 pub returns-in-None-clause-err : goal.returns-in-None-clause-err
 returns-in-None-clause-err g c into =

@@ -1,0 +1,200 @@
+//! Characters that are taken again, once the lexeme in front of them was cut.
+
+ghost use Rattle.std.specs.Prelude.{◌≡◌, ◌⊎◌, ℕ, ◌+◌, ◌^◌, ◌<◌, ◌≤◌, Bool, true, false, List, [], ◌∷◌, ◌++◌, length, take, drop, reverse, None, Some, IsTrue, OnOk, IfErr, IfSome};
+ghost use Rattle.owl_lexer.specs.Retaking.{AreKept, CutsFront, HoldsAgain, Loses, RefusesAgain, Settles, begun_with, coming};
+ghost use Rattle.owl_lexer.specs.Automata.{run};
+ghost use Rattle.owl_lexer.specs.Giving.{end_of};
+ghost use Rattle.owl_lexer.specs.Hands.{IsFrontOf, IsReady};
+ghost use Rattle.owl_lexer.specs.Holding.{IsLost};
+ghost use Rattle.owl_lexer.specs.declared.again.LostRun.{LostRun};
+
+use crate::fault::LexFault;
+use crate::hand::{Front, Hand, add, give_all, hold, longest_front};
+use crate::language::TokenLanguage;
+use crate::placed::Placed;
+use owl_characters::NoMemory;
+use std::alloc::Global;
+
+/// A run that is lost, since no longer lexeme comes of it: its state in front of
+/// the characters that are held, and behind them.
+#[derive(Clone, Copy, Debug)]
+pub struct LostRun {
+    pub first: u8,
+    pub next: u8,
+}
+
+/// Characters that are taken again, the next one last; the run that was over
+/// them before, where it is known to be lost and leads on over what is held; and
+/// whether the end follows them.
+#[derive(Debug, Drop)]
+pub struct Again {
+    pub chars: Vec<char>,
+    pub lost: Option<LostRun>,
+    pub ended: bool,
+}
+
+/// No characters, before the end or before more. Takes no memory.
+pub fn nothing_again(alloc: Global, ended: bool) -> Again
+    ensures chars { result.chars.items ≡ [] }
+    ensures lost { result.lost ≡ None }
+    ensures ended { result.ended ≡ ended }
+{
+    Again {
+        chars: Vec::new(alloc),
+        lost: None,
+        ended,
+    }
+}
+
+/// The state to which a character that is taken again leads, unless it leads
+/// nowhere, or where a run stands that is lost.
+fn leading<L: TokenLanguage>(state: u8, lost: Option<LostRun>, c: char) -> Option<u8>
+    ensures leads { IfSome result (λ next. L.automaton.step state c ≡ Some next) }
+    ensures lost { result ≡ None → (ended : Bool) (held cs : List ℕ) →
+        Loses L.automaton ended held (c ∷ cs) lost → IsLost L.automaton ended state (c ∷ cs) }
+{
+    match lost {
+        Some(run) if run.next == state => None,
+        _ => L::step(state, c),
+    }
+}
+
+/// A lost run once the character is held, if it leads on.
+fn lead_on<L: TokenLanguage>(lost: Option<LostRun>, c: char) -> Option<LostRun>
+    ensures { (ended : Bool) (held cs : List ℕ) → Loses L.automaton ended held (c ∷ cs) lost →
+        Loses L.automaton ended (held ++ c ∷ []) cs result }
+{
+    let LostRun { first, next } = lost?;
+    let next = L::step(next, c)?;
+    Some(LostRun { first, next })
+}
+
+/// Holds the characters again for as long as they lead on, unless the run is
+/// lost.
+fn hold_again<L: TokenLanguage>(hand: &mut Hand, again: &mut Again) -> Result<(), NoMemory>
+    requires ready { IsReady L.automaton hand.old }
+    requires kept { AreKept L.automaton hand.old again.old }
+    requires room { end_of (begun_with hand.old again.old) < 2 ^ 63 }
+    ensures holds { OnOk result (HoldsAgain L.automaton hand.old again.old hand.new again.new) }
+    ensures lost { OnOk result
+        ((0 < length again.new.chars.items) ⊎ (again.new.ended ≡ true) →
+        IsLost L.automaton again.new.ended hand.new.state (coming again.new)) }
+{
+    while let Some(c) = again.chars.pop() {
+        let Some(state) = leading::<L>(hand.state, again.lost, c) else {
+            return add(&mut again.chars, c);
+        };
+        hold::<L>(hand, state, c)?;
+        again.lost = lead_on::<L>(again.lost, c);
+    }
+    Ok(())
+}
+
+/// The state to which characters lead from a state, if they lead on.
+fn state_behind<L: TokenLanguage>(state: u8, chars: &[char]) -> Option<u8>
+    ensures { result ≡ run L.automaton (Some state) chars.now }
+{
+    let mut state = state;
+    for c in chars {
+        state = L::step(state, *c)?;
+    }
+    Some(state)
+}
+
+/// A run that is lost behind the longest lexeme in front: the one that was over
+/// the characters before, where it still leads on, since it goes further; or
+/// that which is in hand.
+fn lost_behind<L: TokenLanguage>(hand: &Hand, again: &Again, front: Front) -> Option<LostRun>
+    requires ready { IsReady L.automaton hand.now }
+    requires kept { AreKept L.automaton hand.now again.now }
+    requires lost { IsLost L.automaton again.now.ended hand.now.state (coming again.now) }
+    requires front { IsFrontOf L.automaton hand.now.at hand.now.held.items (Some front) }
+    ensures { Loses L.automaton again.now.ended []
+        (drop front.length hand.now.held.items ++ coming again.now) result }
+{
+    let state = match again.lost {
+        Some(lost) => state_behind::<L>(lost.first, &hand.held[..front.length])?,
+        None => front.state,
+    };
+    Some(LostRun {
+        first: state,
+        next: state,
+    })
+}
+
+/// Puts the characters behind the first `count` in front of those that
+/// are taken again.
+fn put_back(held: &mut Vec<char>, chars: &mut Vec<char>, count: usize) -> Result<(), NoMemory>
+    requires { count ≤ length held.old.items }
+    ensures held { OnOk result (held.new.items ≡ take count held.old.items) }
+    ensures chars { OnOk result
+        (reverse chars.new.items ≡ drop count held.old.items ++ reverse chars.old.items) }
+{
+    while held.len() > count {
+        if let Some(c) = held.pop() {
+            add(chars, c)?;
+        }
+    }
+    Ok(())
+}
+
+/// Adds the token of the longest lexeme in front, if it stands for one, where no
+/// longer one can come. What stands behind it is taken again.
+fn cut<L: TokenLanguage>(
+    hand: &mut Hand,
+    again: &mut Again,
+    into: &mut Vec<Placed<L::Token>>,
+) -> Result<(), LexFault>
+    requires ready { IsReady L.automaton hand.old }
+    requires kept { AreKept L.automaton hand.old again.old }
+    requires lost { IsLost L.automaton again.old.ended hand.old.state (coming again.old) }
+    requires some { 0 < length hand.old.held.items + length again.old.chars.items }
+    ensures ok { OnOk result (CutsFront L.automaton L.value_of hand.old again.old
+        into.old.items into.new.items hand.new again.new) }
+    ensures err { IfErr result (λ fault. RefusesAgain L.automaton L.value_of again.old.ended
+        (begun_with hand.old again.old) into.old.items into.new.items fault) }
+{
+    let Some(front) = longest_front::<L>(hand) else {
+        return Err(LexFault::BadToken { at: hand.at });
+    };
+    let lost = lost_behind::<L>(hand, again, front);
+    put_back(&mut hand.held, &mut again.chars, front.length)?;
+    again.lost = lost;
+    give_all::<L>(hand, front.kind, front.end, into)?;
+    Ok(())
+}
+
+/// Whether the longest lexeme in front is to be cut before more can be held.
+fn is_stuck(hand: &Hand, again: &Again) -> bool
+    ensures stuck { IsTrue result →
+        (0 < length again.now.chars.items)
+        ⊎ ((again.now.ended ≡ true) × (0 < length hand.now.held.items)) }
+    ensures free { result ≡ false → (again.now.chars.items ≡ [])
+        × (again.now.ended ≡ true → hand.now.held.items ≡ []) }
+{
+    !again.chars.is_empty() || (again.ended && !hand.held.is_empty())
+}
+
+/// Takes all characters that are taken again, and adds the tokens that are whole
+/// then to the end of `into`: where the end follows, all.
+pub fn settle<L: TokenLanguage>(
+    hand: &mut Hand,
+    again: &mut Again,
+    into: &mut Vec<Placed<L::Token>>,
+) -> Result<(), LexFault>
+    requires ready { IsReady L.automaton hand.old }
+    requires kept { AreKept L.automaton hand.old again.old }
+    requires room { end_of (begun_with hand.old again.old) < 2 ^ 63 }
+    ensures ok { OnOk result (Settles L.automaton L.value_of hand.old again.old
+        into.old.items into.new.items hand.new again.new) }
+    ensures err { IfErr result (λ fault. RefusesAgain L.automaton L.value_of again.old.ended
+        (begun_with hand.old again.old) into.old.items into.new.items fault) }
+{
+    loop {
+        hold_again::<L>(hand, again)?;
+        if !is_stuck(hand, again) {
+            return Ok(());
+        }
+        cut::<L>(hand, again, into)?;
+    }
+}
