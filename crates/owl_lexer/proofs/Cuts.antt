@@ -2,13 +2,14 @@
 use Rattle.std.proofs.Common.{◌≡◌, ℕ, ◌+◌, ◌<◌, ◌≤◌, Bool, true, false, Option, None, Some, List, [], ◌∷◌, ◌++◌, length, take, drop, reverse, refl, sym, ap, ◌∙◌, subst, arith}
 use Rattle.std.proofs.lemmas.List.{append_assoc, append-nil, length-append, length-reverse, take-append-drop}
 use Rattle.std.specs.Char.{len_utf8}
+use Rattle.std.specs.List.{All}
 use Rattle.owl_characters.specs.Utf8.{size}
 use Rattle.owl_characters.specs.Utf8Laws.{size_append}
 use Rattle.owl_lexer.specs.declared.fault.LexFault.{LexFault}
 use Rattle.owl_lexer.specs.declared.fault.LexFault.TheVariants.{BadToken, Memory}
 use Rattle.owl_lexer.specs.Adding.{placed_at, tokens_of}
 use Rattle.owl_lexer.specs.AddingLaws.{added_both}
-use Rattle.owl_lexer.specs.Retaking.{AddsCut, AreKept, CutsFront, HoldsAgain, Loses, MayFollow, RefusesAgain, Settles, begun_with, coming}
+use Rattle.owl_lexer.specs.Retaking.{AddsCut, AreKept, CutsFront, HoldsAgain, IsLostRun, MayFollow, RefusesAgain, Settles, begun_with, coming}
 use Rattle.owl_lexer.specs.Automata.{Automaton, Spells}
 use Rattle.owl_lexer.specs.Cutting.{BeginsNone, Cuts, Lexeme, Stops}
 use Rattle.owl_lexer.specs.Giving.{Begun, Continues, end_of}
@@ -82,7 +83,7 @@ adds_front {T = T} a value ended old mid front cs before between g lost =
     }
 
 -- what is behind it is taken again
-pub cuts_front : {T : Type 0} → (a : Automaton) (value : ℕ → List ℕ → Option T) (old mid : Hand) (again new : Again) (front : Front) (before between : List (Placed T)) → GivesFront a value old mid front before between → IsLost a again.ended old.state (coming again) → coming new ≡ drop front.length old.held.items ++ coming again → new.ended ≡ again.ended → Loses a again.ended [] (drop front.length old.held.items ++ coming again) new.lost → CutsFront a value old again before between mid new
+pub cuts_front : {T : Type 0} → (a : Automaton) (value : ℕ → List ℕ → Option T) (old mid : Hand) (again new : Again) (front : Front) (before between : List (Placed T)) → GivesFront a value old mid front before between → IsLost a again.ended old.state (coming again) → coming new ≡ drop front.length old.held.items ++ coming again → new.ended ≡ again.ended → All (IsLostRun a again.ended [] (drop front.length old.held.items ++ coming again)) new.lost.items → CutsFront a value old again before between mid new
 cuts_front a value old mid again new front before between g lost comes ended loses =
     let behind = drop front.length old.held.items ++ coming again in
     let at : mid.at ≡ front.end = ap (λ (b : Begun). b.at) g.begun in
@@ -96,8 +97,8 @@ cuts_front a value old mid again new front before between g lost comes ended los
     sym (length-reverse new.chars.items) ∙ ap (λ (l : List ℕ). length l) comes ∙ length-append (drop front.length old.held.items) (coming again) ∙ ap (λ (n : ℕ). length (drop front.length old.held.items) + n) (length-reverse again.chars.items) in
     record {
       ready = g.ready;
-      kept = subst (λ (l : List ℕ). Loses a new.ended l (coming new) new.lost) (sym held)
-          (subst (λ (l : List ℕ). Loses a new.ended [] l new.lost) (sym comes) (subst (λ (b : Bool). Loses a b [] behind new.lost) (sym ended) loses));
+      kept = subst (λ (l : List ℕ). All (IsLostRun a new.ended l (coming new)) new.lost.items) (sym held)
+          (subst (λ (l : List ℕ). All (IsLostRun a new.ended [] l) new.lost.items) (sym comes) (subst (λ (b : Bool). All (IsLostRun a b [] behind) new.lost.items) (sym ended) loses));
       ended = ended;
       adds = subst (AddsCut a value again.ended (begun_with old again) before between) left (adds_front a value again.ended old mid front (coming again) before between g lost);
       fewer = omega arith;

@@ -1,13 +1,19 @@
 -- What is known of a run that is lost.
-use Rattle.std.proofs.Common.{◌≡◌, ℕ, suc, get_or, ◌+◌, ◌<◌, ◌≤◌, Bool, true, false, Option, None, Some, List, [], ◌∷◌, ◌++◌, length, take, drop, reverse, refl, sym, ap, ◌∙◌, subst, arith}
-use Rattle.std.proofs.lemmas.List.{append_assoc, length-append, length-take-le, reverse-append, take-append-drop, take_all, take-append-le}
-use Rattle.std.proofs.Math.Seq.{take-suc}
+use Rattle.std.proofs.Common.{◌≡◌, ◌⊎◌, inl, inr, ℕ, suc, get_or, ◌+◌, ◌<◌, ◌≤◌, Bool, true, false, Option, None, Some, List, [], ◌∷◌, ◌++◌, length, take, drop, reverse, refl, sym, ap, ◌∙◌, subst, arith}
+use Rattle.std.proofs.lemmas.List.{append_assoc, drop-set-lt, length-append, length-take-le, reverse-append, take-append-drop, take_all, take-append-le, take_more_set}
+use Rattle.std.proofs.lemmas.List.Elements.{All-head, All-nil, All-push, All-tail}
+use Rattle.std.proofs.Math.ListN.{set}
+use Rattle.std.proofs.Math.Seq.{drop-cons, take-append_seam, take-suc}
+use Rattle.std.proofs.lemmas.Bool.{eqb-true}
+use Rattle.std.specs.List.{All}
+use Rattle.std.specs.Option.{option_eq}
+use lib.Dec.{eqb}
 use Rattle.std.specs.Char.{len_utf8}
 use Rattle.owl_characters.specs.Utf8.{size}
 use Rattle.owl_characters.specs.Utf8Laws.{size_append}
 use Rattle.owl_lexer.proofs.Feeding.{parted}
 use Rattle.owl_lexer.specs.Giving.{end_of}
-use Rattle.owl_lexer.specs.Retaking.{AreKept, HoldsAgain, Loses, MayFollow, begun_with, coming}
+use Rattle.owl_lexer.specs.Retaking.{AreKept, HoldsAgain, IsLostRun, MayFollow, begun_with, coming}
 use Rattle.owl_lexer.specs.Automata.{Automaton, Spells, kind_at, run, step_from}
 use Rattle.owl_lexer.specs.Hands.{IsFrontOf, IsReady}
 use Rattle.owl_lexer.specs.Holding.{IsBarren, IsLost, NoneBeyond}
@@ -76,28 +82,64 @@ barren_always a true state cs more h f = subst (λ (l : List ℕ). IsBarren a (S
 barren_always a false state cs more h f =
     barren_both a (Some state) cs more h.barren (subst (λ (o : Option ℕ). IsBarren a o more) (sym (h.stops refl)) (nowhere_barren a more))
 
--- the run that is kept
+-- the runs that are kept
 
--- where the run in hand stands at its state
-pub lost_too : (a : Automaton) (ended : Bool) (state : ℕ) (held cs : List ℕ) (run : LostRun) → run.next ≡ state → Loses a ended held cs (Some run) → IsLost a ended state cs
-lost_too a ended state held cs run e h = subst (λ (s : ℕ). IsLost a ended s cs) e (lost_behind a ended run.first held cs run.next h.0 h.1)
+-- where one of them stands at a state
+pub lost_too : (a : Automaton) (ended : Bool) (state : ℕ) (held cs : List ℕ) (lost : LostRun) → lost.next ≡ Some state → IsLostRun a ended held cs lost → IsLost a ended state cs
+lost_too a ended state held cs lost e h = lost_behind a ended lost.first held cs state h.is (h.leads ∙ e)
+
+pub same_state : (next : Option ℕ) (state : ℕ) → true ≡ option_eq eqb next (Some state) → next ≡ Some state
+same_state None state e = absurd (cc)
+same_state (Some next) state e = ap Some (eqb-true next state (sym e))
+
+pub one_lost : (a : Automaton) (ended : Bool) (state : ℕ) (held cs : List ℕ) (runs : List LostRun) (i : ℕ) (d : LostRun) → i < length runs → (get_or runs i d).next ≡ Some state → All (IsLostRun a ended held cs) runs → IsLost a ended state cs
+one_lost a ended state held cs runs i d lt e all = lost_too a ended state held cs (get_or runs i d) e (all i d lt)
 
 -- it leads on over a character
-pub loses_on : (a : Automaton) (ended : Bool) (held : List ℕ) (c : ℕ) (cs : List ℕ) (first next new : ℕ) → a.step next c ≡ Some new → Loses a ended held (c ∷ cs) (Some (record { first = first; next = next })) → Loses a ended (held ++ c ∷ []) cs (Some (record { first = first; next = new }))
-loses_on a ended held c cs first next new e h = (
-  subst (IsLost a ended first) (sym (append_assoc held (c ∷ []) cs)) h.0,
-  run-append a (Some first) held (c ∷ []) ∙ ap (λ (s : Option ℕ). step_from a s c) h.1 ∙ e,
-)
+leads_over : (a : Automaton) (ended : Bool) (held : List ℕ) (c : ℕ) (cs : List ℕ) (lost new : LostRun) → new.first ≡ lost.first → new.next ≡ step_from a lost.next c → IsLostRun a ended held (c ∷ cs) lost → IsLostRun a ended (held ++ c ∷ []) cs new
+leads_over a ended held c cs lost new first next h = record {
+  is = subst (λ (s : ℕ). IsLost a ended s ((held ++ c ∷ []) ++ cs)) (sym first) (subst (IsLost a ended lost.first) (sym (append_assoc held (c ∷ []) cs)) h.is);
+  leads =
+      ap (λ (s : ℕ). run a (Some s) (held ++ c ∷ [])) first ∙ run-append a (Some lost.first) held (c ∷ [])
+      ∙ ap (λ (s : Option ℕ). step_from a s c) h.leads ∙ sym next;
+}
 
--- behind the longest lexeme in front: the run that was kept
-pub loses_kept : (a : Automaton) (ended : Bool) (held cs : List ℕ) (count state : ℕ) (lost : LostRun) → Loses a ended held cs (Some lost) → run a (Some lost.first) (take count held) ≡ Some state → Loses a ended [] (drop count held ++ cs) (Some (record { first = state; next = state }))
-loses_kept a ended held cs count state lost h e =
+-- those before a place were taken over it
+pub record LeadOn (a : Automaton) (ended : Bool) (held : List ℕ) (c : ℕ) (cs : List ℕ) (i : ℕ) (runs : List LostRun) : Type 0 where
+  pub done : All (IsLostRun a ended (held ++ c ∷ []) cs) (take i runs)
+  pub left : All (IsLostRun a ended held (c ∷ cs)) (drop i runs)
+
+pub leads_more : (a : Automaton) (ended : Bool) (held : List ℕ) (c : ℕ) (cs : List ℕ) (i : ℕ) (runs : List LostRun) (d new : LostRun) → i < length runs → new.first ≡ (get_or runs i d).first → new.next ≡ step_from a (get_or runs i d).next c → LeadOn a ended held c cs i runs → LeadOn a ended held c cs (i + 1) (set runs i new)
+leads_more a ended held c cs i runs d new lt first next h =
+    let lost = get_or runs i d in
+    let next_place : suc i ≡ i + 1 = omega arith in
+    let parts : drop i runs ≡ lost ∷ drop (i + 1) runs = drop-cons runs i d lt ∙ ap (λ (n : ℕ). lost ∷ drop n runs) next_place in
+    let all = subst (All (IsLostRun a ended held (c ∷ cs))) parts h.left in
+    let old = All-head (IsLostRun a ended held (c ∷ cs)) lost (drop (i + 1) runs) all in
+    let others = All-tail (IsLostRun a ended held (c ∷ cs)) lost (drop (i + 1) runs) all in
+    record {
+      done = subst (All (IsLostRun a ended (held ++ c ∷ []) cs)) (sym (take_more_set runs i new lt)) (All-push (IsLostRun a ended (held ++ c ∷ []) cs) (take i runs) new h.done (leads_over a ended held c cs lost new first next old));
+      left = subst (All (IsLostRun a ended held (c ∷ cs))) (sym (drop-set-lt (i + 1) runs i new (omega arith))) others;
+    }
+
+pub leads_none : (a : Automaton) (ended : Bool) (held : List ℕ) (c : ℕ) (cs : List ℕ) (runs : List LostRun) → All (IsLostRun a ended held (c ∷ cs)) runs → LeadOn a ended held c cs 0 runs
+leads_none a ended held c cs runs all = record { done = All-nil (IsLostRun a ended (held ++ c ∷ []) cs); left = all }
+
+-- all were, and are put back where they stood
+pub leads_back : (a : Automaton) (ended : Bool) (held : List ℕ) (c : ℕ) (cs : List ℕ) (i : ℕ) (runs others : List LostRun) (n : ℕ) → length runs ≡ n → length runs ≤ i → LeadOn a ended held c cs i runs → All (IsLostRun a ended (held ++ c ∷ []) cs) (take n (runs ++ others))
+leads_back a ended held c cs i runs others n e le h =
+    let same : take n (runs ++ others) ≡ take i runs = ap (λ (k : ℕ). take k (runs ++ others)) (sym e) ∙ take-append_seam runs others ∙ sym (take_all i runs le) in
+    subst (All (IsLostRun a ended (held ++ c ∷ []) cs)) (sym same) h.done
+
+-- behind the longest lexeme in front: a run that was kept
+pub lost_kept : (a : Automaton) (ended : Bool) (held cs : List ℕ) (count state : ℕ) (lost : LostRun) → IsLostRun a ended held cs lost → run a (Some lost.first) (take count held) ≡ Some state → IsLostRun a ended [] (drop count held ++ cs) (record { first = state; next = Some state })
+lost_kept a ended held cs count state lost h e =
     let parts : held ++ cs ≡ take count held ++ (drop count held ++ cs) = ap (λ (l : List ℕ). l ++ cs) (sym (take-append-drop count held)) ∙ append_assoc (take count held) (drop count held) cs in
-    (lost_behind a ended lost.first (take count held) (drop count held ++ cs) state (subst (IsLost a ended lost.first) parts h.0) e, refl)
+    record { is = lost_behind a ended lost.first (take count held) (drop count held ++ cs) state (subst (IsLost a ended lost.first) parts h.is) e; leads = refl }
 
 -- and the run in hand
-pub loses_hand : (a : Automaton) (ended : Bool) (hand : Hand) (cs : List ℕ) (front : Front) → IsReady a hand → IsLost a ended hand.state cs → IsFrontOf a hand.at hand.held.items (Some front) → Loses a ended [] (drop front.length hand.held.items ++ cs) (Some (record { first = front.state; next = front.state }))
-loses_hand a ended hand cs front r h f =
+pub lost_hand : (a : Automaton) (ended : Bool) (hand : Hand) (cs : List ℕ) (front : Front) → IsReady a hand → IsLost a ended hand.state cs → IsFrontOf a hand.at hand.held.items (Some front) → IsLostRun a ended [] (drop front.length hand.held.items ++ cs) (record { first = front.state; next = Some front.state })
+lost_hand a ended hand cs front r h f =
     let held = hand.held.items in
     let parts = take-append-drop front.length held in
     let size : length (take front.length held) ≡ front.length = length-take-le front.length held f.0.within in
@@ -106,7 +148,13 @@ loses_hand a ended hand cs front r h f =
     let leads : run a (Some front.state) (drop front.length held) ≡ Some hand.state =
     ap (λ (o : Option ℕ). run a o (drop front.length held)) (sym f.2) ∙ sym (run-append a (Some a.start) (take front.length held) (drop front.length held))
     ∙ ap (run a (Some a.start)) parts ∙ r.leads in
-    (lost_before a ended front.state (drop front.length held) cs hand.state (front_barren a (take front.length held) (drop front.length held) (Some front.state) f.2 none) leads h, refl)
+    record { is = lost_before a ended front.state (drop front.length held) cs hand.state (front_barren a (take front.length held) (drop front.length held) (Some front.state) f.2 none) leads h; leads = refl }
+
+-- one was added
+pub lost_added : (a : Automaton) (ended : Bool) (cs : List ℕ) (state : ℕ) (before after : List LostRun) → IsLostRun a ended [] cs (record { first = state; next = Some state }) → All (IsLostRun a ended [] cs) before → (after ≡ before) ⊎ (after ≡ before ++ record { first = state; next = Some state } ∷ []) → All (IsLostRun a ended [] cs) after
+lost_added a ended cs state before after h all (inl e) = subst (All (IsLostRun a ended [] cs)) (sym e) all
+lost_added a ended cs state before after h all (inr e) =
+    subst (All (IsLostRun a ended [] cs)) (sym e) (All-push (IsLostRun a ended [] cs) before (record { first = state; next = Some state }) all h)
 
 -- characters that are taken again
 
@@ -115,10 +163,10 @@ pub next_is : (chars rest : List ℕ) (c : ℕ) → chars ≡ rest ++ c ∷ [] �
 next_is chars rest c e = ap (λ (l : List ℕ). reverse l) e ∙ reverse-append rest (c ∷ [])
 
 -- one was held
-pub holds_more : (a : Automaton) (first_hand hand new_hand : Hand) (first again new : Again) (c : ℕ) → HoldsAgain a first_hand first hand again → coming again ≡ c ∷ coming new → new.ended ≡ again.ended → IsReady a new_hand → new_hand.at ≡ hand.at → new_hand.held.items ≡ hand.held.items ++ c ∷ [] → Loses a again.ended (hand.held.items ++ c ∷ []) (coming new) new.lost → HoldsAgain a first_hand first new_hand new
+pub holds_more : (a : Automaton) (first_hand hand new_hand : Hand) (first again new : Again) (c : ℕ) → HoldsAgain a first_hand first hand again → coming again ≡ c ∷ coming new → new.ended ≡ again.ended → IsReady a new_hand → new_hand.at ≡ hand.at → new_hand.held.items ≡ hand.held.items ++ c ∷ [] → All (IsLostRun a again.ended (hand.held.items ++ c ∷ []) (coming new)) new.lost.items → HoldsAgain a first_hand first new_hand new
 holds_more a first_hand hand new_hand first again new c h is ended ready at held kept = record {
   ready = ready;
-  kept = subst (λ (l : List ℕ). Loses a new.ended l (coming new) new.lost) (sym held) (subst (λ (b : Bool). Loses a b (hand.held.items ++ c ∷ []) (coming new) new.lost) (sym ended) kept);
+  kept = subst (λ (l : List ℕ). All (IsLostRun a new.ended l (coming new)) new.lost.items) (sym held) (subst (λ (b : Bool). All (IsLostRun a b (hand.held.items ++ c ∷ []) (coming new)) new.lost.items) (sym ended) kept);
   ended = ended ∙ h.ended;
   at = at ∙ h.at;
   whole =
@@ -126,12 +174,12 @@ holds_more a first_hand hand new_hand first again new c h is ended ready at held
       ∙ ap (λ (l : List ℕ). hand.held.items ++ l) (sym is) ∙ h.whole;
 }
 
--- it stands in front of what is taken again
-pub kept_next : (a : Automaton) (hand : Hand) (again : Again) (rest : List ℕ) (c : ℕ) → again.chars.items ≡ rest ++ c ∷ [] → AreKept a hand again → Loses a again.ended hand.held.items (c ∷ reverse rest) again.lost
-kept_next a hand again rest c e h = subst (λ (l : List ℕ). Loses a again.ended hand.held.items l again.lost) (next_is again.chars.items rest c e) h
+-- they stand in front of what is taken again
+pub kept_next : (a : Automaton) (hand : Hand) (again : Again) (rest : List ℕ) (c : ℕ) → again.chars.items ≡ rest ++ c ∷ [] → AreKept a hand again → All (IsLostRun a again.ended hand.held.items (c ∷ reverse rest)) again.lost.items
+kept_next a hand again rest c e h = subst (λ (l : List ℕ). All (IsLostRun a again.ended hand.held.items l) again.lost.items) (next_is again.chars.items rest c e) h
 
 -- one was put back
-pub lost_next : (a : Automaton) (hand : Hand) (again : Again) (rest chars : List ℕ) (c : ℕ) → again.chars.items ≡ rest ++ c ∷ [] → chars ≡ rest ++ c ∷ [] → AreKept a hand again → ((ended : Bool) (held cs : List ℕ) → Loses a ended held (c ∷ cs) again.lost → IsLost a ended hand.state (c ∷ cs)) → IsLost a again.ended hand.state (reverse chars)
+pub lost_next : (a : Automaton) (hand : Hand) (again : Again) (rest chars : List ℕ) (c : ℕ) → again.chars.items ≡ rest ++ c ∷ [] → chars ≡ rest ++ c ∷ [] → AreKept a hand again → ((ended : Bool) (held cs : List ℕ) → All (IsLostRun a ended held (c ∷ cs)) again.lost.items → IsLost a ended hand.state (c ∷ cs)) → IsLost a again.ended hand.state (reverse chars)
 lost_next a hand again rest chars c e f kept lost =
     subst (IsLost a again.ended hand.state) (sym (next_is chars rest c f)) (lost again.ended hand.held.items (reverse rest) (kept_next a hand again rest c e kept))
 

@@ -1,5 +1,6 @@
 -- Characters that are taken again behind a lexeme that was cut, and what is made of them.
-use Rattle.std.specs.Prelude.{◌≡◌, ◌≢◌, ℕ, ◌+◌, ◌<◌, ◌≤◌, Bool, true, List, [], ◌++◌, length, reverse, Option, None, Some}
+use Rattle.std.specs.Prelude.{◌≡◌, ◌≢◌, ℕ, ◌+◌, ◌<◌, ◌≤◌, Bool, true, List, [], ◌++◌, length, reverse, Option, Some}
+use Rattle.std.specs.List.{All}
 use Rattle.owl_lexer.specs.declared.fault.LexFault.{LexFault}
 use Rattle.owl_lexer.specs.declared.fault.LexFault.TheVariants.{Memory}
 use Rattle.owl_lexer.specs.Adding.{tokens_of}
@@ -21,15 +22,14 @@ coming again = reverse again.chars.items
 abbrev pub begun_with : Hand → Again → Begun
 begun_with hand again = record { at = hand.at; held = hand.held.items ++ coming again }
 
--- a run is lost in front of what is held and these characters, and leads on over what is held
-abbrev pub Loses : Automaton → Bool → List ℕ → List ℕ → Option LostRun → Type 0
-Loses a ended held cs None = Unit {0}
-Loses a ended held cs (Some lost) =
-    IsLost a ended lost.first (held ++ cs) × (run a (Some lost.first) held ≡ Some lost.next)
+-- a run is lost in front of what is held and of these characters; where it leads on over what is held, it stands at next
+pub record IsLostRun (a : Automaton) (ended : Bool) (held cs : List ℕ) (lost : LostRun) : Type 0 where
+  pub is : IsLost a ended lost.first (held ++ cs)
+  pub leads : run a (Some lost.first) held ≡ lost.next
 
--- the run that is kept is lost
+-- the runs that are kept are lost
 abbrev pub AreKept : Automaton → Hand → Again → Type 0
-AreKept a hand again = Loses a again.ended hand.held.items (coming again) again.lost
+AreKept a hand again = All (IsLostRun a again.ended hand.held.items (coming again)) again.lost.items
 
 -- characters were taken again, and are held
 pub record HoldsAgain (a : Automaton) (old_hand : Hand) (old : Again) (new_hand : Hand) (new : Again) : Type 0 where

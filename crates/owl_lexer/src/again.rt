@@ -1,12 +1,12 @@
 //! Characters that are taken again, once the lexeme in front of them was cut.
 
-ghost use Rattle.std.specs.Prelude.{◌≡◌, ◌⊎◌, ℕ, ◌+◌, ◌^◌, ◌<◌, ◌≤◌, Bool, true, false, List, [], ◌∷◌, ◌++◌, length, take, drop, reverse, None, Some, IsTrue, OnOk, IfErr, IfSome};
-ghost use Rattle.owl_lexer.specs.Retaking.{AreKept, CutsFront, HoldsAgain, Loses, RefusesAgain, Settles, begun_with, coming};
-ghost use Rattle.owl_lexer.specs.Automata.{run};
+ghost use Rattle.std.specs.Prelude.{◌≡◌, ◌⊎◌, ℕ, ◌+◌, ◌^◌, ◌<◌, ◌≤◌, Bool, true, false, List, [], ◌∷◌, ◌++◌, length, take, drop, reverse, None, Some, IsTrue, OnOk, IfErr, IfOk, IfSome};
+ghost use Rattle.std.specs.List.{All};
+ghost use Rattle.owl_lexer.specs.Retaking.{AreKept, CutsFront, HoldsAgain, IsLostRun, RefusesAgain, Settles, begun_with, coming};
+ghost use Rattle.owl_lexer.specs.Automata.{Automaton, run, step_from};
 ghost use Rattle.owl_lexer.specs.Giving.{end_of};
 ghost use Rattle.owl_lexer.specs.Hands.{IsFrontOf, IsReady};
 ghost use Rattle.owl_lexer.specs.Holding.{IsLost};
-ghost use Rattle.owl_lexer.specs.declared.again.LostRun.{LostRun};
 
 use crate::fault::LexFault;
 use crate::hand::{Front, Hand, add, give_all, hold, longest_front};
@@ -16,57 +16,82 @@ use owl_characters::NoMemory;
 use std::alloc::Global;
 
 /// A run that is lost, since no longer lexeme comes of it: its state in front of
-/// the characters that are held, and behind them.
+/// the characters that are held, and behind them, if it leads on over them.
 #[derive(Clone, Copy, Debug)]
 pub struct LostRun {
     pub first: u8,
-    pub next: u8,
+    pub next: Option<u8>,
 }
 
-/// Characters that are taken again, the next one last; the run that was over
-/// them before, where it is known to be lost and leads on over what is held; and
-/// whether the end follows them.
+/// Characters that are taken again, the next one last; the runs that are known
+/// to be lost over what is held and them; and whether the end follows them.
+///
+/// A run that comes to the state of a lost one is cut at once. So no two runs
+/// are taken to their ends over the same characters in the same states, and the
+/// time is linear.
 #[derive(Debug, Drop)]
 pub struct Again {
     pub chars: Vec<char>,
-    pub lost: Option<LostRun>,
+    pub lost: Vec<LostRun>,
     pub ended: bool,
 }
 
 /// No characters, before the end or before more. Takes no memory.
 pub fn nothing_again(alloc: Global, ended: bool) -> Again
     ensures chars { result.chars.items ≡ [] }
-    ensures lost { result.lost ≡ None }
+    ensures lost { result.lost.items ≡ [] }
     ensures ended { result.ended ≡ ended }
 {
     Again {
         chars: Vec::new(alloc),
-        lost: None,
+        lost: Vec::new(alloc),
         ended,
     }
 }
 
-/// The state to which a character that is taken again leads, unless it leads
-/// nowhere, or where a run stands that is lost.
-fn leading<L: TokenLanguage>(state: u8, lost: Option<LostRun>, c: char) -> Option<u8>
-    ensures leads { IfSome result (λ next. L.automaton.step state c ≡ Some next) }
-    ensures lost { result ≡ None → (ended : Bool) (held cs : List ℕ) →
-        Loses L.automaton ended held (c ∷ cs) lost → IsLost L.automaton ended state (c ∷ cs) }
+/// Whether a run that stands at this state is known to be lost.
+fn is_lost(lost: &[LostRun], state: u8) -> bool
+    ensures { IsTrue result → (a : Automaton) (ended : Bool) (held cs : List ℕ) →
+        All (IsLostRun a ended held cs) lost.now → IsLost a ended state cs }
 {
-    match lost {
-        Some(run) if run.next == state => None,
-        _ => L::step(state, c),
+    for run in lost {
+        if run.next == Some(state) {
+            return true;
+        }
     }
+    false
 }
 
-/// A lost run once the character is held, if it leads on.
-fn lead_on<L: TokenLanguage>(lost: Option<LostRun>, c: char) -> Option<LostRun>
-    ensures { (ended : Bool) (held cs : List ℕ) → Loses L.automaton ended held (c ∷ cs) lost →
-        Loses L.automaton ended (held ++ c ∷ []) cs result }
+/// The state to which a character that is taken again leads, unless it leads
+/// nowhere, or the run is lost.
+fn leading<L: TokenLanguage>(state: u8, lost: &[LostRun], c: char) -> Option<u8>
+    ensures leads { IfSome result (λ next. L.automaton.step state c ≡ Some next) }
+    ensures lost { result ≡ None → (ended : Bool) (held cs : List ℕ) →
+        All (IsLostRun L.automaton ended held (c ∷ cs)) lost.now →
+        IsLost L.automaton ended state (c ∷ cs) }
 {
-    let LostRun { first, next } = lost?;
-    let next = L::step(next, c)?;
-    Some(LostRun { first, next })
+    if is_lost(lost, state) {
+        return None;
+    }
+    L::step(state, c)
+}
+
+/// The state to which a character leads, if there is one and it leads on.
+fn lead<L: TokenLanguage>(state: Option<u8>, c: char) -> Option<u8>
+    ensures { result ≡ step_from L.automaton state c }
+{
+    L::step(state?, c)
+}
+
+/// Takes the lost runs over a character that is held.
+fn lead_on<L: TokenLanguage>(lost: &mut Vec<LostRun>, c: char)
+    ensures { (ended : Bool) (held cs : List ℕ) →
+        All (IsLostRun L.automaton ended held (c ∷ cs)) lost.old.items →
+        All (IsLostRun L.automaton ended (held ++ c ∷ []) cs) lost.new.items }
+{
+    for run in lost.iter_mut() {
+        run.next = lead::<L>(run.next, c);
+    }
 }
 
 /// Holds the characters again for as long as they lead on, unless the run is
@@ -81,11 +106,11 @@ fn hold_again<L: TokenLanguage>(hand: &mut Hand, again: &mut Again) -> Result<()
         IsLost L.automaton again.new.ended hand.new.state (coming again.new)) }
 {
     while let Some(c) = again.chars.pop() {
-        let Some(state) = leading::<L>(hand.state, again.lost, c) else {
+        let Some(state) = leading::<L>(hand.state, &again.lost, c) else {
             return add(&mut again.chars, c);
         };
         hold::<L>(hand, state, c)?;
-        again.lost = lead_on::<L>(again.lost, c);
+        lead_on::<L>(&mut again.lost, c);
     }
     Ok(())
 }
@@ -101,25 +126,42 @@ fn state_behind<L: TokenLanguage>(state: u8, chars: &[char]) -> Option<u8>
     Some(state)
 }
 
-/// A run that is lost behind the longest lexeme in front: the one that was over
-/// the characters before, where it still leads on, since it goes further; or
-/// that which is in hand.
-fn lost_behind<L: TokenLanguage>(hand: &Hand, again: &Again, front: Front) -> Option<LostRun>
+/// Adds a lost run that stands at this state, where nothing is held, unless it
+/// is there.
+fn add_lost(lost: &mut Vec<LostRun>, state: u8) -> Result<(), NoMemory>
+    ensures { OnOk result ((lost.new.items ≡ lost.old.items)
+        ⊎ (lost.new.items
+        ≡ lost.old.items ++ record { first = state; next = Some state } ∷ [])) }
+{
+    if lost.iter().any(|run| run.first == state) {
+        return Ok(());
+    }
+    let next = Some(state);
+    add(lost, LostRun { first: state, next })
+}
+
+/// The runs that are lost behind the longest lexeme in front: those that were
+/// known, and that which is in hand.
+fn lost_behind<L: TokenLanguage>(
+    hand: &Hand,
+    again: &Again,
+    front: Front,
+) -> Result<Vec<LostRun>, NoMemory>
     requires ready { IsReady L.automaton hand.now }
     requires kept { AreKept L.automaton hand.now again.now }
     requires lost { IsLost L.automaton again.now.ended hand.now.state (coming again.now) }
     requires front { IsFrontOf L.automaton hand.now.at hand.now.held.items (Some front) }
-    ensures { Loses L.automaton again.now.ended []
-        (drop front.length hand.now.held.items ++ coming again.now) result }
+    ensures { IfOk result (λ lost. All (IsLostRun L.automaton again.now.ended []
+        (drop front.length hand.now.held.items ++ coming again.now)) lost.items) }
 {
-    let state = match again.lost {
-        Some(lost) => state_behind::<L>(lost.first, &hand.held[..front.length])?,
-        None => front.state,
-    };
-    Some(LostRun {
-        first: state,
-        next: state,
-    })
+    let mut behind = Vec::new(hand.alloc);
+    for run in &again.lost {
+        if let Some(state) = state_behind::<L>(run.first, &hand.held[..front.length]) {
+            add_lost(&mut behind, state)?;
+        }
+    }
+    add_lost(&mut behind, front.state)?;
+    Ok(behind)
 }
 
 /// Puts the characters behind the first `count` in front of those that
@@ -157,7 +199,7 @@ fn cut<L: TokenLanguage>(
     let Some(front) = longest_front::<L>(hand) else {
         return Err(LexFault::BadToken { at: hand.at });
     };
-    let lost = lost_behind::<L>(hand, again, front);
+    let lost = lost_behind::<L>(hand, again, front)?;
     put_back(&mut hand.held, &mut again.chars, front.length)?;
     again.lost = lost;
     give_all::<L>(hand, front.kind, front.end, into)?;

@@ -12,6 +12,12 @@ returns-in_default-clause-err g c =
 
 pub returns-in_err-put_back-clause-err : goal.returns-in_err-put_back-clause-err
 returns-in_err-put_back-clause-err g c =
+    IfErr-weaker c.from_residual-in_err-put_back.result _ _
+    (λ fault e. again_memory g.L.TokenLanguage.automaton g.L.TokenLanguage.value_of c.args.again.now.ended (begun_with c.args.hand.now c.args.again.now) c.args.into.now.items c.args.into.now.items fault e refl)
+    (search rules)
+
+pub returns-in_err-lost-clause-err : goal.returns-in_err-lost-clause-err
+returns-in_err-lost-clause-err g c =
     IfErr-weaker c.from_residual.result _ _
     (λ fault e. again_memory g.L.TokenLanguage.automaton g.L.TokenLanguage.value_of c.args.again.now.ended (begun_with c.args.hand.now c.args.again.now) c.args.into.now.items c.args.into.now.items fault e refl)
     (search rules)
@@ -35,4 +41,4 @@ returns-clause-ok g c =
           c.in_ok-give_all.ensures.added
           ∙ ap (λ (l : List ℕ). c.args.into.now.items ++ placed_at c.args.hand.now.at (g.L.TokenLanguage.value_of c.in-Some.front.kind l)) c.in_ok-put_back.ensures.held;
     })
-    c.requires.lost c.in_ok-put_back.ensures.chars refl c.lost_behind-lost.ensures
+    c.requires.lost c.in_ok-put_back.ensures.chars refl c.in_ok-lost.ensures

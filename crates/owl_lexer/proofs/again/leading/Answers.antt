@@ -1,12 +1,10 @@
 -- The run in hand stands where one stands that is lost, or its character leads nowhere.
-use Rattle.std.proofs.Common.{◌∷◌, subst, sym, ◌∙◌}
-use Rattle.owl_lexer.specs.Retaking.{Loses}
-use Rattle.owl_lexer.proofs.Lost.{lost_stuck, lost_too}
+use Rattle.std.proofs.Common.{◌∷◌, refl, sym, ◌∙◌}
+use Rattle.owl_lexer.proofs.Lost.{lost_stuck}
 use Rattle.owl_lexer.proofs.again.leading.Goals as goal
 
-pub returns-in-Some-clause-lost : goal.returns-in-Some-clause-lost
-returns-in-Some-clause-lost g c none ended held cs h =
-    lost_too g.L.TokenLanguage.automaton ended c.args.state held (c.args.c ∷ cs) c.in-Some.run' c.if-run-state.true (subst (Loses g.L.TokenLanguage.automaton ended held (c.args.c ∷ cs)) c.in-Some.is h)
+pub returns-then-is_lost-clause-lost : goal.returns-then-is_lost-clause-lost
+returns-then-is_lost-clause-lost g c none ended held cs all = c.if-is_lost.ensures refl g.L.TokenLanguage.automaton ended held (c.args.c ∷ cs) all
 
-pub returns-in_default-clause-lost : goal.returns-in_default-clause-lost
-returns-in_default-clause-lost g c none ended held cs h = lost_stuck g.L.TokenLanguage.automaton ended c.args.state c.args.c cs (sym c.step.ensures ∙ none)
+pub returns-clause-lost : goal.returns-clause-lost
+returns-clause-lost g c none ended held cs all = lost_stuck g.L.TokenLanguage.automaton ended c.args.state c.args.c cs (sym c.step.ensures ∙ none)
