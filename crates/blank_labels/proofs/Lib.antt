@@ -1,3 +1,4 @@
 pub mod Digits
 pub mod Prefixes
 pub mod FreshTexts
+pub mod FarDigits

@@ -1,5 +1,5 @@
--- Fresh labels are labels, they differ from each other, and from those that were there.
-use Rattle.std.proofs.Common.{◌≡◌, ℕ, ◌+◌, ◌<◌, ◌≤◌, ◌^◌, true, false, cond, List, [], ◌∷◌, ◌++◌, length, drop, get_or, refl, sym, ap, ◌∙◌, subst, arith}
+-- Labels of numbers are labels, they differ from each other, and they are counted.
+use Rattle.std.proofs.Common.{◌≡◌, ℕ, ◌<◌, ◌≤◌, ◌^◌, true, false, cond, List, [], ◌∷◌, ◌++◌, length, drop, get_or, refl, sym, ap, ◌∙◌, subst, arith}
 use Rattle.std.specs.Prelude.{◌==◌, ◌&&◌, nat_eq, nat_le, not, codes}
 use Rattle.std.specs.Char.{is_ascii_digit}
 use Rattle.std.specs.Int.{is_in_range}
@@ -12,7 +12,7 @@ use Rattle.std.proofs.lemmas.Str.Parse.{IsDigitsTest, IsNumeralModel, digits_val
 use Rattle.owl_characters.specs.AllAreLaws.{AllAre-weaker, all_are}
 use Rattle.owl_characters.specs.Iri.{is_among}
 use Rattle.owl_characters.specs.Names.{IsLabel, ends_in_dot, in_ranges, is_inner, is_part, is_start, part_ranges}
-use Rattle.blank_labels.specs.Labels.{are_counted, counted_number, fresh_label, label_number}
+use Rattle.blank_labels.specs.Labels.{are_counted, counted_number, label_number, labelled}
 
 -- Digits that are counted.
 
@@ -65,13 +65,11 @@ counted_decimal n some small =
     (length-decimal-le 18 n (omega arith) small wide)
     ∙ digits_decimal numerals n wide
 
--- Fresh labels.
+-- Labels of numbers.
 
--- a fresh label is counted, with the number that it was given
-pub label_number-fresh_label : (greatest n : ℕ) → greatest + 1 + n < 10 ^ 18 → label_number (fresh_label greatest n) ≡ greatest + 1 + n
-label_number-fresh_label greatest n small =
-    ap (λ b. cond b (digits_value 10 (decimal (greatest + 1 + n))) 0) (counted_decimal (greatest + 1 + n) (omega arith) small)
-    ∙ digits_value-decimal numerals (greatest + 1 + n) (omega arith)
+-- they are counted, with their numbers
+pub counted : (n : ℕ) → 0 < n → n < 10 ^ 18 → label_number (labelled n) ≡ n
+counted n some small = ap (λ b. cond b (digits_value 10 (decimal n)) 0) (counted_decimal n some small) ∙ digits_value-decimal numerals n (omega arith)
 
 digit_inner : (c : ℕ) → is_ascii_digit c ≡ true → is_inner c ≡ true
 digit_inner c h =
@@ -92,19 +90,12 @@ label_of_digits (d ∷ ds) h =
     let inner = AllAre-weaker is_ascii_digit is_inner digit_inner (d ∷ ds) ((all_are is_ascii_digit (d ∷ ds)).0 h) in
     (refl, (refl, (refl, inner)), digits_no_dot (d ∷ ds) h)
 
-decimal_digits : (n : ℕ) → n < 10 ^ 64 → list_all is_ascii_digit (decimal n) ≡ true
+pub decimal_digits : (n : ℕ) → n < 10 ^ 64 → list_all is_ascii_digit (decimal n) ≡ true
 decimal_digits n small = numerals.from (decimal n) (decimal_is_IsNumeral_wide n small).0.1
 
-pub fresh_is_label : (greatest n : ℕ) → greatest + 1 + n < 10 ^ 64 → IsLabel (fresh_label greatest n)
-fresh_is_label greatest n small = label_of_digits (decimal (greatest + 1 + n)) (decimal_digits (greatest + 1 + n) small)
+pub value_back : (n : ℕ) → n < 10 ^ 64 → digits_value 10 (drop 3 (labelled n)) ≡ n
+value_back n small = (decimal_is_IsNumeral_wide n small).1
 
--- nodes with other numbers get other labels; a number is written with at most 64 digits
-pub fresh_labels_differ : (greatest m n : ℕ) → greatest + 1 + m < 10 ^ 64 → greatest + 1 + n < 10 ^ 64 → fresh_label greatest m ≡ fresh_label greatest n → m ≡ n
-fresh_labels_differ greatest m n small_m small_n e =
-    let same : greatest + 1 + m ≡ greatest + 1 + n =
-    sym (decimal_is_IsNumeral_wide (greatest + 1 + m) small_m).1 ∙ ap (λ l. digits_value 10 (drop 3 l)) e ∙ (decimal_is_IsNumeral_wide (greatest + 1 + n) small_n).1 in
-    omega arith
-
--- a label whose number is at most the greatest is no fresh one
-pub fresh_is_new : (greatest n : ℕ) (label : List ℕ) → greatest + 1 + n < 10 ^ 18 → label_number label ≤ greatest → label ≡ fresh_label greatest n → ⊥
-fresh_is_new greatest n label small counted e = omega (arith, ap label_number e ∙ label_number-fresh_label greatest n small)
+-- numbers that differ have labels that do; a number is written with at most 64 digits
+pub same_labelled : (m n : ℕ) → m < 10 ^ 64 → n < 10 ^ 64 → labelled m ≡ labelled n → m ≡ n
+same_labelled m n a b e = sym (value_back m a) ∙ ap (λ l. digits_value 10 (drop 3 l)) e ∙ value_back n b

@@ -1,5 +1,5 @@
--- The labels of blank nodes that have none in a document (RDF 1.1 Turtle, section 7.2: each stands for a blank node of its own).
-use Rattle.std.specs.Prelude.{ℕ, ◌+◌, ◌==◌, ◌&&◌, not, Bool, false, List, [], ◌∷◌, ◌++◌, codes, drop, length, nat_eq, nat_le, if◌then◌else◌}
+-- Labels that are `gen` and a number, and those of which the number is counted.
+use Rattle.std.specs.Prelude.{ℕ, ◌==◌, ◌&&◌, not, Bool, false, List, [], ◌∷◌, ◌++◌, codes, drop, length, nat_eq, nat_le, if◌then◌else◌}
 use Rattle.std.specs.Char.{is_ascii_digit}
 use Rattle.std.specs.Fmt.{decimal}
 use Rattle.std.specs.List.{list_all, starts_with}
@@ -17,6 +17,6 @@ counted_number ds = if are_counted ds then digits_value 10 ds else 0
 abbrev pub label_number : List ℕ → ℕ
 label_number label = if starts_with nat_eq label (codes "gen") then counted_number (drop 3 label) else 0
 
--- the label of a node without one: the first has the number behind the greatest
-abbrev pub fresh_label : ℕ → ℕ → List ℕ
-fresh_label greatest n = codes "gen" ++ decimal (greatest + 1 + n)
+-- the label of a number
+abbrev pub labelled : ℕ → List ℕ
+labelled n = codes "gen" ++ decimal n

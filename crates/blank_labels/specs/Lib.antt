@@ -1,3 +1,5 @@
 pub mod Labels
 pub mod LabelLaws
+pub mod FreshLabels
+pub mod FreshLabelLaws
 pub mod WorkedCases

@@ -1,8 +1,7 @@
-//! Labels that are counted, and those behind them.
+//! Labels that are `gen` and a number.
 
-ghost use Rattle.std.specs.Prelude.{◌≡◌, ◌<◌, ◌+◌, ◌^◌, ◌++◌, IfOk, IfSome, codes};
-ghost use Rattle.std.specs.Fmt.{decimal};
-ghost use Rattle.blank_labels.specs.Labels.{are_counted, counted_number, fresh_label, label_number};
+ghost use Rattle.std.specs.Prelude.{◌≡◌, ◌<◌, ◌^◌, IfOk};
+ghost use Rattle.blank_labels.specs.Labels.{are_counted, counted_number, label_number, labelled};
 
 use owl_characters::NoMemory;
 use rdf_terms::{Label, LabelFault};
@@ -45,28 +44,9 @@ fn are_counted(digits: &str) -> bool
     digits.len() <= MOST_DIGITS && digits.bytes().all(|b| b.is_ascii_digit())
 }
 
-/// The label of the blank node with this number among those that have none in
-/// a document (RDF 1.1 Turtle, section 7.2), where `greatest` is the greatest
-/// number of a label there: `gen` and the number `greatest + 1 + number`. While
-/// that stays below 10^18, the label is none of those there.
-///
-/// Refuses for want of memory alone; so many nodes that `greatest + 1 + number`
-/// passes 2^64 - 1 fit into no memory.
-pub fn fresh_label(alloc: Global, greatest: u64, number: u64) -> Result<Label, NoMemory>
-    ensures { IfOk result (λ label. label ≡ fresh_label greatest number) }
-{
-    let fresh = fresh_number(greatest, number).ok_or(NoMemory)?;
-    numbered_label(alloc, fresh)
-}
-
-fn fresh_number(greatest: u64, number: u64) -> Option<u64>
-    ensures { IfSome result (λ fresh. fresh ≡ greatest + 1 + number) }
-{
-    greatest.checked_add(1)?.checked_add(number)
-}
-
-fn numbered_label(alloc: Global, number: u64) -> Result<Label, NoMemory>
-    ensures { IfOk result (λ label. label ≡ codes "gen" ++ decimal number) }
+/// The label of a number.
+pub fn labelled(alloc: Global, number: u64) -> Result<Label, NoMemory>
+    ensures { IfOk result (λ label. label ≡ labelled number) }
 {
     let text = format!(in alloc; "gen{number}")?;
     match Label::of(alloc, &text) {

@@ -6,13 +6,13 @@ use Rattle.std.proofs.lemmas.List.{append-nil, append_assoc}
 use Rattle.owl_tree.specs.Trees.{Tree}
 use Rattle.rdf_graph.specs.declared.triple.Triple.{Triple}
 use Rattle.rdf_forward.specs.declared.writer.Writer.{Writer}
-use Rattle.rdf_mapping.specs.FreshLabels.{numbered_label}
+use Rattle.blank_labels.specs.FreshLabels.{names_beside}
 use Rattle.rdf_mapping.specs.Forms.{Form, blank, first_iri, link, list_form, nodes, rest_iri, term_of, triples}
 use Rattle.rdf_mapping.specs.Arenas.{forms_at}
 use Rattle.rdf_forward.specs.Walks.{Leads, Writes, WritesForm, is_none, names, rest_term}
 
 pub same_names : (old new : Writer) → new.labels ≡ old.labels → names new ≡ names old
-same_names old new e = ap (λ l. λ (n : ℕ). numbered_label l.greatest l.taken.items n) e
+same_names old new e = ap names_beside e
 
 pub writes_nothing : (w : Writer) → Writes w w 0 []
 writes_nothing w = record { labels = refl; counted = omega arith; added = sym (append-nil w.gather) }

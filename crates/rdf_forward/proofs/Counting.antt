@@ -7,10 +7,9 @@ use Rattle.std.proofs.lemmas.List.{append-nil, append_assoc}
 use Rattle.owl_arena.specs.Held.{Held, tree_at, trees_at}
 use Rattle.owl_doc.specs.Documents.{Document, ontology_of}
 use Rattle.owl_tree.specs.Trees.{Tree, Kids, leaf, node, no_kids, kid, atom_in, kids_in, list_of}
-use Rattle.rdf_forward.specs.declared.labels.FreshLabels.{FreshLabels}
-use Rattle.rdf_mapping.specs.FreshLabels.{far_number, far_ones, greatest_number, or_none}
+use Rattle.blank_labels.specs.FreshLabels.{Counts, LabelNumbers}
+use Rattle.blank_labels.specs.FreshLabelLaws.{counts_both, counts_none}
 use Rattle.rdf_mapping.specs.Graphs.{all_labels_in, labels_in, labels_of}
-use Rattle.rdf_forward.specs.Walks.{Counts}
 
 -- all of these numbers are below it
 abbrev pub above_all : List ℕ → ℕ
@@ -27,31 +26,14 @@ above_first i is = grind arith
 pub above_rest : (i : ℕ) (is : List ℕ) → above_all is ≤ above_all (i ∷ is)
 above_rest i is = grind arith
 
-greatest_of_both : (ls ms : List (List ℕ)) → greatest_number (ls ++ ms) ≡ max (greatest_number ls) (greatest_number ms)
-greatest_of_both [] ms = grind arith
-greatest_of_both (l ∷ ls) ms = let e = greatest_of_both ls ms in grind (arith, e)
-
-max_three : (a b c d e : ℕ) → b ≡ max a d → c ≡ max b e → c ≡ max a (max d e)
-max_three a b c d e h k = grind (arith, h, k)
-
-pub counts_none : (w : FreshLabels) → Counts w w []
-counts_none w = record { greatest = grind arith; far = sym (append-nil w.taken.items) }
-
-pub counts_both : (old mid new : FreshLabels) (ls ms : List (List ℕ)) → Counts old mid ls → Counts mid new ms → Counts old new (ls ++ ms)
-counts_both old mid new ls ms x y = record {
-  greatest = max_three old.greatest mid.greatest new.greatest (greatest_number ls) (greatest_number ms) x.greatest y.greatest ∙ ap (max old.greatest) (sym (greatest_of_both ls ms));
-  far = y.far ∙ ap (λ (g : List ℕ). g ++ far_ones ms) x.far ∙ append_assoc old.taken.items (far_ones ls) (far_ones ms)
-      ∙ ap (λ (g : List ℕ). old.taken.items ++ g) (sym (flat_map-append (λ label. or_none (far_number label)) ls ms));
-}
-
 -- The labels so far lead on to those that are left.
-pub record CountsOn (trees : List Tree) (start now : FreshLabels) (ids left : List ℕ) : Type 0 where
-  pub on : (last : FreshLabels) → Counts now last (flat_map labels_in (trees_at trees left)) → Counts start last (flat_map labels_in (trees_at trees ids))
+pub record CountsOn (trees : List Tree) (start now : LabelNumbers) (ids left : List ℕ) : Type 0 where
+  pub on : (last : LabelNumbers) → Counts now last (flat_map labels_in (trees_at trees left)) → Counts start last (flat_map labels_in (trees_at trees ids))
 
-pub counts_next : (trees : List Tree) (start now new : FreshLabels) (ids left : List ℕ) (id : ℕ) → Counts now new (labels_in (tree_at trees id)) → CountsOn trees start now ids (id ∷ left) → CountsOn trees start new ids left
+pub counts_next : (trees : List Tree) (start now new : LabelNumbers) (ids left : List ℕ) (id : ℕ) → Counts now new (labels_in (tree_at trees id)) → CountsOn trees start now ids (id ∷ left) → CountsOn trees start new ids left
 counts_next trees start now new ids left id one l = record { on = λ last behind. l.on last (counts_both now new last _ _ one behind) }
 
-pub counts_end : (trees : List Tree) (start now : FreshLabels) (ids : List ℕ) → CountsOn trees start now ids [] → Counts start now (flat_map labels_in (trees_at trees ids))
+pub counts_end : (trees : List Tree) (start now : LabelNumbers) (ids : List ℕ) → CountsOn trees start now ids [] → Counts start now (flat_map labels_in (trees_at trees ids))
 counts_end trees start now ids l = l.on now (counts_none now)
 
 labels_of_kids : (ks : Kids) → all_labels_in ks ≡ flat_map labels_in (list_of ks)
@@ -66,10 +48,10 @@ labels_below (node t ks) e = labels_of_kids ks
 pub kids_counted : (trees : List Tree) (id : ℕ) (ids : List ℕ) → trees_at trees ids ≡ kids_in (tree_at trees id) → atom_in (tree_at trees id) ≡ None → flat_map labels_in (trees_at trees ids) ≡ labels_in (tree_at trees id)
 kids_counted trees id ids e h = ap (flat_map labels_in) e ∙ sym (labels_below (tree_at trees id) h)
 
-pub of_both : (old mid new : FreshLabels) (ts us : List Tree) → Counts old mid (flat_map labels_in ts) → Counts mid new (flat_map labels_in us) → Counts old new (flat_map labels_in (ts ++ us))
+pub of_both : (old mid new : LabelNumbers) (ts us : List Tree) → Counts old mid (flat_map labels_in ts) → Counts mid new (flat_map labels_in us) → Counts old new (flat_map labels_in (ts ++ us))
 of_both old mid new ts us x y = subst (Counts old new) (sym (flat_map-append labels_in ts us)) (counts_both old mid new _ _ x y)
 
-pub of_document : (old mid new : FreshLabels) (d : Document) (a b : Held) (ns os : List ℕ) → a ≡ d.arena → b ≡ d.arena → ns ≡ d.notes → os ≡ d.axioms → Counts old mid (flat_map labels_in (trees_at a.trees ns)) → Counts mid new (flat_map labels_in (trees_at b.trees os)) → Counts old new (labels_of (ontology_of d))
+pub of_document : (old mid new : LabelNumbers) (d : Document) (a b : Held) (ns os : List ℕ) → a ≡ d.arena → b ≡ d.arena → ns ≡ d.notes → os ≡ d.axioms → Counts old mid (flat_map labels_in (trees_at a.trees ns)) → Counts mid new (flat_map labels_in (trees_at b.trees os)) → Counts old new (labels_of (ontology_of d))
 of_document old mid new d a b ns os e f g h x y =
     let first : trees_at a.trees ns ≡ trees_at d.arena.trees d.notes = cc in
     let second : trees_at b.trees os ≡ trees_at d.arena.trees d.axioms = cc in

@@ -4,7 +4,6 @@ pub mod Cells
 pub mod Writing
 pub mod Nodes
 pub mod Counting
-pub mod FarDigits
 pub mod Annotations
 pub mod Axioms
 pub mod Placing

@@ -5,7 +5,7 @@ use Rattle.owl_arena.specs.Held.{Held, trees_at}
 use Rattle.owl_doc.specs.Documents.{Document, ontology_of}
 use Rattle.owl_tree.specs.Ontologies.{Ontology}
 use Rattle.owl_tree.specs.Trees.{Tree}
-use Rattle.rdf_mapping.specs.FreshLabels.{far_numbers, fresh_name, greatest_number, numbered_label}
+use Rattle.blank_labels.specs.FreshLabels.{fresh_name}
 use Rattle.rdf_mapping.specs.GraphEntries.{made_nodes}
 use Rattle.rdf_mapping.specs.GraphLaws.{triples_of}
 use Rattle.rdf_mapping.specs.Graphs.{group_triples, groups_of, head_triples, header_nodes, header_term, labels_of, made_triples, notes_from}
@@ -29,7 +29,6 @@ document_written old mid new d arena axioms n e f x y =
     followed old mid new at (group_nodes (groups_of o.axioms)) (made_nodes o) at (heads ++ notes) (made_triples name o)
     (λ (m : ℕ → List ℕ) (k : ℕ). group_triples m (groups_of o.axioms) k) x groups (omega (arith, n)) (omega arith) (sym (append_assoc heads notes (group_triples name (groups_of o.axioms) at)))
 
-pub made_from_nothing : (w new : Writer) (o : Ontology) → w.gather ≡ [] → w.labels.greatest ≡ greatest_number (labels_of o) → w.labels.taken.items ≡ far_numbers (labels_of o) → WritesOntology w new o → new.gather ≡ triples_of o
-made_from_nothing w new o none greatest far x =
-    let name : names w ≡ fresh_name (labels_of o) = λ i. λ n. numbered_label (greatest i) (far i) n in
+pub made_from_nothing : (w new : Writer) (o : Ontology) → w.gather ≡ [] → names w ≡ fresh_name (labels_of o) → WritesOntology w new o → new.gather ≡ triples_of o
+made_from_nothing w new o none name x =
     x.added ∙ ap (λ ts. ts ++ made_triples (names w) o) none ∙ ap (λ m. made_triples m o) name

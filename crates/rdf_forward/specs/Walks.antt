@@ -1,5 +1,5 @@
 -- What the walk over the arena adds to the triples.
-use Rattle.std.specs.Prelude.{◌≡◌, ◌<◌, ℕ, ◌+◌, Bool, true, false, not, max, length, List, [], ◌∷◌, ◌++◌}
+use Rattle.std.specs.Prelude.{◌≡◌, ◌<◌, ℕ, ◌+◌, Bool, true, false, not, length, List, [], ◌∷◌, ◌++◌}
 use Rattle.std.specs.List.{AllByRecursion}
 use Rattle.owl_arena.specs.Held.{tree_at}
 use Rattle.owl_tree.specs.Trees.{Tree}
@@ -14,9 +14,8 @@ use Rattle.rdf_mapping.specs.Arenas.{forms_at, kids_at}
 use Rattle.rdf_forward.specs.declared.drawn.Drawn.{Drawn}
 use Rattle.rdf_forward.specs.declared.drawn.Drawn.TheVariants as drawn
 use Rattle.rdf_forward.specs.declared.drawn.Next.{Next}
-use Rattle.rdf_forward.specs.declared.labels.FreshLabels.{FreshLabels}
 use Rattle.rdf_forward.specs.declared.writer.Writer.{Writer}
-use Rattle.rdf_mapping.specs.FreshLabels.{far_ones, greatest_number, numbered_label}
+use Rattle.blank_labels.specs.FreshLabels.{names_beside}
 use Rattle.rdf_mapping.specs.Forms.{Form, Arcs, plain, arc_nodes, arc_triples, first_iri, link, list_form, nodes, rest_iri, triples}
 use Rattle.rdf_mapping.specs.Drawing.{Kid, Placed, form_of, listed, placed, placed_at, placed_by}
 
@@ -52,7 +51,7 @@ pub record IsNext (trees : List Tree) (above : ℕ) (parts : List Part) (ids : L
   pub fewer : length next.parts.now < length parts
 
 abbrev pub names : Writer → ℕ → List ℕ
-names w n = numbered_label w.labels.greatest w.labels.taken.items n
+names w n = names_beside w.labels n
 
 -- the blank node of a number
 abbrev pub node_term : Writer → ℕ → Term
@@ -99,8 +98,3 @@ abbrev pub Leads : Writer → Writer → Bool → List Form → Type 0
 Leads old new goes_on fs =
     (others : List Form) (last : Writer) → is_none others ≡ not goes_on → WritesForm new last (list_form others) →
     WritesForm old last (list_form (fs ++ others))
-
--- these labels more
-pub record Counts (old new : FreshLabels) (ls : List (List ℕ)) : Type 0 where
-  pub greatest : new.greatest ≡ max old.greatest (greatest_number ls)
-  pub far : new.taken.items ≡ old.taken.items ++ far_ones ls

@@ -8,7 +8,7 @@ ghost use Rattle.rdf_mapping.specs.GraphLaws.{triples_of};
 ghost use Rattle.rdf_mapping.specs.Graphs.{graph_of};
 ghost use Rattle.rdf_forward.specs.HeaderWalks.{WritesOntology};
 
-use crate::labels::FreshLabels;
+use crate::labels::labels_beside;
 use crate::writer::Writer;
 use owl_characters::NoMemory;
 use owl_doc::Doc;
@@ -35,7 +35,7 @@ fn triples_of(alloc: Global, doc: &Doc) -> Result<Gather, NoMemory>
         alloc,
         gather: Gather::new(alloc),
         next: 0,
-        labels: FreshLabels::beside(alloc, doc)?,
+        labels: labels_beside(alloc, doc)?,
     };
     writer.write_document(doc)?;
     Ok(writer.gather)

@@ -5,7 +5,6 @@
 mod axiom;
 mod drawn;
 mod expression;
-mod far;
 mod graph;
 mod groups;
 mod header;

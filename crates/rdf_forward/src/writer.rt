@@ -9,7 +9,7 @@ ghost use Rattle.rdf_forward.specs.Walks.{IsDrawnBelow, Writes, WritesLink, draw
 ghost use Rattle.rdf_forward.specs.Walks.{names, node_term, rest_term, second_cell};
 
 use crate::drawn::Drawn;
-use crate::labels::FreshLabels;
+use blank_labels::FreshLabels;
 use owl_arena::{Arena, ExprId};
 use owl_characters::NoMemory;
 use owl_tree::Atom;

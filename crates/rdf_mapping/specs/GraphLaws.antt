@@ -8,7 +8,7 @@ use Rattle.rdf_graph.specs.GraphLaws.{set_holds}
 use Rattle.rdf_graph.specs.TermLaws.{triples_total}
 use Rattle.rdf_graph.specs.Terms.{triple_cmp}
 use Rattle.rdf_mapping.specs.Frames.{IsAny, Keeps}
-use Rattle.rdf_mapping.specs.FreshLabels.{fresh_name}
+use Rattle.blank_labels.specs.FreshLabels.{fresh_name}
 use Rattle.rdf_mapping.specs.Graphs.{graph_of, labels_of, made_triples}
 
 -- the triples of an ontology, with fresh labels

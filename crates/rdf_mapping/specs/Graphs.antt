@@ -19,7 +19,7 @@ use Rattle.rdf_meaning.specs.Nodes.{type_iri}
 use Rattle.rdf_mapping.specs.Forms.{Arcs, made, arc_nodes, blank, link, nodes, term_of, triples}
 use Rattle.rdf_mapping.specs.Drawing.{Statement, linked, linked_back, looped, standing, unsaid, statement_of}
 use Rattle.rdf_mapping.specs.Notes.{Notes, note_nodes, note_triples, notes_in, notes_of, reified, reified_nodes}
-use Rattle.rdf_mapping.specs.FreshLabels.{fresh_name}
+use Rattle.blank_labels.specs.FreshLabels.{fresh_name}
 
 -- Axioms that differ in their annotations alone.
 

@@ -1,10 +1,8 @@
 pub mod Forms
 pub mod Drawing
 pub mod Notes
-pub mod FreshLabels
 pub mod Graphs
 pub mod Arenas
-pub mod FreshLabelLaws
 pub mod Frames
 pub mod FormLaws
 pub mod OwnLaws

@@ -15,8 +15,8 @@ use Rattle.rdf_meaning.specs.Words.{word_iri}
 use Rattle.rdf_mapping.specs.Forms.{blank, link}
 use Rattle.rdf_mapping.specs.FormLaws.{apart, keeps_part, lie, subject_of}
 use Rattle.rdf_mapping.specs.Frames.{AreNamedApart, IsAny, IsForeign, Keeps, Lies}
-use Rattle.rdf_mapping.specs.FreshLabels.{fresh_name}
-use Rattle.rdf_mapping.specs.FreshLabelLaws.{fresh_apart}
+use Rattle.blank_labels.specs.FreshLabels.{fresh_name}
+use Rattle.blank_labels.specs.FreshLabelLaws.{fresh_apart}
 use Rattle.rdf_mapping.specs.Graphs.{graph_of, group_triples, groups_of, head_triples, header_nodes, header_term, labels_of, made_triples, notes_from}
 use Rattle.rdf_mapping.specs.GroupFrames.{AreStatedApart, EachGroupKept, group_nodes}
 use Rattle.rdf_mapping.specs.GroupFrameLaws.{groups_kept, note_subjects}

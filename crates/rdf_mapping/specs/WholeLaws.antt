@@ -17,7 +17,7 @@ use Rattle.rdf_meaning.specs.Nodes.{first_role, marked_roles, marks_role, of_sub
 use Rattle.rdf_mapping.specs.Forms.{Arcs, arc_nodes, blank, link, nodes, term_of}
 use Rattle.rdf_mapping.specs.Drawing.{Statement, linked, linked_back, looped, standing, unsaid}
 use Rattle.rdf_mapping.specs.Frames.{AreNamedApart}
-use Rattle.rdf_mapping.specs.FreshLabels.{fresh_name}
+use Rattle.blank_labels.specs.FreshLabels.{fresh_name}
 use Rattle.rdf_mapping.specs.Notes.{Notes, note_nodes}
 use Rattle.rdf_mapping.specs.Graphs.{Group, graph_of, groups_of, head_triples, header_nodes, header_term, labels_of, made_triples, notes_from, statement_nodes}
 use Rattle.rdf_mapping.specs.Entries.{AreAllBeside, AreEntries, Entry, IsSaid, entry_node, note_entries, note_links, note_roots}

@@ -27,7 +27,7 @@ ghost use Rattle.rdf_mapping.specs.Frames.{AreNamedApart, IsAny, IsOfNode, IsOwn
 ghost use Rattle.std.specs.List.{AllByRecursion};
 ghost use Rattle.rdf_mapping.specs.Forms.{Arcs, Form, list_form, made, twice};
 ghost use Rattle.rdf_mapping.specs.FormSorts.{AllForms, HasOwnSort, IsOfNodes};
-ghost use Rattle.rdf_mapping.specs.FreshLabels.{fresh_name};
+ghost use Rattle.blank_labels.specs.FreshLabels.{fresh_name};
 ghost use Rattle.rdf_mapping.specs.Graphs.{graph_of, head_triples, labels_of};
 ghost use Rattle.rdf_mapping.specs.GraphLaws.{triples_of};
 ghost use Rattle.rdf_mapping.specs.Sorts.{AreSorted, HasHeader, IsAside, IsFree, IsHeaderNote, IsMain, IsProperty, SaysAxiom};

@@ -55,17 +55,7 @@ ghost use Rattle.rdf_mapping.specs.Frames.{AreOwned, IsAny, IsForeign};
 ghost use Rattle.rdf_mapping.specs.Graphs.{Group, graph_of, group_triples, groups_of, header_nodes, labels_of, notes_from, standing_nodes, standing_triples, statement_nodes, statement_triples};
 ghost use Rattle.rdf_mapping.specs.GroupFrames.{AreNotesApart, AreStatedApart, EachGroupKept, IsSubject, KeepsStanding, KeepsLinked, KeepsLooped, StatesApart, group_nodes};
 ghost use Rattle.rdf_mapping.specs.Notes.{Notes, note_nodes, note_triples};
-ghost use Rattle.rdf_mapping.specs.FreshLabels.{fresh_name};
-
-/// Laws: nodes with other numbers have other labels, and none of the labels
-/// beside which they were made, where numbers and labels are fewer than nine
-/// times 10 to the 18th in all.
-pub fn fresh_labels_are_told_apart()
-    ensures apart { (labels : List (List ℕ)) (m n : ℕ) → m + length labels < 9 * 10 ^ 18
-        → n + length labels < 9 * 10 ^ 18 → fresh_name labels m ≡ fresh_name labels n → m ≡ n }
-    ensures fresh { (labels : List (List ℕ)) (n : ℕ) → n + length labels < 9 * 10 ^ 18
-        → Contains labels (fresh_name labels n) → ⊥ }
-{}
+ghost use Rattle.blank_labels.specs.FreshLabels.{fresh_name};
 
 /// Laws: the subjects of the triples of a form are its nodes, which have the
 /// numbers from its first on, and nodes of intervals that are apart are apart.

@@ -22,7 +22,7 @@ ghost use Rattle.rdf_mapping.specs.Asides.{AreAside};
 ghost use Rattle.rdf_mapping.specs.Drawing.{Statement};
 ghost use Rattle.rdf_mapping.specs.GraphEntries.{IsAt, group_entries, group_others, group_roots, made_entries, made_nodes, made_others, made_roots, statement_entries, statement_others, statement_roots};
 ghost use Rattle.rdf_mapping.specs.GroupFrames.{AreStatedApart, StatesApart, group_nodes};
-ghost use Rattle.rdf_mapping.specs.FreshLabels.{fresh_name};
+ghost use Rattle.blank_labels.specs.FreshLabels.{fresh_name};
 ghost use Rattle.rdf_mapping.specs.Graphs.{Group, axiom_notes, bare, graph_of, group_of, group_triples, groups_of, header_nodes, labels_of, notes_from, made_triples, set_nodes, set_triples, sets_of, statement_nodes, statement_triples};
 ghost use Rattle.rdf_mapping.specs.Notes.{Notes, no_notes, note_nodes, notes_in, note_triples};
 

@@ -7,8 +7,8 @@ use Rattle.owl_tree.specs.Ontologies.{Ontology}
 use Rattle.rdf_meaning.specs.Statements.{Says}
 use Rattle.rdf_mapping.specs.Drawing.{Statement}
 use Rattle.rdf_mapping.specs.Entries.{AreAllBeside, AreEntries}
-use Rattle.rdf_mapping.specs.FreshLabels.{fresh_name}
-use Rattle.rdf_mapping.specs.FreshLabelLaws.{fresh_new}
+use Rattle.blank_labels.specs.FreshLabels.{fresh_name}
+use Rattle.blank_labels.specs.FreshLabelLaws.{fresh_new}
 use Rattle.rdf_mapping.specs.GraphEntries.{made_entries, made_nodes}
 use Rattle.rdf_mapping.specs.GroupFrames.{AreStatedApart, StatesApart}
 use Rattle.rdf_mapping.specs.GraphLaws.{graph_apart, graph_holds}

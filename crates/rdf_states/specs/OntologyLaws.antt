@@ -7,8 +7,8 @@ use Rattle.owl_list.specs.AscendingLaws.{all_in}
 use Rattle.owl_tree.specs.Ontologies.{Ontology}
 use Rattle.owl_tree.specs.Trees.{Tree}
 use Rattle.rdf_meaning.specs.Statements.{Says}
-use Rattle.rdf_mapping.specs.FreshLabels.{fresh_name}
-use Rattle.rdf_mapping.specs.FreshLabelLaws.{fresh_new}
+use Rattle.blank_labels.specs.FreshLabels.{fresh_name}
+use Rattle.blank_labels.specs.FreshLabelLaws.{fresh_new}
 use Rattle.rdf_mapping.specs.GraphEntries.{made_nodes}
 use Rattle.rdf_mapping.specs.GraphLaws.{graph_apart}
 use Rattle.rdf_mapping.specs.Graphs.{graph_of, labels_of}

@@ -1,7 +1,7 @@
 -- The labels of blank nodes that have none in the document (RDF 1.1 Turtle, section 7.2: each stands for a blank node of its own).
-use Rattle.std.specs.Prelude.{ℕ, List, map, nat_le, if◌then◌else◌}
-use Rattle.std.specs.List.{fold}
-use Rattle.blank_labels.specs.Labels.{fresh_label, label_number}
+use Rattle.std.specs.Prelude.{ℕ, List, [], ◌∷◌, ◌++◌, map}
+use Rattle.std.specs.List.{flat_map}
+use Rattle.blank_labels.specs.FreshLabels.{fresh_name}
 use Rattle.rdf_graph.specs.Graphs.{set_of}
 use Rattle.rdf_graph.specs.declared.term.Term.{Term}
 use Rattle.rdf_graph.specs.declared.term.Term.TheVariants as term
@@ -12,41 +12,41 @@ use Rattle.ttl_grammar.specs.declared.node.NodeTriple.{NodeTriple}
 use Rattle.ttl_grammar.specs.declared.node.Object.{Object}
 use Rattle.ttl_grammar.specs.declared.node.Object.TheVariants as object
 
-abbrev pub node_number : Node → ℕ
-node_number (node.Label label) = label_number label
-node_number _ = 0
+-- the labels that stand in triples
 
-abbrev pub object_number : Object → ℕ
-object_number (object.Node n) = node_number n
-object_number (object.Literal literal) = 0
+abbrev pub node_labels : Node → List (List ℕ)
+node_labels (node.Label label) = label ∷ []
+node_labels _ = []
 
-abbrev pub greater : ℕ → ℕ → ℕ
-greater m n = if nat_le m n then n else m
+abbrev pub object_labels : Object → List (List ℕ)
+object_labels (object.Node n) = node_labels n
+object_labels (object.Literal literal) = []
 
-abbrev pub greatest_with : ℕ → NodeTriple → ℕ
-greatest_with n t = greater (greater n (node_number t.subject)) (object_number t.object)
+abbrev pub triple_labels : NodeTriple → List (List ℕ)
+triple_labels t = node_labels t.subject ++ object_labels t.object
 
--- the greatest number of a label
-abbrev pub greatest_number : List NodeTriple → ℕ
-greatest_number ts = fold greatest_with 0 ts
+abbrev pub labels_of : List NodeTriple → List (List ℕ)
+labels_of ts = flat_map triple_labels ts
 
-abbrev pub named : ℕ → Node → Term
-named greatest (node.Iri iri) = term.Iri iri
-named greatest (node.Label label) = term.Blank label
-named greatest (node.Unlabelled n) = term.Blank (fresh_label greatest n)
+-- the terms of nodes, where those without labels get these by their numbers
 
-abbrev pub named_object : ℕ → Object → Term
-named_object greatest (object.Node n) = named greatest n
-named_object greatest (object.Literal literal) = term.Literal literal
+abbrev pub named : (ℕ → List ℕ) → Node → Term
+named name (node.Iri iri) = term.Iri iri
+named name (node.Label label) = term.Blank label
+named name (node.Unlabelled n) = term.Blank (name n)
 
-abbrev pub named_triple : ℕ → NodeTriple → Triple
-named_triple greatest t =
-    record { subject = named greatest t.subject; predicate = t.predicate; object = named_object greatest t.object }
+abbrev pub named_object : (ℕ → List ℕ) → Object → Term
+named_object name (object.Node n) = named name n
+named_object name (object.Literal literal) = term.Literal literal
 
--- the triples with all labels
+abbrev pub named_triple : (ℕ → List ℕ) → NodeTriple → Triple
+named_triple name t =
+    record { subject = named name t.subject; predicate = t.predicate; object = named_object name t.object }
+
+-- The triples with all labels: the nodes without labels get theirs beside all that stand there.
 abbrev pub named_triples : List NodeTriple → List Triple
-named_triples ts = map (named_triple (greatest_number ts)) ts
+named_triples ts = map (named_triple (fresh_name (labels_of ts))) ts
 
 -- the graph of them
-abbrev pub graph_of : List NodeTriple → List Triple
+unfoldable pub graph_of : List NodeTriple → List Triple
 graph_of ts = set_of (named_triples ts)

@@ -2,6 +2,7 @@
 use lib.Utf8.{encode}
 use Rattle.std.specs.Prelude.{◌≡◌, ℕ, List, [], ◌∷◌, ◌++◌, codes, Option, Some, Result, Ok, Err, refl}
 use Rattle.std.specs.Fmt.{digits}
+use Rattle.blank_labels.specs.FreshLabels.{far_numbers, numbered_label}
 use Rattle.grammar.specs.Derivations.{Event}
 use Rattle.grammar.specs.Derivations.Event.{Do, Take}
 use Rattle.iri_references.specs.DotSegments.{without_dot_segments}
@@ -111,7 +112,7 @@ nested_states : states nested ≡ Ok (
     ∷ triple a (codes "http://e/b") (blank (codes "gen3"))
     ∷ []
     )
-unfolding digits
+unfolding digits far_numbers numbered_label
 nested_states = refl
 
 -- and in the order of the graph
@@ -123,8 +124,59 @@ nested_graph : graph nested ≡ Ok (
     ∷ triple (blank (codes "gen5")) (rdf (codes "rest")) (term.Iri (rdf (codes "nil")))
     ∷ []
     )
-unfolding digits encode
+unfolding digits far_numbers numbered_label encode graph_of
 nested_graph = refl
+
+-- ---- labels of which the numbers have 19 digits
+
+-- `_:label a <http://e/C> .`
+abbrev labelled : List ℕ → Events
+labelled label = says (does act.Label ∷ Take (Label label) ∷ []) (does act.RdfType ∷ Take (Symbol symbol.A) ∷ []) (iri (codes "http://e/C"))
+
+-- `[] a <http://e/C> .`
+abbrev unlabelled : Events
+unlabelled =
+    says (does act.OpenBracket ∷ Take (Symbol symbol.OpenBracket) ∷ does act.CloseBracket ∷ Take (Symbol symbol.CloseBracket) ∷ [])
+    (does act.RdfType ∷ Take (Symbol symbol.A) ∷ []) (iri (codes "http://e/C"))
+
+abbrev is_typed : List ℕ → Triple
+is_typed label = triple (blank label) (rdf (codes "type")) (term.Iri (codes "http://e/C"))
+
+-- the greatest number that is counted
+abbrev most : Events
+most = labelled (codes "gen999999999999999999")
+
+-- The number behind it is passed over, since its label stands there.
+behind_is_taken : states (most ++ labelled (codes "gen1000000000000000000") ++ unlabelled) ≡ Ok (
+    is_typed (codes "gen999999999999999999")
+    ∷ is_typed (codes "gen1000000000000000000")
+    ∷ is_typed (codes "gen1000000000000000001")
+    ∷ []
+    )
+unfolding digits far_numbers numbered_label
+behind_is_taken = refl
+
+-- So are two of them,
+two_are_taken : states (most ++ labelled (codes "gen1000000000000000001") ++ labelled (codes "gen1000000000000000000") ++ unlabelled ++ unlabelled) ≡ Ok (
+    is_typed (codes "gen999999999999999999")
+    ∷ is_typed (codes "gen1000000000000000001")
+    ∷ is_typed (codes "gen1000000000000000000")
+    ∷ is_typed (codes "gen1000000000000000002")
+    ∷ is_typed (codes "gen1000000000000000003")
+    ∷ []
+    )
+unfolding digits far_numbers numbered_label
+two_are_taken = refl
+
+-- and one of a label that stands behind the node.
+taken_behind : states (most ++ unlabelled ++ labelled (codes "gen1000000000000000000")) ≡ Ok (
+    is_typed (codes "gen999999999999999999")
+    ∷ is_typed (codes "gen1000000000000000001")
+    ∷ is_typed (codes "gen1000000000000000000")
+    ∷ []
+    )
+unfolding digits far_numbers numbered_label
+taken_behind = refl
 
 -- ---- references
 
@@ -134,12 +186,12 @@ relative_without_base = refl
 
 -- @base <http://e/x> . <a> a <#b> .
 against_base : graph (at_base (codes "http://e/x") ++ says (iri (codes "a")) (does act.RdfType ∷ Take (Symbol symbol.A) ∷ []) (iri (codes "#b"))) ≡ Ok (triple a (rdf (codes "type")) (term.Iri (codes "http://e/x#b")) ∷ [])
-unfolding parts_of recomposed resolved resolved_without_scheme target without_dot_segments
+unfolding parts_of recomposed resolved resolved_without_scheme target without_dot_segments graph_of
 against_base = refl
 
 -- @base <http://e/x/> . @base <y/> . <z> a </a> .
 base_against_base : graph (at_base (codes "http://e/x/") ++ at_base (codes "y/") ++ says (iri (codes "z")) (does act.RdfType ∷ Take (Symbol symbol.A) ∷ []) (iri (codes "/a"))) ≡ Ok (triple (term.Iri (codes "http://e/x/y/z")) (rdf (codes "type")) a ∷ [])
-unfolding parts_of recomposed resolved resolved_without_scheme target without_dot_segments
+unfolding parts_of recomposed resolved resolved_without_scheme target without_dot_segments graph_of
 base_against_base = refl
 
 -- ---- prefixes
@@ -165,12 +217,15 @@ abbrev typed : List ℕ → Events
 typed datatype = Take (Symbol symbol.Carets) ∷ does act.Typed ∷ Take (Iri (Some datatype)) ∷ []
 
 plain_literal : graph (with_suffix (does act.Plain ∷ [])) ≡ Ok (triple a (codes "http://e/b") (term.Literal (of_datatype (codes "1") (xsd (codes "string")))) ∷ [])
+unfolding graph_of
 plain_literal = refl
 
 tagged_literal : graph (with_suffix (does act.Tagged ∷ Take (At (codes "en")) ∷ [])) ≡ Ok (triple a (codes "http://e/b") (term.Literal (with_tag (codes "1") (codes "en"))) ∷ [])
+unfolding graph_of
 tagged_literal = refl
 
 typed_literal : graph (with_suffix (typed (xsd (codes "integer")))) ≡ Ok (triple a (codes "http://e/b") one ∷ [])
+unfolding graph_of
 typed_literal = refl
 
 no_form_of_tagged_strings : graph (with_suffix (typed (rdf (codes "langString")))) ≡ Err (Defect BadLiteral)

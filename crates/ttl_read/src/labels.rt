@@ -1,87 +1,84 @@
 //! Labels for the blank nodes that have none.
 
-ghost use Rattle.std.specs.Prelude.{◌≡◌, ◌<◌, ◌≤◌, ◌+◌, ◌++◌, ◌^◌, List, IfErr, IfOk, IsErrOf, OnOk, length, map};
+ghost use Rattle.std.specs.Prelude.{◌≡◌, ◌<◌, ◌≤◌, ◌++◌, IfOk, IsErrOf, OnOk, length, map};
+ghost use Rattle.blank_labels.specs.FreshLabels.{Counts, fresh_name, names_beside};
 ghost use Rattle.owl_list.specs.Ascending.{HoldSame};
 ghost use Rattle.rdf_graph.specs.declared.fault.GraphFault.{GraphFault};
 ghost use Rattle.rdf_graph.specs.Graphs.{most_triples, set_of};
 ghost use Rattle.rdf_graph.specs.Terms.{IsSubject};
-ghost use Rattle.ttl_grammar.specs.Labels.{graph_of, greater, greatest_number, greatest_with, named, named_object, named_triple, node_number, object_number};
+ghost use Rattle.ttl_grammar.specs.Labels.{graph_of, labels_of, named, named_object, named_triple, node_labels, object_labels, triple_labels};
 
-use blank_labels::{fresh_label, label_number};
+use blank_labels::{FreshLabels, LabelNumbers};
 use owl_characters::NoMemory;
 use rdf_graph::{Gather, Graph, GraphFault, Term, Triple};
 use std::alloc::{AllocError, Global};
 use ttl_grammar::{Node, NodeTriple, Object};
 
-fn node_number(node: &Node) -> u64
-    ensures { result ≡ node_number node.now }
+/// Counts the label of a node, if it has one.
+fn count_node(numbers: &mut LabelNumbers, node: &Node) -> Result<(), NoMemory>
+    ensures { OnOk result (Counts numbers.old numbers.new (node_labels node.now)) }
 {
     match node {
-        Node::Label(label) => label_number(label),
-        _ => 0,
+        Node::Label(label) => numbers.count(label),
+        Node::Iri(_) | Node::Unlabelled(_) => Ok(()),
     }
 }
 
-fn object_number(object: &Object) -> u64
-    ensures { result ≡ object_number object.now }
+fn count_object(numbers: &mut LabelNumbers, object: &Object) -> Result<(), NoMemory>
+    ensures { OnOk result (Counts numbers.old numbers.new (object_labels object.now)) }
 {
     match object {
-        Object::Node(node) => node_number(node),
-        Object::Literal(_) => 0,
+        Object::Node(node) => count_node(numbers, node),
+        Object::Literal(_) => Ok(()),
     }
 }
 
-fn greater(m: u64, n: u64) -> u64
-    ensures { result ≡ greater m n }
+fn count_triple(numbers: &mut LabelNumbers, triple: &NodeTriple) -> Result<(), NoMemory>
+    ensures { OnOk result (Counts numbers.old numbers.new (triple_labels triple.now)) }
 {
-    if m <= n { n } else { m }
+    count_node(numbers, &triple.subject)?;
+    count_object(numbers, &triple.object)
 }
 
-fn greatest_with(greatest: u64, triple: &NodeTriple) -> u64
-    ensures { result ≡ greatest_with greatest triple.now }
+/// The labels of the nodes that have none, beside all that stand in the triples.
+fn fresh_labels(alloc: Global, triples: &[NodeTriple]) -> Result<FreshLabels, NoMemory>
+    ensures { IfOk result (λ labels.
+        names_beside labels ≡ fresh_name (labels_of triples.now)) }
 {
-    let greatest = greater(greatest, node_number(&triple.subject));
-    greater(greatest, object_number(&triple.object))
-}
-
-/// The greatest number of a label.
-fn greatest_number(triples: &[NodeTriple]) -> u64
-    ensures { result ≡ greatest_number triples.now }
-{
-    let mut greatest = 0;
+    let mut numbers = LabelNumbers::new(alloc);
     for triple in triples {
-        greatest = greatest_with(greatest, triple);
+        count_triple(&mut numbers, triple)?;
     }
-    greatest
+    Ok(numbers.fresh_labels())
 }
 
 /// A node with its label.
-fn named(alloc: Global, greatest: u64, node: Node) -> Result<Term, NoMemory>
-    ensures named { IfOk result (λ term. term ≡ named greatest node) }
+fn named(alloc: Global, labels: &FreshLabels, node: Node) -> Result<Term, NoMemory>
+    ensures named { IfOk result (λ term. term ≡ named (names_beside labels.now) node) }
     ensures subject { IfOk result IsSubject }
 {
     match node {
         Node::Iri(iri) => Ok(Term::Iri(iri)),
         Node::Label(label) => Ok(Term::Blank(label)),
-        Node::Unlabelled(number) => Ok(Term::Blank(fresh_label(alloc, greatest, number)?)),
+        Node::Unlabelled(number) => Ok(Term::Blank(labels.label(alloc, number)?)),
     }
 }
 
-fn named_object(alloc: Global, greatest: u64, object: Object) -> Result<Term, NoMemory>
-    ensures { IfOk result (λ term. term ≡ named_object greatest object) }
+fn named_object(alloc: Global, labels: &FreshLabels, object: Object) -> Result<Term, NoMemory>
+    ensures { IfOk result (λ term. term ≡ named_object (names_beside labels.now) object) }
 {
     match object {
-        Object::Node(node) => named(alloc, greatest, node),
+        Object::Node(node) => named(alloc, labels, node),
         Object::Literal(literal) => Ok(Term::Literal(literal)),
     }
 }
 
-fn named_triple(alloc: Global, greatest: u64, triple: NodeTriple) -> Result<Triple, NoMemory>
-    ensures named { IfOk result (λ named. named ≡ named_triple greatest triple) }
+fn named_triple(alloc: Global, labels: &FreshLabels, triple: NodeTriple) -> Result<Triple, NoMemory>
+    ensures named { IfOk result (λ named. named ≡ named_triple (names_beside labels.now) triple) }
     ensures subject { IfOk result (λ named. IsSubject named.subject) }
 {
-    let subject = named(alloc, greatest, triple.subject)?;
-    let object = named_object(alloc, greatest, triple.object)?;
+    let subject = named(alloc, labels, triple.subject)?;
+    let object = named_object(alloc, labels, triple.object)?;
     Ok(Triple {
         subject,
         predicate: triple.predicate,
@@ -94,28 +91,28 @@ fn named_triple(alloc: Global, greatest: u64, triple: NodeTriple) -> Result<Trip
 fn gathered(alloc: Global, triples: Vec<NodeTriple>) -> Result<Gather, NoMemory>
     ensures { IfOk result (λ gather. set_of gather ≡ graph_of triples.items) }
 {
-    let greatest = greatest_number(&triples);
+    let labels = fresh_labels(alloc, &triples)?;
     let mut gather = Gather::new(alloc);
-    let others = gather_of_iris(alloc, greatest, triples, &mut gather)?;
-    gather_all(alloc, greatest, others, &mut gather)?;
+    let others = gather_of_iris(alloc, &labels, triples, &mut gather)?;
+    gather_all(alloc, &labels, others, &mut gather)?;
     Ok(gather)
 }
 
 /// Gathers the triples whose subjects are IRIs, and gives the others.
 fn gather_of_iris(
     alloc: Global,
-    greatest: u64,
+    labels: &FreshLabels,
     triples: Vec<NodeTriple>,
     gather: &mut Gather,
 ) -> Result<Vec<NodeTriple>, NoMemory>
     ensures { IfOk result (λ others.
-        HoldSame (gather.new ++ map (named_triple greatest) others.items)
-        (gather.old ++ map (named_triple greatest) triples.items)) }
+        HoldSame (gather.new ++ map (named_triple (names_beside labels.now)) others.items)
+        (gather.old ++ map (named_triple (names_beside labels.now)) triples.items)) }
 {
     let mut others = Vec::new(alloc);
     for triple in triples {
         if is_iri(&triple.subject) {
-            gather.add(named_triple(alloc, greatest, triple)?)?;
+            gather.add(named_triple(alloc, labels, triple)?)?;
         } else {
             others.push(triple).map_err(AllocError::from)?;
         }
@@ -130,15 +127,15 @@ fn is_iri(node: &Node) -> bool {
 /// Gathers all of these triples.
 fn gather_all(
     alloc: Global,
-    greatest: u64,
+    labels: &FreshLabels,
     triples: Vec<NodeTriple>,
     gather: &mut Gather,
 ) -> Result<(), NoMemory>
     ensures { OnOk result (gather.new
-        ≡ gather.old ++ map (named_triple greatest) triples.items) }
+        ≡ gather.old ++ map (named_triple (names_beside labels.now)) triples.items) }
 {
     for triple in triples {
-        gather.add(named_triple(alloc, greatest, triple)?)?;
+        gather.add(named_triple(alloc, labels, triple)?)?;
     }
     Ok(())
 }

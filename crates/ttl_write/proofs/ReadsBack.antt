@@ -27,7 +27,8 @@ use Rattle.rdf_graph.specs.declared.term.Term.TheVariants as term
 use Rattle.rdf_graph.specs.declared.triple.Triple.{Triple}
 use Rattle.rdf_terms.specs.Vocabulary.{xsd}
 use Rattle.ttl_grammar.specs.Documents.{AreNamespaces, ReadsTurtle}
-use Rattle.ttl_grammar.specs.Labels.{graph_of, greatest_number, named_object, named_triple}
+use Rattle.blank_labels.specs.FreshLabels.{fresh_name}
+use Rattle.ttl_grammar.specs.Labels.{graph_of, labels_of, named_object, named_triple}
 use Rattle.ttl_grammar.specs.States.{Namespace, State, namespace_in, no_nest}
 use Rattle.ttl_grammar.specs.declared.node.NodeTriple.{NodeTriple}
 use Rattle.ttl_tokens.specs.TurtleSpellings as tokens
@@ -69,7 +70,7 @@ declared_agree ps up = λ name. or_nothing (iri_of ps name) ∙ sym (declared_fo
 
 -- the graph
 
-object_named : (n : ℕ) (t : Term) → named_object n (object_of t) ≡ t
+object_named : (n : ℕ → List ℕ) (t : Term) → named_object n (object_of t) ≡ t
 object_named n (term.Iri iri) = refl
 object_named n (term.Blank label) = refl
 object_named n (term.Literal literal) = refl
@@ -77,7 +78,7 @@ object_named n (term.Literal literal) = refl
 abbrev triple_of : Term → List ℕ → Term → Triple
 triple_of s p o = record { subject = s; predicate = p; object = o }
 
-named_first : (n : ℕ) (s : Term) (p : List ℕ) (o : Term) (others : List NodeTriple) (ts : List Triple) → IsSubject s → map (named_triple n) others ≡ ts
+named_first : (n : ℕ → List ℕ) (s : Term) (p : List ℕ) (o : Term) (others : List NodeTriple) (ts : List Triple) → IsSubject s → map (named_triple n) others ≡ ts
     → map (named_triple n) (stated_of (triple_of s p o) ++ others) ≡ triple_of s p o ∷ ts
 named_first n (term.Iri iri) p o others ts i e =
     ap (λ (l : List Triple). triple_of (term.Iri iri) p (named_object n (object_of o)) ∷ l) e ∙ ap (λ (x : Term). triple_of (term.Iri iri) p x ∷ ts) (object_named n o)
@@ -85,14 +86,15 @@ named_first n (term.Blank label) p o others ts i e =
     ap (λ (l : List Triple). triple_of (term.Blank label) p (named_object n (object_of o)) ∷ l) e ∙ ap (λ (x : Term). triple_of (term.Blank label) p x ∷ ts) (object_named n o)
 named_first n (term.Literal literal) p o others ts i e = absurd i
 
-named_stated : (n : ℕ) (ts : List Triple) → HaveSubjects ts → map (named_triple n) (flat_map stated_of ts) ≡ ts
+named_stated : (n : ℕ → List ℕ) (ts : List Triple) → HaveSubjects ts → map (named_triple n) (flat_map stated_of ts) ≡ ts
 named_stated n [] h = refl
 named_stated n (t ∷ ts) h = named_first n t.subject t.predicate t.object (flat_map stated_of ts) ts h.0 (named_stated n ts h.1)
 
 graph_again : (graph : List Triple) → IsGraph graph → graph ≡ graph_of (flat_map stated_of graph)
+unfolding graph_of
 graph_again graph is =
     let all = flat_map stated_of graph in
-    sym (ap set_of (named_stated (greatest_number all) graph is.subjects) ∙ set_again graph is)
+    sym (ap set_of (named_stated (fresh_name (labels_of all)) graph is.subjects) ∙ set_again graph is)
 
 -- the text begins with a prefix, and so with no byte order mark
 

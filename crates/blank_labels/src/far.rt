@@ -1,7 +1,7 @@
 //! Labels whose numbers have 19 digits, and numbers that pass over them.
 
-ghost use Rattle.std.specs.Prelude.{◌≡◌, ◌≤◌, IfSome};
-ghost use Rattle.rdf_mapping.specs.FreshLabels.{are_far, far_in, far_number, passing};
+ghost use Rattle.std.specs.Prelude.{◌≡◌, IfSome};
+ghost use Rattle.blank_labels.specs.FreshLabels.{are_far, far_in, far_number, passing};
 
 use rdf_terms::Label;
 
@@ -40,8 +40,7 @@ fn are_far(digits: &str) -> bool
 
 /// The number, where those that are taken, which ascend, are passed over.
 pub fn passing(taken: &[u64], number: u64) -> Option<u64>
-    ensures passed { IfSome result (λ passed. passed ≡ passing taken.now number) }
-    ensures behind { IfSome result (λ passed. number ≤ passed) }
+    ensures { IfSome result (λ passed. passed ≡ passing taken.now number) }
 {
     let mut left = taken;
     let mut passed = number;

@@ -4,8 +4,8 @@ use borrow.Author.Tests.{tests}
 use Rattle.std.proofs.lemmas.Iterator.Adapters.{YieldsList-from_bytes}
 use Rattle.std.proofs.lemmas.Iterator.Search.{all_from_yields_List}
 use Rattle.std.specs.Prelude.{◌==◌}
-use Rattle.rdf_forward.proofs.FarDigits.{far_where}
-use Rattle.rdf_forward.proofs.far.are_far.Goals as goal
+use Rattle.blank_labels.proofs.FarDigits.{far_where}
+use Rattle.blank_labels.proofs.far.are_far.Goals as goal
 
 pub returns : goal.returns
 returns c =

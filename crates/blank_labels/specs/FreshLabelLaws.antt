@@ -1,6 +1,6 @@
--- Fresh labels differ from one another, and from those beside which they were made.
-use Rattle.std.proofs.Common.{◌≡◌, ◌≤◌, ◌<◌, ◌+◌, ◌*◌, ◌^◌, ℕ, zero, suc, true, List, [], ◌∷◌, ◌++◌, length, get_or, inl, inr, refl, sym, ap, ◌∙◌, subst, arith}
-use Rattle.std.specs.Prelude.{Contains, codes, cond, drop, max, not, nat_eq, nat_le, Option, None, Some}
+-- Fresh labels are labels, they differ from one another, and from those beside which they were made.
+use Rattle.std.proofs.Common.{◌≡◌, ◌≤◌, ◌<◌, ◌+◌, ◌*◌, ◌^◌, ℕ, suc, true, List, [], ◌∷◌, ◌++◌, length, get_or, inl, inr, refl, sym, ap, ◌∙◌, subst, arith}
+use Rattle.std.specs.Prelude.{Contains, cond, max, not, nat_eq, nat_le, Option, None, Some}
 use Rattle.std.specs.Char.{is_ascii_digit}
 use Rattle.std.specs.Cmp.{nat_cmp_is}
 use Rattle.std.specs.FinMap.{nat_cmp-IsAntisymmetric}
@@ -12,15 +12,18 @@ use Rattle.std.specs.Str.Parse.{digits_value}
 use Rattle.std.proofs.Math.Nat.{le-max_left, le-max_right}
 use Rattle.std.proofs.lemmas.Bool.{and_from, cases_Bool, cases_order, cond_both, leb-true, leb-false, ne_eqb}
 use Rattle.std.proofs.lemmas.Cmp.{nat_cmp_total}
-use Rattle.std.proofs.lemmas.Fmt.{decimal_is_IsNumeral_wide, digits_decimal, digits_value-decimal, first_decimal, length-decimal-le}
+use Rattle.std.proofs.lemmas.Fmt.{digits_decimal, digits_value-decimal, first_decimal, length-decimal-le}
+use Rattle.std.proofs.lemmas.Grind.{flat_map-append}
+use Rattle.std.proofs.lemmas.List.{append-nil, append_assoc}
 use Rattle.std.proofs.lemmas.List.Elements.{Contains-append_left, Contains-append_right}
 use Rattle.std.proofs.lemmas.Str.Parse.{digits_value_short}
 use Rattle.std.specs.declared.cmp.Ordering.{Ordering}
 use Rattle.owl_list.specs.Ascending.{IsAscending, ascending, by_order, put}
 use Rattle.owl_list.specs.AscendingLaws.{all_in, ascending_ascends, ascending_holds, head_below, in_cases, in_head, in_none, tail_ascends}
-use Rattle.blank_labels.specs.Labels.{label_number}
-use Rattle.blank_labels.specs.LabelLaws.{label_number-fresh_label, label_number_below, numerals}
-use Rattle.rdf_mapping.specs.FreshLabels.{are_far, far_number, far_numbers, far_ones, fresh_name, greatest_number, numbered_label, or_none, passing}
+use Rattle.owl_characters.specs.Names.{IsLabel}
+use Rattle.blank_labels.specs.Labels.{label_number, labelled}
+use Rattle.blank_labels.specs.LabelLaws.{counted, decimal_digits, label_number_below, label_of_digits, numerals, same_labelled, value_back}
+use Rattle.blank_labels.specs.FreshLabels.{Counts, LabelNumbers, are_far, arranged, far_number, far_numbers, far_ones, fresh_name, greatest_number, names_beside, no_numbers, numbered_label, or_none, passing}
 
 -- Numbers that pass over those that are taken.
 
@@ -70,24 +73,7 @@ not_taken (t ∷ taken) n a =
       | inr l ↦ omega (arith, leb-false t n k, less_is t n (all_in (λ y. nat_cmp t y ≡ Less) taken n (head_below nat_cmp t taken a) l))
     ])
 
--- Labels of numbers.
-
--- the label of a number
-abbrev labelled : ℕ → List ℕ
-labelled n = codes "gen" ++ decimal n
-
-value_back : (n : ℕ) → n < 10 ^ 64 → digits_value 10 (drop 3 (labelled n)) ≡ n
-value_back n small = (decimal_is_IsNumeral_wide n small).1
-
-same_labelled : (m n : ℕ) → m < 10 ^ 64 → n < 10 ^ 64 → labelled m ≡ labelled n → m ≡ n
-same_labelled m n a b e = sym (value_back m a) ∙ ap (λ l. digits_value 10 (drop 3 l)) e ∙ value_back n b
-
-counted_as : (m n : ℕ) → 0 + 1 + m ≡ n → n < 10 ^ 18 → label_number (labelled n) ≡ n
-counted_as m n e small = subst (λ k. label_number (labelled k) ≡ k) e (label_number-fresh_label 0 m (omega (arith, e, small)))
-
-counted : (n : ℕ) → 0 < n → n < 10 ^ 18 → label_number (labelled n) ≡ n
-counted zero some small = absurd (omega (arith, some))
-counted (suc n) some small = counted_as n (suc n) (omega arith) small
+-- Labels of far numbers.
 
 -- a number of 19 digits is that of its label
 nineteen : (n : ℕ) → 10 ^ 18 ≤ n → n < 10 ^ 19 → length (decimal n) ≡ 19
@@ -219,3 +205,35 @@ no_number labels n p is small m =
 -- and none of the labels beside which they were made
 pub fresh_new : (labels : List (List ℕ)) (n : ℕ) → n + length labels < 9 * 10 ^ 18 → Contains labels (fresh_name labels n) → ⊥
 fresh_new labels n few m = no_number labels n (number labels n) refl (number_below labels n few) (subst (λ l. Contains labels l) (named labels n) m)
+
+-- they are labels
+pub fresh_is_label : (labels : List (List ℕ)) (n : ℕ) → n + length labels < 9 * 10 ^ 18 → IsLabel (fresh_name labels n)
+fresh_is_label labels n few =
+    let low = number_below labels n few in
+    subst IsLabel (sym (named labels n)) (label_of_digits (decimal (number labels n)) (decimal_digits (number labels n) (omega (arith, low))))
+
+-- Labels that were counted.
+
+greatest_of_both : (ls ms : List (List ℕ)) → greatest_number (ls ++ ms) ≡ max (greatest_number ls) (greatest_number ms)
+greatest_of_both [] ms = grind arith
+greatest_of_both (l ∷ ls) ms = let e = greatest_of_both ls ms in grind (arith, e)
+
+max_three : (a b c d e : ℕ) → b ≡ max a d → c ≡ max b e → c ≡ max a (max d e)
+max_three a b c d e h k = grind (arith, h, k)
+
+pub counts_none : (w : LabelNumbers) → Counts w w []
+counts_none w = record { greatest = grind arith; far = sym (append-nil w.far) }
+
+pub counts_both : (old mid new : LabelNumbers) (ls ms : List (List ℕ)) → Counts old mid ls → Counts mid new ms → Counts old new (ls ++ ms)
+counts_both old mid new ls ms x y = record {
+  greatest = max_three old.greatest mid.greatest new.greatest (greatest_number ls) (greatest_number ms) x.greatest y.greatest ∙ ap (max old.greatest) (sym (greatest_of_both ls ms));
+  far = y.far ∙ ap (λ (g : List ℕ). g ++ far_ones ms) x.far ∙ append_assoc old.far (far_ones ls) (far_ones ms)
+      ∙ ap (λ (g : List ℕ). old.far ++ g) (sym (flat_map-append (λ label. or_none (far_number label)) ls ms));
+}
+
+-- beside all labels that were counted
+pub names_are_fresh : (numbers : LabelNumbers) (labels : List (List ℕ)) → Counts no_numbers numbers labels → names_beside (arranged numbers) ≡ fresh_name labels
+unfolding far_numbers
+names_are_fresh numbers labels h =
+    let greatest : numbers.greatest ≡ greatest_number labels = grind (arith, h.greatest) in
+    λ i. λ n. numbered_label (greatest i) (ascending nat_cmp (h.far i)) n

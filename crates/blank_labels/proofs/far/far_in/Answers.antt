@@ -1,7 +1,7 @@
 use Rattle.std.proofs.Common.{sym, ap, ◌∙◌}
 use Rattle.std.specs.Result.{result_ok}
-use Rattle.rdf_forward.proofs.FarDigits.{far_is, far_read}
-use Rattle.rdf_forward.proofs.far.far_in.Goals as goal
+use Rattle.blank_labels.proofs.FarDigits.{far_is, far_read}
+use Rattle.blank_labels.proofs.far.far_in.Goals as goal
 
 pub returns-then-are_far : goal.returns-then-are_far
 returns-then-are_far c =

@@ -13,7 +13,7 @@ use Rattle.std.proofs.lemmas.Str.Parse.{digits_value_short, parse_gives}
 use Rattle.std.proofs.lemmas.Str.Pattern.{starts_text}
 use Rattle.owl_characters.specs.AsciiLaws.{ascii_chars, ascii_text, front_is}
 use Rattle.blank_labels.specs.LabelLaws.{numerals}
-use Rattle.rdf_mapping.specs.FreshLabels.{are_far, far_in, far_number}
+use Rattle.blank_labels.specs.FreshLabels.{are_far, far_in, far_number}
 
 pub record IsFar (ds : List ℕ) : Type 0 where
   pub many : length ds ≡ 19
