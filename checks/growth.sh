@@ -14,9 +14,6 @@ set -uo pipefail
 # So many more for each byte are nothing: they let pass what hardly grows at all.
 most_growth=25
 nothing=20
-# How many instructions a document may take whose text doubles 22 times. This bound
-# is a first one: it is to be set when it is known what the program takes.
-most_doubled=10000000000
 # The seconds of processor time, and the kilobytes of address space, for each count.
 limit=60
 memory=8000000
@@ -119,28 +116,13 @@ compare() {
     fi
 }
 
-# doubles SHAPE STATUS WORD..: judges the count of a document whose text doubles 22
-# times, and which is small itself.
-doubles() {
-    local what="$1, ${*:3}"
-    count "$1" 22 ttl "$2" "${@:3}"
-    if [[ -z $wrong ]] && ((counted > most_doubled)); then
-        wrong="22 of them take $counted instructions, and may take $most_doubled"
-    fi
-    judge "$what" "$wrong"
-}
-
 grows letters 1000 2000 ttl 3 show
 grows letters_and_dots 500 1000 ttl 3 show
 grows words_and_dots 200 400 ttl 3 show
 grows words 166 332 ttl 3 show
 grows name_and_dots 5000 10000 ttl 3 translate --to fss
-doubles doublings 0 translate --to ttl
-doubles complements 5 translate --to ttl
-grows disjoint 250 500 ttl 0 translate --to fss
 grows fronts 200 290 ofn 0 translate --to fss
 grows fronts 200 290 ofn 0 translate --to ttl
-grows bases 1000 2000 ttl 0 show
 
 echo "$passed passed, $failed failed"
 ((failed == 0))
