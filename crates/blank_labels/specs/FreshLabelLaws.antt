@@ -5,7 +5,7 @@ use Rattle.std.specs.Char.{is_ascii_digit}
 use Rattle.std.specs.Cmp.{nat_cmp_is}
 use Rattle.std.specs.FinMap.{nat_cmp-IsAntisymmetric}
 use Rattle.std.specs.Fmt.{decimal}
-use Rattle.std.specs.List.{list_all}
+use Rattle.std.specs.List.{flat_map, list_all}
 use Rattle.std.specs.Ordering.{nat_cmp}
 use Rattle.std.specs.declared.cmp.Ordering.TheVariants.{Less, Equal, Greater}
 use Rattle.std.specs.Str.Parse.{digits_value}
@@ -15,15 +15,16 @@ use Rattle.std.proofs.lemmas.Cmp.{nat_cmp_total}
 use Rattle.std.proofs.lemmas.Fmt.{digits_decimal, digits_value-decimal, first_decimal, length-decimal-le}
 use Rattle.std.proofs.lemmas.Grind.{flat_map-append}
 use Rattle.std.proofs.lemmas.List.{append-nil, append_assoc}
-use Rattle.std.proofs.lemmas.List.Elements.{Contains-append_left, Contains-append_right}
+use Rattle.std.proofs.lemmas.List.Elements.{Contains-append_cases, Contains-append_left, Contains-append_right}
 use Rattle.std.proofs.lemmas.Str.Parse.{digits_value_short}
 use Rattle.std.specs.declared.cmp.Ordering.{Ordering}
-use Rattle.owl_list.specs.Ascending.{IsAscending, ascending, by_order, put}
-use Rattle.owl_list.specs.AscendingLaws.{all_in, ascending_ascends, ascending_holds, head_below, in_cases, in_head, in_none, tail_ascends}
+use Rattle.owl_list.specs.Ascending.{HoldSame, IsAscending, ascending, by_order, put}
+use Rattle.owl_list.specs.AscendingLaws.{all_in, ascending_ascends, ascending_holds, ascending_same, head_below, in_cases, in_head, in_none, in_tail, same_sym, tail_ascends}
 use Rattle.owl_characters.specs.Names.{IsLabel}
 use Rattle.blank_labels.specs.Labels.{label_number, labelled}
 use Rattle.blank_labels.specs.LabelLaws.{counted, decimal_digits, label_number_below, label_of_digits, numerals, same_labelled, value_back}
-use Rattle.blank_labels.specs.FreshLabels.{Counts, LabelNumbers, are_far, arranged, far_number, far_numbers, far_ones, fresh_name, greatest_number, names_beside, no_numbers, numbered_label, or_none, passing}
+use Rattle.blank_labels.specs.FreshLabels.{are_far, far_number, far_numbers, far_ones, fresh_name, greatest_number, numbered_label, or_none, passing}
+use Rattle.blank_labels.specs.LabelNumbers.{Counts, LabelNumbers, arranged, names_beside, no_numbers}
 
 -- Numbers that pass over those that are taken.
 
@@ -211,6 +212,57 @@ pub fresh_is_label : (labels : List (List ℕ)) (n : ℕ) → n + length labels 
 fresh_is_label labels n few =
     let low = number_below labels n few in
     subst IsLabel (sym (named labels n)) (label_of_digits (decimal (number labels n)) (decimal_digits (number labels n) (omega (arith, low))))
+
+-- What stands in one of the lists of the elements.
+module _ {X Y : Type 0} (f : X → List Y) where
+  pub in_flat : (xs : List X) (x : X) (y : Y) → Contains xs x → Contains (f x) y → Contains (flat_map f xs) y
+  in_flat [] x y m n = absurd (in_none x m)
+  in_flat (z ∷ zs) x y m n =
+      elim (in_cases z zs x m) [
+        | inl e ↦ Contains-append_left (f z) (flat_map f zs) y (subst (λ (w : X). Contains (f w) y) (sym e) n)
+        | inr k ↦ Contains-append_right (f z) (flat_map f zs) y (in_flat zs x y k n)
+      ]
+
+  pub record IsOfOne (xs : List X) (y : Y) : Type 0 where
+    pub element : X
+    pub inside : Contains xs element
+    pub stands : Contains (f element) y
+
+  pub from_flat : (xs : List X) (y : Y) → Contains (flat_map f xs) y → IsOfOne xs y
+  from_flat [] y m = absurd (in_none y m)
+  from_flat (z ∷ zs) y m =
+      elim (Contains-append_cases (f z) (flat_map f zs) y m) [
+        | inl n ↦ record { element = z; inside = in_head z zs; stands = n }
+        | inr n ↦ let it = from_flat zs y n in record { element = it.element; inside = in_tail z zs it.element it.inside; stands = it.stands }
+      ]
+
+  through_flat : (xs ys : List X) → HoldSame xs ys → (y : Y) → Contains (flat_map f xs) y → Contains (flat_map f ys) y
+  through_flat xs ys h y m = let it = from_flat xs y m in in_flat ys it.element y ((h it.element).0 it.inside) it.stands
+
+  pub same_flat : (xs ys : List X) → HoldSame xs ys → HoldSame (flat_map f xs) (flat_map f ys)
+  same_flat xs ys h = λ y. (through_flat xs ys h y, through_flat ys xs (same_sym xs ys h) y)
+
+-- They go by the set of the labels.
+
+max_within : (a b c : ℕ) → a ≤ c → b ≤ c → max a b ≤ c
+max_within a b c h k = omega (arith, h, k)
+
+greatest_within : (labels others : List (List ℕ)) → ((label : List ℕ) → Contains labels label → Contains others label) → greatest_number labels ≤ greatest_number others
+greatest_within [] others h = omega arith
+greatest_within (l ∷ ls) others h =
+    let first = in_greatest others l (h l (in_head l ls)) in
+    let rest = greatest_within ls others (λ label m. h label (in_tail l ls label m)) in
+    max_within (label_number l) (greatest_number ls) (greatest_number others) first rest
+
+greatest_same : (ls ms : List (List ℕ)) → HoldSame ls ms → greatest_number ls ≡ greatest_number ms
+greatest_same ls ms h = omega (arith, greatest_within ls ms (λ label m. (h label).0 m), greatest_within ms ls (λ label m. (h label).1 m))
+
+far_same : (ls ms : List (List ℕ)) → HoldSame ls ms → far_numbers ls ≡ far_numbers ms
+unfolding far_numbers
+far_same ls ms h = ascending_same nat_cmp nat_cmp_total nat_cmp-IsAntisymmetric (far_ones ls) (far_ones ms) (same_flat (λ label. or_none (far_number label)) ls ms h)
+
+pub fresh_same : (ls ms : List (List ℕ)) → HoldSame ls ms → fresh_name ls ≡ fresh_name ms
+fresh_same ls ms h = λ i. λ n. numbered_label (greatest_same ls ms h i) (far_same ls ms h i) n
 
 -- Labels that were counted.
 

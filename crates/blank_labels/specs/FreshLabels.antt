@@ -1,6 +1,6 @@
 -- Labels for blank nodes that have none in a document or an ontology (RDF 1.1 Turtle, section 7.2: each stands for a blank node of
 -- its own).
-use Rattle.std.specs.Prelude.{◌≡◌, ℕ, suc, ◌+◌, Bool, ◌&&◌, cond, max, nat_eq, nat_le, List, [], ◌∷◌, ◌++◌, codes, drop, get_or, length, not, Option, None, Some}
+use Rattle.std.specs.Prelude.{ℕ, suc, ◌+◌, Bool, ◌&&◌, cond, max, nat_eq, nat_le, List, [], ◌∷◌, codes, drop, get_or, length, not, Option, None, Some}
 use Rattle.std.specs.Char.{is_ascii_digit}
 use Rattle.std.specs.List.{flat_map, list_all, starts_with}
 use Rattle.std.specs.Ordering.{nat_cmp}
@@ -47,24 +47,3 @@ numbered_label greatest taken n = labelled (passing taken (greatest + 1 + n))
 -- The label of the blank node with this number among those that have none, beside these labels.
 abbrev pub fresh_name : List (List ℕ) → ℕ → List ℕ
 fresh_name labels n = numbered_label (greatest_number labels) (far_numbers labels) n
-
--- What is known of labels that were counted: the greatest number of at most 18 digits, and the numbers of 19 digits, as they came.
-pub record LabelNumbers : Type 0 where
-  pub greatest : ℕ
-  pub far : List ℕ
-
-abbrev pub no_numbers : LabelNumbers
-no_numbers = record { greatest = 0; far = [] }
-
--- these labels were counted since
-pub record Counts (old new : LabelNumbers) (labels : List (List ℕ)) : Type 0 where
-  pub greatest : new.greatest ≡ max old.greatest (greatest_number labels)
-  pub far : new.far ≡ old.far ++ far_ones labels
-
--- the numbers of 19 digits in ascending order
-abbrev pub arranged : LabelNumbers → LabelNumbers
-arranged numbers = record numbers { far = ascending nat_cmp numbers.far }
-
--- the labels of nodes by their numbers, beside those of such numbers
-abbrev pub names_beside : LabelNumbers → ℕ → List ℕ
-names_beside numbers n = numbered_label numbers.greatest numbers.far n

@@ -1,7 +1,8 @@
 //! Labels for blank nodes that have none.
 
 ghost use Rattle.std.specs.Prelude.{◌≡◌, ◌+◌, ◌∷◌, [], IfOk, IfSome, OnOk};
-ghost use Rattle.blank_labels.specs.FreshLabels.{Counts, arranged, names_beside, no_numbers, passing};
+ghost use Rattle.blank_labels.specs.FreshLabels.{passing};
+ghost use Rattle.blank_labels.specs.LabelNumbers.{Counts, arranged, names_beside, no_numbers};
 
 use crate::far::{far_number, passing};
 use crate::labels::{label_number, labelled};
@@ -20,9 +21,9 @@ pub struct LabelNumbers {
 }
 
 impl Model for LabelNumbers {
-    ghost use Rattle.blank_labels.specs.FreshLabels as fresh;
+    ghost use Rattle.blank_labels.specs.LabelNumbers as numbers;
 
-    ghost Value = { fresh.LabelNumbers };
+    ghost Value = { numbers.LabelNumbers };
 
     ghost view = { λ n. record { greatest = n.greatest; far = n.far.items } };
 }
@@ -71,9 +72,9 @@ pub struct FreshLabels {
 }
 
 impl Model for FreshLabels {
-    ghost use Rattle.blank_labels.specs.FreshLabels as fresh;
+    ghost use Rattle.blank_labels.specs.LabelNumbers as numbers;
 
-    ghost Value = { fresh.LabelNumbers };
+    ghost Value = { numbers.LabelNumbers };
 
     ghost view = { λ f. record { greatest = f.greatest; far = f.taken.items } };
 }

@@ -6,7 +6,7 @@ use Rattle.std.proofs.lemmas.List.{append-nil, append_assoc}
 use Rattle.owl_tree.specs.Trees.{Tree}
 use Rattle.rdf_graph.specs.declared.triple.Triple.{Triple}
 use Rattle.rdf_forward.specs.declared.writer.Writer.{Writer}
-use Rattle.blank_labels.specs.FreshLabels.{names_beside}
+use Rattle.blank_labels.specs.LabelNumbers.{names_beside}
 use Rattle.rdf_mapping.specs.Forms.{Form, blank, first_iri, link, list_form, nodes, rest_iri, term_of, triples}
 use Rattle.rdf_mapping.specs.Arenas.{forms_at}
 use Rattle.rdf_forward.specs.Walks.{Leads, Writes, WritesForm, is_none, names, rest_term}

@@ -3,11 +3,10 @@ use Rattle.std.proofs.Common.{◌≡◌, ◌<◌, ◌≤◌, ℕ, suc, List, [],
 use Rattle.std.specs.Prelude.{max}
 use Rattle.std.specs.List.{AllByRecursion, flat_map}
 use Rattle.std.proofs.lemmas.Grind.{flat_map-append}
-use Rattle.std.proofs.lemmas.List.{append-nil, append_assoc}
 use Rattle.owl_arena.specs.Held.{Held, tree_at, trees_at}
 use Rattle.owl_doc.specs.Documents.{Document, ontology_of}
 use Rattle.owl_tree.specs.Trees.{Tree, Kids, leaf, node, no_kids, kid, atom_in, kids_in, list_of}
-use Rattle.blank_labels.specs.FreshLabels.{Counts, LabelNumbers}
+use Rattle.blank_labels.specs.LabelNumbers.{Counts, LabelNumbers}
 use Rattle.blank_labels.specs.FreshLabelLaws.{counts_both, counts_none}
 use Rattle.rdf_mapping.specs.Graphs.{all_labels_in, labels_in, labels_of}
 

@@ -15,7 +15,7 @@ use Rattle.rdf_forward.specs.declared.drawn.Drawn.{Drawn}
 use Rattle.rdf_forward.specs.declared.drawn.Drawn.TheVariants as drawn
 use Rattle.rdf_forward.specs.declared.drawn.Next.{Next}
 use Rattle.rdf_forward.specs.declared.writer.Writer.{Writer}
-use Rattle.blank_labels.specs.FreshLabels.{names_beside}
+use Rattle.blank_labels.specs.LabelNumbers.{names_beside}
 use Rattle.rdf_mapping.specs.Forms.{Form, Arcs, plain, arc_nodes, arc_triples, first_iri, link, list_form, nodes, rest_iri, triples}
 use Rattle.rdf_mapping.specs.Drawing.{Kid, Placed, form_of, listed, placed, placed_at, placed_by}
 

@@ -2,7 +2,8 @@
 
 ghost use Rattle.std.specs.Prelude.{◌≡◌, ◌<◌, IfOk, OnOk, length};
 ghost use Rattle.std.specs.List.{flat_map};
-ghost use Rattle.blank_labels.specs.FreshLabels.{Counts, fresh_name, names_beside};
+ghost use Rattle.blank_labels.specs.FreshLabels.{fresh_name};
+ghost use Rattle.blank_labels.specs.LabelNumbers.{Counts, names_beside};
 ghost use Rattle.owl_arena.specs.Held.{AreHeld, tree_at, trees_at};
 ghost use Rattle.owl_doc.specs.Documents.{ontology_of};
 ghost use Rattle.rdf_mapping.specs.Graphs.{labels_in, labels_of};
@@ -34,11 +35,7 @@ fn count_document(numbers: &mut LabelNumbers, doc: &Doc) -> Result<(), NoMemory>
 
 /// Counts the labels of trees.
 #[cycle(labels)]
-fn count_trees(
-    numbers: &mut LabelNumbers,
-    arena: &Arena,
-    ids: &[ExprId],
-) -> Result<(), NoMemory>
+fn count_trees(numbers: &mut LabelNumbers, arena: &Arena, ids: &[ExprId]) -> Result<(), NoMemory>
     requires { AreHeld arena.now.trees ids.now }
     ensures { OnOk result (Counts numbers.old numbers.new
         (flat_map labels_in (trees_at arena.now.trees ids.now))) }

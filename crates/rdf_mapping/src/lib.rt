@@ -15,10 +15,10 @@ pub use graph_laws::{
 };
 pub use laws::{
     axioms_are_told_by_their_triples, axioms_with_nodes_are_drawn, expressions_have_rows,
-    forms_are_kept_apart, graphs_keep_their_groups,
-    groups_are_kept_apart, leaves_are_drawn, linked_axioms_are_drawn, lists_are_drawn,
-    nodes_are_by_their_own_triples, nodes_are_drawn, nodes_are_of_the_rows_that_they_spell,
-    parts_are_drawn, statements_are_kept, trees_are_drawn, trees_are_written_as_equivalent_ones,
+    forms_are_kept_apart, graphs_keep_their_groups, groups_are_kept_apart, leaves_are_drawn,
+    linked_axioms_are_drawn, lists_are_drawn, nodes_are_by_their_own_triples, nodes_are_drawn,
+    nodes_are_of_the_rows_that_they_spell, parts_are_drawn, statements_are_kept, trees_are_drawn,
+    trees_are_written_as_equivalent_ones,
 };
 pub use note_laws::{
     annotation_properties_make_no_node, annotation_sets_are_read_back,

@@ -7,6 +7,7 @@ pub mod TypedLiterals
 pub mod TypedLiteralLaws
 pub mod States
 pub mod Labels
+pub mod LabelLaws
 pub mod Runs
 pub mod RunLaws
 pub mod Rules

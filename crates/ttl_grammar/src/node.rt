@@ -8,7 +8,7 @@ use std::alloc::Global;
 
 /// An IRI or a blank node. A blank node without a label is told by its number,
 /// from 0 on, in the order in which they appear.
-#[derive(Debug, Drop)]
+#[derive(Debug, Drop, PartialEq, Eq, Hash)]
 pub enum Node {
     Iri(Iri),
     Label(Label),
@@ -16,14 +16,14 @@ pub enum Node {
 }
 
 /// What may be the object of a triple.
-#[derive(Debug, Drop)]
+#[derive(Debug, Drop, PartialEq, Eq, Hash)]
 pub enum Object {
     Node(Node),
     Literal(Literal),
 }
 
 /// A triple of such nodes.
-#[derive(Debug, Drop)]
+#[derive(Debug, Drop, PartialEq, Eq, Hash)]
 pub struct NodeTriple {
     pub subject: Node,
     pub predicate: Iri,

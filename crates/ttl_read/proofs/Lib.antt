@@ -6,3 +6,6 @@ pub mod Tables
 pub mod Turns
 pub mod Finished
 pub mod Gathering
+pub mod Repeats
+pub mod SameFacts
+pub mod Closing

@@ -192,7 +192,12 @@ impl Assembler {
             → TurnsTo Holds result self.new (limited state) }
     {
         let facts = mem::replace(&mut self.facts, Facts::new(self.alloc));
-        self.graph = graph_of(self.alloc, facts.into_triples()).map_err(of_graph)?;
-        Ok(())
+        match graph_of(self.alloc, facts.into_triples()) {
+            Ok(graph) => {
+                self.graph = graph;
+                Ok(())
+            }
+            Err(fault) => Err(of_graph(fault)),
+        }
     }
 }

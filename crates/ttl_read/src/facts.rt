@@ -3,9 +3,11 @@
 ghost use Rattle.std.specs.Prelude.{◌≡◌, ◌+◌, ◌-◌, length, take, None, Ok, Some, IfErr, IfOk, OnOk};
 ghost use Rattle.ttl_grammar.specs.States as stated;
 ghost use Rattle.ttl_grammar.specs.States.{bracket_opened, cell_added, closed, collection_closed, collection_opened, element_added, iri_in, last_nest, no_nest, node_in, node_term, opened, start, with_object, with_predicate, with_subject, with_triple};
-ghost use Rattle.ttl_read.specs.Computing.{Turns};
+ghost use Rattle.ttl_read.specs.Computing.{Turns, TurnsTo};
+ghost use Rattle.ttl_read.specs.Showing.{AreSame};
 
 use crate::vocabulary::{first, nil, rest};
+use indexmap::IndexSet;
 use owl_atom::Iri;
 use owl_characters::NoMemory;
 use owl_reader::TokenFault;
@@ -18,7 +20,8 @@ use ttl_grammar::{Nest, Node, NodeTriple, Object};
 const MOST_NESTS: usize = 512;
 
 /// What was read of triples, which contracts see as the facts of a state of a
-/// parser (RDF 1.1 Turtle, section 7.1).
+/// parser (RDF 1.1 Turtle, section 7.1). A triple that is stated again is not kept,
+/// so that what is held grows with the graph.
 #[derive(Debug, Drop)]
 pub struct Facts {
     alloc: Global,
@@ -26,7 +29,8 @@ pub struct Facts {
     nest: Nest,
     outer: Vec<Nest>,
     unlabelled: u64,
-    triples: Vec<NodeTriple>,
+    /// The triples, each once.
+    triples: IndexSet<NodeTriple>,
 }
 
 impl Model for Facts {
@@ -39,7 +43,7 @@ impl Model for Facts {
       nest = f.nest;
       outer = f.outer.items;
       unlabelled = f.unlabelled;
-      triples = f.triples.items;
+      triples = f.triples.keys;
     } };
 }
 
@@ -54,13 +58,13 @@ impl Facts {
             nest: no_nest(),
             outer: Vec::new(alloc),
             unlabelled: 0,
-            triples: Vec::new(alloc),
+            triples: IndexSet::new(alloc),
         }
     }
 
-    /// The triples.
-    pub fn into_triples(self) -> Vec<NodeTriple>
-        ensures { result.items ≡ self.triples }
+    /// The triples, each once.
+    pub fn into_triples(self) -> IndexSet<NodeTriple>
+        ensures { result.keys ≡ self.triples }
     {
         self.triples
     }
@@ -88,7 +92,7 @@ impl Facts {
 
     /// The term is an object.
     pub fn add_object(&mut self) -> Result<(), NoMemory>
-        ensures { OnOk result (self.new ≡ with_object self.old) }
+        ensures { OnOk result (AreSame self.new (with_object self.old)) }
     {
         let subject = copy_node(self.alloc, &self.nest.subject)?;
         let predicate = copy_iri(self.alloc, &self.nest.predicate)?;
@@ -103,7 +107,8 @@ impl Facts {
         predicate: Option<Iri>,
         object: Option<Object>,
     ) -> Result<(), NoMemory>
-        ensures { OnOk result (self.new ≡ with_triple subject predicate object self.old) }
+        ensures { OnOk result (AreSame self.new
+            (with_triple subject predicate object self.old)) }
     {
         if let (Some(subject), Some(predicate), Some(object)) = (subject, predicate, object) {
             let triple = NodeTriple {
@@ -111,7 +116,7 @@ impl Facts {
                 predicate,
                 object,
             };
-            self.triples.push(triple).map_err(AllocError::from)?;
+            self.triples.insert(triple).map_err(AllocError::from)?;
         }
         Ok(())
     }
@@ -168,10 +173,10 @@ impl Facts {
 
     /// A cell of the list appears.
     pub fn add_cell(&mut self) -> Result<(), TokenFault>
-        ensures { Turns result self.new (Ok (cell_added self.old)) }
+        ensures { TurnsTo AreSame result self.new (Ok (cell_added self.old)) }
     {
         let number = self.unlabelled;
-        let last = self.nest.subject.take();
+        let last = copy_node(self.alloc, &self.nest.subject)?;
         let rest = rest(self.alloc)?;
         let cell = Object::Node(Node::Unlabelled(number));
         self.add_triple(last, Some(rest), Some(cell))?;
@@ -187,7 +192,7 @@ impl Facts {
 
     /// The term is the element of the cell.
     pub fn add_element(&mut self) -> Result<(), NoMemory>
-        ensures { OnOk result (self.new ≡ element_added self.old) }
+        ensures { OnOk result (AreSame self.new (element_added self.old)) }
     {
         let cell = copy_node(self.alloc, &self.nest.subject)?;
         let first = first(self.alloc)?;
@@ -197,9 +202,9 @@ impl Facts {
 
     /// Closes a list.
     pub fn close_collection(&mut self) -> Result<(), NoMemory>
-        ensures { OnOk result (self.new ≡ collection_closed self.old) }
+        ensures { OnOk result (AreSame self.new (collection_closed self.old)) }
     {
-        let last = self.nest.subject.take();
+        let last = copy_node(self.alloc, &self.nest.subject)?;
         let rest = rest(self.alloc)?;
         let end = Object::Node(Node::Iri(nil(self.alloc)?));
         self.add_triple(last, Some(rest), Some(end))?;

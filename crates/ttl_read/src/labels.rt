@@ -1,7 +1,8 @@
 //! Labels for the blank nodes that have none.
 
 ghost use Rattle.std.specs.Prelude.{◌≡◌, ◌<◌, ◌≤◌, ◌++◌, IfOk, IsErrOf, OnOk, length, map};
-ghost use Rattle.blank_labels.specs.FreshLabels.{Counts, fresh_name, names_beside};
+ghost use Rattle.blank_labels.specs.FreshLabels.{fresh_name};
+ghost use Rattle.blank_labels.specs.LabelNumbers.{Counts, names_beside};
 ghost use Rattle.owl_list.specs.Ascending.{HoldSame};
 ghost use Rattle.rdf_graph.specs.declared.fault.GraphFault.{GraphFault};
 ghost use Rattle.rdf_graph.specs.Graphs.{most_triples, set_of};
@@ -9,6 +10,7 @@ ghost use Rattle.rdf_graph.specs.Terms.{IsSubject};
 ghost use Rattle.ttl_grammar.specs.Labels.{graph_of, labels_of, named, named_object, named_triple, node_labels, object_labels, triple_labels};
 
 use blank_labels::{FreshLabels, LabelNumbers};
+use indexmap::IndexSet;
 use owl_characters::NoMemory;
 use rdf_graph::{Gather, Graph, GraphFault, Term, Triple};
 use std::alloc::{AllocError, Global};
@@ -88,10 +90,10 @@ fn named_triple(alloc: Global, labels: &FreshLabels, triple: NodeTriple) -> Resu
 
 /// The triples with all labels, gathered. Those of IRIs come first, as in a graph,
 /// so that a document in which they ascend has little to sort.
-fn gathered(alloc: Global, triples: Vec<NodeTriple>) -> Result<Gather, NoMemory>
-    ensures { IfOk result (λ gather. set_of gather ≡ graph_of triples.items) }
+fn gathered(alloc: Global, triples: IndexSet<NodeTriple>) -> Result<Gather, NoMemory>
+    ensures { IfOk result (λ gather. set_of gather ≡ graph_of triples.keys) }
 {
-    let labels = fresh_labels(alloc, &triples)?;
+    let labels = fresh_labels(alloc, triples.as_slice())?;
     let mut gather = Gather::new(alloc);
     let others = gather_of_iris(alloc, &labels, triples, &mut gather)?;
     gather_all(alloc, &labels, others, &mut gather)?;
@@ -102,12 +104,12 @@ fn gathered(alloc: Global, triples: Vec<NodeTriple>) -> Result<Gather, NoMemory>
 fn gather_of_iris(
     alloc: Global,
     labels: &FreshLabels,
-    triples: Vec<NodeTriple>,
+    triples: IndexSet<NodeTriple>,
     gather: &mut Gather,
 ) -> Result<Vec<NodeTriple>, NoMemory>
     ensures { IfOk result (λ others.
         HoldSame (gather.new ++ map (named_triple (names_beside labels.now)) others.items)
-        (gather.old ++ map (named_triple (names_beside labels.now)) triples.items)) }
+        (gather.old ++ map (named_triple (names_beside labels.now)) triples.keys)) }
 {
     let mut others = Vec::new(alloc);
     for triple in triples {
@@ -142,11 +144,11 @@ fn gather_all(
 
 /// The graph of triples, once all blank nodes have labels. `TooMany` exactly
 /// where it has more than 2^24 triples.
-pub fn graph_of(alloc: Global, triples: Vec<NodeTriple>) -> Result<Graph, GraphFault>
-    ensures ok { IfOk result (λ graph. graph ≡ graph_of triples.items) }
-    ensures few { IfOk result (λ graph. length (graph_of triples.items) ≤ most_triples) }
+pub fn graph_of(alloc: Global, triples: IndexSet<NodeTriple>) -> Result<Graph, GraphFault>
+    ensures ok { IfOk result (λ graph. graph ≡ graph_of triples.keys) }
+    ensures few { IfOk result (λ graph. length (graph_of triples.keys) ≤ most_triples) }
     ensures too_many { IsErrOf result GraphFault.TooMany
-        → most_triples < length (graph_of triples.items) }
+        → most_triples < length (graph_of triples.keys) }
 {
     match gathered(alloc, triples) {
         Ok(gather) => gather.finish_without_index(),

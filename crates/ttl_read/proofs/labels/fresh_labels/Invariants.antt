@@ -1,5 +1,5 @@
 use Rattle.std.proofs.Common.{take}
-use Rattle.blank_labels.specs.FreshLabels.{Counts, no_numbers}
+use Rattle.blank_labels.specs.LabelNumbers.{Counts, no_numbers}
 use Rattle.ttl_grammar.specs.Labels.{labels_of}
 use Rattle.ttl_read.proofs.labels.fresh_labels.Given as goal
 

@@ -1,6 +1,6 @@
 use Rattle.std.proofs.Common.{◌≡◌, ◌++◌, length, map}
 use Rattle.std.specs.Vec.Iter.{into_iter_items, into_iter_len}
-use Rattle.blank_labels.specs.FreshLabels.{names_beside}
+use Rattle.blank_labels.specs.LabelNumbers.{names_beside}
 use Rattle.ttl_grammar.specs.Labels.{named_triple}
 use Rattle.ttl_read.proofs.labels.gather_all.Given as goal
 
