@@ -1,6 +1,6 @@
 -- A graph says an ontology exactly where it has none of the faults.
 use Rattle.std.specs.Prelude.{◌≡◌, ℕ, true, ◌&&◌, IsTrue, List, [], ◌∷◌, ◌++◌, Contains}
-use Rattle.std.proofs.Common.{inl, inr, refl, subst}
+use Rattle.std.proofs.Common.{refl}
 use Rattle.std.proofs.lemmas.Bool.{and_parts, false_from_ne_true}
 use Rattle.owl_list.specs.AscendingLaws.{hold_same}
 use Rattle.owl_kind.specs.Kinds.{Entity}
@@ -22,12 +22,12 @@ use Rattle.rdf_faults.specs.Faults.{IsBadHeader, no_axiom, no_note}
 use Rattle.rdf_faults.specs.Faultless.{IsFaultless}
 use Rattle.rdf_faults.specs.FaultLaws.{no_bad_cell, no_bad_header, no_bad_node, no_cyclic, no_mixed, no_note_of_nothing, no_orphan, no_untyped_part, no_untyped_statement}
 use Rattle.rdf_faults.specs.FormLaws.{formed_is_sound}
-use Rattle.rdf_faults.specs.DecidedLaws.{decided_role, stable}
-use Rattle.rdf_faults.specs.DecidedFormLaws.{decided_formed}
+use Rattle.rdf_faults.specs.DecidedLaws.{stable}
 use Rattle.rdf_faults.specs.DecidedHeadLaws.{HasHead, decided_head}
 use Rattle.rdf_faults.specs.DecidedReachLaws.{decided_reached, decided_reifies}
-use Rattle.rdf_faults.specs.DecidedTypeLaws.{decided_axiom, decided_note, decided_typed}
+use Rattle.rdf_faults.specs.DecidedTypeLaws.{decided_axiom, decided_note}
 use Rattle.rdf_faults.specs.ReadLaws.{node_said, triple_said}
+use Rattle.rdf_faults.specs.SoundLaws.{all_cells, all_formed, all_typed, labels_formed}
 use Rattle.rdf_faults.specs.SaidNoteLaws.{annotation_says, has_variants, main_says}
 use Rattle.rdf_faults.specs.WayDownLaws.{none_below, none_under}
 
@@ -61,25 +61,16 @@ module _ (g : List Triple) (k : List Entity) (h : IsFaultless g k) where
   -- the facts that the faults deny
 
   label_formed : (label : List ℕ) → IsFormedAs g (role_of g (Blank label)) (Blank label)
-  label_formed label =
-      stable (decided_formed g (role_of g (Blank label)) (Blank label)) (λ n.
-      elim (decided_role (role_of g (Blank label)) role.List) [
-        | inl l ↦ h.no_bad_cell label (record { cell = l; not_formed = n })
-        | inr o ↦ h.no_bad_node label (record { no_cell = o; not_formed = n })
-      ])
+  label_formed = labels_formed g h.no_bad_cell h.no_bad_node
 
   formed : (x : Term) → IsFormedAs g (role_of g x) x
-  formed (Iri iri) = tt
-  formed (Blank label) = label_formed label
-  formed (Literal literal) = tt
+  formed = all_formed g h.no_bad_cell h.no_bad_node
 
   cells : (x : Term) → role_of g x ≡ role.List → IsCell g x
-  cells x e = subst (λ r. IsFormedAs g r x) e (formed x)
+  cells = all_cells g h.no_bad_cell h.no_bad_node
 
   typed : (t : Triple) → Contains g t → is_structural g t ≡ true → IsTyped g k t
-  typed t m s =
-      stable (decided_typed g k h.no_cyclic cells (role_of g t.subject) t) (λ n.
-      h.no_untyped_part t (record { inside = m; structural = s; untyped = n }))
+  typed = all_typed g h.no_bad_cell h.no_bad_node k h.no_cyclic h.no_untyped_part
 
   axiom_typed : (t : Triple) → Contains (main_triples g k h.header) t → IsTypedAxiom g k t
   axiom_typed t m = stable (decided_axiom g k h.no_cyclic cells t) (λ n. h.no_untyped_statement t (no_axiom m n))

@@ -27,3 +27,4 @@ pub mod DecidedReachLaws
 pub mod DecidedHeadLaws
 pub mod ConverseLaws
 pub mod WorkedCases
+pub mod SoundLaws

@@ -16,7 +16,7 @@ use Rattle.rdf_meaning.specs.NodeLaws.{in_subject, nodes_are, own_term, same_ter
 use Rattle.rdf_meaning.specs.RowLaws.{same_role}
 use Rattle.rdf_meaning.specs.AxiomLaws.{triples_have_notes}
 use Rattle.rdf_meaning.specs.StatementLaws.{variants_are}
-use Rattle.rdf_meaning.specs.Statements.{Annotates, AreSets, no_set, set, HasNote, InSteps, one_step, one_more, IsDirectlyNotedUnder, an_axiom, an_annotation, Says, Variants, header_notes, is_annotation_triple, noters, notes_of, reifies}
+use Rattle.rdf_meaning.specs.Statements.{Annotates, AreSets, no_set, set, HasNote, InSteps, one_step, one_more, IsDirectlyNotedUnder, an_axiom, an_annotation, Says, Variants, header_notes, is_annotation_triple, noters, notes, notes_of, reifies}
 use Rattle.rdf_faults.specs.Asked.{IsTypedNote}
 use Rattle.rdf_faults.specs.MeantLaws.{node_axiom, triple_axiom}
 
@@ -27,12 +27,12 @@ first_of_four true b c d h = refl
 first_of_four false b c d h = cc
 
 -- the triple is one of the header, of a node that stands for an axiom, or of a reification
-data IsAnnotationOf (g : List Triple) (header : Term) (t : Triple) : Type 0 where
+pub data IsAnnotationOf (g : List Triple) (header : Term) (t : Triple) : Type 0 where
   of_header : t.subject ≡ header → IsAnnotationOf g header t
   of_axiom : role_of g t.subject ≡ role.Main → is_structural g t ≡ false → IsAnnotationOf g header t
   of_note : role_of g t.subject ≡ role.Note → is_structural g t ≡ false → IsAnnotationOf g header t
 
-annotation_of : (g : List Triple) (k : List Entity) (header : Term) (t : Triple) → is_annotation_triple g k header t ≡ true → IsAnnotationOf g header t
+pub annotation_of : (g : List Triple) (k : List Entity) (header : Term) (t : Triple) → is_annotation_triple g k header t ≡ true → IsAnnotationOf g header t
 unfolding is_annotation_triple
 annotation_of g k header t h =
     let r = role_of g t.subject in
@@ -46,7 +46,7 @@ annotation_of g k header t h =
           ]
     ]
 
-in_notes_of : (g : List Triple) (t : Triple) → Contains g t → is_structural g t ≡ false → Contains (notes_of g t.subject) t
+pub in_notes_of : (g : List Triple) (t : Triple) → Contains g t → is_structural g t ≡ false → Contains (notes_of g t.subject) t
 unfolding notes_of
 in_notes_of g t m n = in_filter (λ u. not (is_structural g u)) (of_subject g t.subject) t (in_subject g t.subject t m refl) (ap not n)
 
@@ -60,22 +60,30 @@ some_there : (us : List Triple) (u : Triple) → Contains us u → has_some us �
 some_there [] u m = absurd (in_none u m)
 some_there (v ∷ us) u m = refl
 
-in_noters : (g : List Triple) (s : Term) (t u : Triple) → role_of g s ≡ role.Note → reifies g s t ≡ true → Contains (notes_of g s) u → Contains (noters g t) s
+pub in_noters : (g : List Triple) (s : Term) (t u : Triple) → role_of g s ≡ role.Note → reifies g s t ≡ true → Contains (notes_of g s) u → Contains (noters g t) s
 unfolding noters
 in_noters g s t u e r m =
     in_filter _ (nodes_of g role.Note) s ((nodes_are g role.Note s (λ f. cc)).1 e)
     (and_from (reifies g s t) _ r (some_there (notes_of g s) u m))
 
 module _ (g : List Triple) (k : List Entity) where
-  each_set : (rs : List Term) (sets : List Tree) → AreSets g k rs sets → (s : Term) → Contains rs s → (ts : List Tree) × Annotates g k (notes_of g s) ts
+  -- the annotations of a term, whose set is one of these
+  pub record HasSet (sets : List Tree) (s : Term) : Type 0 where
+    pub trees : List Tree
+    pub annotates : Annotates g k (notes_of g s) trees
+    pub among : Contains sets (notes trees)
+
+  each_set : (rs : List Term) (sets : List Tree) → AreSets g k rs sets → (s : Term) → Contains rs s → HasSet sets s
   each_set _ _ (no_set) s m = absurd (in_none s m)
   each_set _ _ (set r rs ts sets a h) s m =
       elim (in_cases r rs s m) [
-        | inl e ↦ subst (λ y. (us : List Tree) × Annotates g k (notes_of g y) us) e (ts, a)
-        | inr n ↦ each_set rs sets h s n
+        | inl e ↦ subst (HasSet (notes ts ∷ sets)) e (record { trees = ts; annotates = a; among = in_head (notes ts) sets })
+        | inr n ↦
+            let own = each_set rs sets h s n in
+            record { trees = own.trees; annotates = own.annotates; among = in_tail (notes ts) sets (notes own.trees) own.among }
       ]
 
-  set_of : (t : Triple) (sets : List Tree) → Variants g k t sets → (s : Term) → Contains (noters g t) s → (ts : List Tree) × Annotates g k (notes_of g s) ts
+  pub set_of : (t : Triple) (sets : List Tree) → Variants g k t sets → (s : Term) → Contains (noters g t) s → HasSet sets s
   set_of t sets h s m =
       elim (variants_are g k t sets h) [
         | inl bare ↦ absurd (in_none s (subst (λ rs. Contains rs s) bare.0 m))
@@ -85,7 +93,8 @@ module _ (g : List Triple) (k : List Entity) where
   -- the annotations of a reification say something where what it reifies does
   reified_says : (s : Term) (t u : Triple) (sets : List Tree) → role_of g s ≡ role.Note → reifies g s t ≡ true → Variants g k t sets → Contains (notes_of g s) u → HasNote g k u
   reified_says s t u sets e r h m =
-      (triples_have_notes g k (notes_of g s)).0 (set_of t sets h s (in_noters g s t u e r m)) u m
+      let own = set_of t sets h s (in_noters g s t u e r m) in
+      (triples_have_notes g k (notes_of g s)).0 (own.trees, own.annotates) u m
 
 -- a list without one of its elements
 pub record IsWithout {A : Type 0} (xs : List A) (x : A) : Type 0 where
@@ -151,6 +160,18 @@ module _ (g : List Triple) (k : List Entity) (o : Ontology) (h : Says g k o) whe
         | inr c ↦ inr (one_further (IsDirectlyNotedUnder g) v s p c up)
       ]
 
+  notes_above : (Q : Term → Type 0) → ((s : Term) → role_of g s ≡ role.Note → ((p : Term) → role_of g p ≡ role.Note → IsDirectlyNotedUnder g s p → Q p) → Q s) → (n : ℕ) (left : List Term) → length left ≡ n → (s : Term) → role_of g s ≡ role.Note → IsLeft left s → Q s
+  notes_above Q closed zero left c s e seen = absurd (no_less (subst (λ n. 1 ≤ n) c (one_at_least left s (in_left left s e seen))))
+  notes_above Q closed (suc n) left c s e seen =
+      let w = without left s (in_left left s e seen) in
+      let count : length w.rest ≡ n = omega (arith, c, w.longer) in
+      closed s e (λ p f up. notes_above Q closed n w.rest count p f (fewer left s p w seen up))
+
+  -- what is true of a reification where it is true of those under which it is noted is true of each
+  pub by_notes_above : (Q : Term → Type 0) → ((s : Term) → role_of g s ≡ role.Note → ((p : Term) → role_of g p ≡ role.Note → IsDirectlyNotedUnder g s p → Q p) → Q s) → (s : Term) → role_of g s ≡ role.Note → Q s
+  by_notes_above Q closed s e =
+      notes_above Q closed (length (nodes_of g role.Note)) (nodes_of g role.Note) refl s e (λ v i. inl i)
+
   -- where the annotations that it reifies say something, so do its own
   note_from : (s : Term) → role_of g s ≡ role.Note → ((p : Term) → role_of g p ≡ role.Note → IsDirectlyNotedUnder g s p → (t : Triple) → Contains (notes_of g p) t → HasNote g k t) → (u : Triple) → Contains (notes_of g s) u → HasNote g k u
   note_from s e above u m =
@@ -168,20 +189,15 @@ module _ (g : List Triple) (k : List Entity) (o : Ontology) (h : Says g k o) whe
             reified_says g k s t u is.sets e r is.variants m
       ]
 
-  note_says : (n : ℕ) (left : List Term) → length left ≡ n → (s : Term) → role_of g s ≡ role.Note → IsLeft left s → (u : Triple) → Contains (notes_of g s) u → HasNote g k u
-  note_says zero left c s e seen u m = absurd (no_less (subst (λ n. 1 ≤ n) c (one_at_least left s (in_left left s e seen))))
-  note_says (suc n) left c s e seen u m =
-      let w = without left s (in_left left s e seen) in
-      let count : length w.rest ≡ n = omega (arith, c, w.longer) in
-      note_from s e (λ p f up. note_says n w.rest count p f (fewer left s p w seen up)) u m
+  note_says : (s : Term) → role_of g s ≡ role.Note → (u : Triple) → Contains (notes_of g s) u → HasNote g k u
+  note_says = by_notes_above (λ s. (u : Triple) → Contains (notes_of g s) u → HasNote g k u) note_from
 
   pub note_said : (t : Triple) → Contains g t → IsTrue (is_annotation_triple g k h.states.header t) → HasNote g k t
   note_said t m a =
       elim (annotation_of g k h.states.header t a) [
         | of_header f ↦ header_note t m f a
         | of_axiom f n ↦ main_note t m f n
-        | of_note f n ↦
-            note_says (length (nodes_of g role.Note)) (nodes_of g role.Note) refl t.subject f (λ v i. inl i) t (in_notes_of g t m n)
+        | of_note f n ↦ note_says t.subject f t (in_notes_of g t m n)
       ]
 
   pub note_typed : (t : Triple) → Contains g t → IsTrue (is_annotation_triple g k h.states.header t) → IsTypedNote g k t

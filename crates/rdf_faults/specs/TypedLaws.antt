@@ -24,7 +24,7 @@ use Rattle.rdf_meaning.specs.SoundLaws.{in_facets, plain_itself}
 use Rattle.rdf_meaning.specs.Statements.{IsPartOfAxiom, IsSoundAs, Says, main_triples}
 use Rattle.rdf_faults.specs.Asked.{IsAskedFor, suited, IsTyped, IsTypedAs, IsTypedAxiom, rows}
 use Rattle.rdf_faults.specs.Formed.{HasFormedRow, IsFormedAs}
-use Rattle.rdf_faults.specs.Meant.{HasPart, IsMeant, an_individual, a_tree, a_list, a_list_of_keys, an_axiom}
+use Rattle.rdf_faults.specs.Meant.{AnyTree, HasPart, IsMeant, an_individual, a_tree, a_list, a_list_of_keys, an_axiom}
 use Rattle.rdf_faults.specs.MeantLaws.{each_part, node_axiom, node_meant, pair_literal, triple_axiom}
 use Rattle.rdf_faults.specs.WantLaws.{axiom_known, expression_known, parts_formed, parts_met, suits, wants_known}
 
@@ -44,18 +44,18 @@ module _ (g : List Triple) (k : List Entity) where
     expression : (row : Row) → IsRowOf g k (of_node x) node_rows row → IsNode x
     main : (row : Row) → IsRowOf g k (of_node x) axiom_rows row → IsNode x
 
-  is_node : (x : Term) → IsMeant g k x → IsNode x
+  is_node : (x : Term) → IsMeant g k AnyTree x → IsNode x
   is_node _ (an_individual x e) = no_node e
-  is_node _ (a_tree x s ts d) =
+  is_node _ (a_tree x s ts d _) =
       elim (one_is g k s x ts d) [
         | itself u e _ ↦ elim (plain_itself g k s x u e) [ inl i ↦ no_node i | inr f ↦ facet f.0 u f.1 ]
         | with_row row us m a f held _ ↦ expression row (record { among = m; fits = f; kids = us; holds = held })
       ]
-  is_node _ (a_list x s ts l) =
+  is_node _ (a_list x s ts l _) =
       elim (list_is g k x s ts l) [ inl empty ↦ no_node (ap (role_of g) empty.0) | inr c ↦ list_cell c.list ]
-  is_node _ (a_list_of_keys x os ds are) =
+  is_node _ (a_list_of_keys x os ds are _ _) =
       elim (key_is g k x os ds are) [ inl empty ↦ no_node (ap (role_of g) empty.0) | inr c ↦ list_cell c.list ]
-  is_node _ (an_axiom x t ts is) =
+  is_node _ (an_axiom x t ts is _) =
       main is.row (record { among = is.among; fits = is.fits; kids = ts; holds = is.parts })
 
   -- where its role has rows it is of one of them

@@ -15,7 +15,7 @@ ghost use Rattle.rdf_faults.specs.Faults.{IsBadCell, IsBadHeader, IsBadNode, IsC
 ghost use Rattle.rdf_faults.specs.Faultless.{IsFaultless};
 ghost use Rattle.rdf_faults.specs.Firsts.{HoldsForNone, IsFirst};
 ghost use Rattle.rdf_faults.specs.Formed.{IsFormedAs};
-ghost use Rattle.rdf_faults.specs.Meant.{IsMeant};
+ghost use Rattle.rdf_faults.specs.Meant.{AnyTree, IsMeant};
 
 /// Laws: a node that has its form is sound.
 pub fn nodes_are_formed()
@@ -37,7 +37,7 @@ pub fn headers_have_no_fault()
 /// axiom stands for something.
 pub fn nodes_are_meant()
     ensures meant { (g : List Triple) (k : List Entity) (o : Ontology) → Says g k o → (x : Term)
-        → IsPartOfAxiom (role_of g x) → IsMeant g k x }
+        → IsPartOfAxiom (role_of g x) → IsMeant g k AnyTree x }
 {}
 
 /// Laws: each node of a graph that says an ontology has one role, and the form

@@ -163,7 +163,7 @@ declared_role g k t (Literal literal) u e = absurd (none-some u e)
 
 -- a node of a row
 
-same_at : (f h : Word → ℕ) (ws : List Word) (w : Word) → map f ws ≡ map h ws → Contains ws w → f w ≡ h w
+pub same_at : (f h : Word → ℕ) (ws : List Word) (w : Word) → map f ws ≡ map h ws → Contains ws w → f w ≡ h w
 same_at f h [] w e m = absurd (in_none w m)
 same_at f h (v ∷ ws) w e m =
     let first : f v ≡ h v = cc in
@@ -176,12 +176,13 @@ at_word w Subject want h = cc
 at_word w Predicate want h = cc
 at_word w Object want h = cc
 
-record IsPartAt (w : Word) (ps : List Part) : Type 0 where
+-- a part of these stands at the word
+pub record IsPartAt (w : Word) (ps : List Part) : Type 0 where
   pub p : Part
   pub inside : Contains ps p
   pub place : p.place ≡ At w
 
-part_at : (w : Word) (ps : List Part) → 1 ≤ times w ps → IsPartAt w ps
+pub part_at : (w : Word) (ps : List Part) → 1 ≤ times w ps → IsPartAt w ps
 part_at w ps n =
     let some = some_of (filter (stands_at w) ps) n in
     let kept = from_filter (stands_at w) ps some.0 some.1 in
