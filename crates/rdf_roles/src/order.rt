@@ -1,9 +1,9 @@
 //! The order of the nodes.
 
-ghost use Rattle.std.specs.Prelude.{◌≡◌, IfErr, IfOk, List, OnOk};
+ghost use Rattle.std.specs.Prelude.{◌≡◌, ℕ, IfErr, IfOk, List, OnOk, Some, slice_get};
 ghost use Rattle.rdf_graph.specs.declared.triple.Triple.{Triple};
 ghost use Rattle.rdf_roles.specs.Refusals.{AreNodesFormed, HaveCells, HaveNoCycle, HaveOneRole, IsCycleAt, IsNodeFault};
-ghost use Rattle.rdf_roles.specs.Tables.{IsNodeOrder, table_of};
+ghost use Rattle.rdf_roles.specs.Tables.{IsNodeOrder, blank_nodes, table_of};
 
 use crate::cells::check_cells;
 use crate::fault::NodeFault;
@@ -53,19 +53,22 @@ fn order_by_ways(
     let ways = ways_of(alloc, graph, table)?;
     match order_nodes(alloc, &ways)? {
         Order::Of(order) => Ok(order),
-        Order::Cycle(number) => Err(cycle_at(alloc, table, number)),
+        Order::Cycle(number) => {
+            let Some((label, _)) = node_at(table, number) else {
+                unreachable!();
+            };
+            Err(cycle_at(alloc, label))
+        }
     }
 }
 
-/// The fault that the node with this number is on a cycle.
-fn cycle_at(alloc: Global, table: &IndexMap<Label, Role>, number: usize) -> NodeFault
-    ensures { (g : List Triple) → table.now.entries ≡ table_of g → IsCycleAt g number result }
+/// The fault that the node with this label is on a cycle.
+fn cycle_at(alloc: Global, label: &Label) -> NodeFault
+    ensures { (g : List Triple) (number : ℕ)
+        → slice_get (blank_nodes g) number ≡ Some label.now → IsCycleAt g number result }
 {
-    match node_at(table, number) {
-        Some((label, _)) => match label.copy(alloc) {
-            Ok(node) => NodeFault::Cycle { node },
-            Err(_) => NodeFault::Memory,
-        },
-        None => NodeFault::Memory,
+    match label.copy(alloc) {
+        Ok(node) => NodeFault::Cycle { node },
+        Err(_) => NodeFault::Memory,
     }
 }
