@@ -43,7 +43,8 @@ use Rattle.rdf_rows.specs.declared.literals.Cardinality.TheVariants.{TooLarge}
 use Rattle.rdf_roles.specs.Tables.{RoleTable}
 use Rattle.rdf_nodes.specs.declared.form.Operand.{Operand}
 use Rattle.rdf_nodes.specs.ExpressionLaws.{expression_has_row}
-use Rattle.rdf_nodes.specs.Large.{HasLargeNumber, is_counting}
+use Rattle.rdf_nodes.specs.Large.{HasLargeNumber}
+use Rattle.rdf_nodes.specs.NumberLaws.{counts_at}
 use Rattle.rdf_nodes.specs.Numbers.{DenotesOwn}
 use Rattle.rdf_nodes.specs.OfSortLaws.{as_many_elements}
 use Rattle.rdf_nodes.specs.Operands.{AreElements, DenotesNone, IsCellWith, IsHeldAt, IsSmall, IsWantedOfNode, is_told_by_kind, sort_of}
@@ -158,12 +159,6 @@ is_of_class (TypedBy w) = false
 is_of_class OtherType = false
 is_of_class (LinkedBy w) = false
 is_of_class OtherLink = false
-
-abbrev counts_at : Place → Bool
-counts_at (At w) = is_counting w
-counts_at Subject = false
-counts_at Predicate = false
-counts_at Object = false
 
 abbrev may_want : Bool → Place → Want → Bool
 may_want class place (One sort.Number) = class && counts_at place

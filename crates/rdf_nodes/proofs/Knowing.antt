@@ -1,5 +1,5 @@
 -- The tree of each expression is held, where each expression has a number.
-use Rattle.std.specs.Prelude.{◌≡◌, ◌+◌, ◌<◌, ℕ, false, List, [], ◌∷◌, Contains, Option, None, Some, is_some, length, slice_get}
+use Rattle.std.specs.Prelude.{◌≡◌, ◌+◌, ◌<◌, ℕ, false, List, Contains, Option, None, Some, is_some, length, slice_get}
 use Rattle.std.specs.Map.{keys_of}
 use Rattle.std.proofs.Common.{inl, inr, arith, refl, ap, sym, subst, ◌∙◌, true≢false}
 use Rattle.std.proofs.lemmas.List.{length-map}
@@ -7,25 +7,19 @@ use Rattle.std.proofs.lemmas.Option.{none-some, same_Some, slice_get_within}
 use Rattle.owl_kind.specs.Kinds.{Entity}
 use Rattle.owl_tree.specs.declared.row.Sort.{Sort}
 use Rattle.owl_tree.specs.Trees.{Tree}
-use Rattle.rdf_graph.specs.declared.term.Term.{Term}
 use Rattle.rdf_graph.specs.declared.term.Term.TheVariants.{Blank}
 use Rattle.rdf_graph.specs.declared.triple.Triple.{Triple}
 use Rattle.rdf_meaning.specs.declared.role.Role.{Role}
-use Rattle.rdf_meaning.specs.declared.row.Want.TheVariants.{One}
-use Rattle.rdf_meaning.specs.Denotation.{Denotes}
-use Rattle.rdf_meaning.specs.DenotationLaws.{one_tree}
 use Rattle.rdf_meaning.specs.Kinds.{HaveNoClash}
 use Rattle.rdf_meaning.specs.Nodes.{role_of}
 use Rattle.rdf_roles.specs.NodeLaws.{no_role_of_others}
 use Rattle.rdf_roles.specs.Tables.{IsTableOf, RoleTable, blank_nodes}
 use Rattle.tree_stores.specs.StoreLaws.{shallow_tree}
 use Rattle.tree_stores.specs.Stores.{HasDepth, IsHeld}
+use Rattle.rdf_nodes.specs.ExpressionLaws.{own_same}
 use Rattle.rdf_nodes.specs.Numbers.{AreAllHeld, AreKnown, AreNumbered, AreShallow, DenotesOwn, IsKnown, IsNumbered}
 use Rattle.rdf_nodes.specs.Operands.{labels, sort_of}
 use Rattle.rdf_nodes.proofs.Labelling.{below_next, keys_with_role, look_up}
-
-same_first : (t u : Tree) → t ∷ [] ≡ u ∷ [] → t ≡ u
-same_first t u e = cc
 
 some_not : {A : Type 0} (o : Option A) (a : A) → o ≡ Some a → is_some o ≡ false → ⊥
 some_not o a e none = true≢false (sym (ap is_some e) ∙ none)
@@ -62,17 +56,12 @@ no_sort_of : (g : List Triple) (label : List ℕ) (s : Sort) (r : Role) → role
 no_sort_of g label s r is none gives = none-some s (sym none ∙ ap sort_of (sym is) ∙ gives)
 
 module _ (g : List Triple) (k : List Entity) where
-  own_same : HaveNoClash k → (x : Term) (t u : Tree) → DenotesOwn g k x t → DenotesOwn g k x u → t ≡ u
-  own_same clean x t u d e =
-      let sorts = same_Some e.sort d.sort (sym e.gives ∙ d.gives) in
-      same_first t u (one_tree g k clean x (One d.sort) (t ∷ []) d.denotes (u ∷ []) (subst (λ s. Denotes g k x (One s) (u ∷ [])) sorts e.denotes))
-
   numbered_held : (roles : RoleTable) {N : Type 0} (Stands : Tree → N → Type 0) (node : ℕ) (n : N) (label : List ℕ) (t : Tree) → HaveNoClash k → IsNumbered g k roles Stands node n →
       slice_get (labels roles) node ≡ Some label → DenotesOwn g k (Blank label) t → IsHeld Stands t
   numbered_held roles Stands node n label t clean i at own =
       let same = same_Some i.denoted.label label (sym i.denoted.at ∙ at) in
       let its = subst (λ l. DenotesOwn g k (Blank l) i.tree) same (record { sort = i.denoted.sort; gives = i.denoted.gives; denotes = i.denoted.denotes }) in
-      record { number = n; stands = subst (λ u. Stands u n) (own_same clean (Blank label) i.tree t its own) i.held }
+      record { number = n; stands = subst (λ u. Stands u n) (own_same g k clean (Blank label) i.tree t its own) i.held }
 
   pub all_held : (roles : RoleTable) {N : Type 0} (Stands : Tree → N → Type 0) (ns : List (Option N)) → IsTableOf g roles → AreNumbered g k roles Stands ns → AreKnown g roles ns → HaveNoClash k →
       AreAllHeld g k Stands

@@ -6,6 +6,5 @@ pub mod Finding
 pub mod Denoting
 pub mod Below
 pub mod Lengths
-pub mod Forming
 pub mod Passing
 pub mod Knowing

@@ -4,6 +4,8 @@ pub mod OfSortLaws
 pub mod Numbers
 pub mod Large
 pub mod Nodes
-pub mod Formed
 pub mod ExpressionLaws
 pub mod OrderLaws
+pub mod AmongLaws
+pub mod DenotedLaws
+pub mod NumberLaws

@@ -19,7 +19,7 @@ use Rattle.rdf_roles.specs.Tables.{RoleTable}
 use Rattle.rdf_nodes.specs.declared.form.Operand.{Operand}
 use Rattle.rdf_nodes.specs.Operands.{AreElements, no_cell, cell, IsOperand, by_itself, by_node, is_told_by_kind, sort_of}
 
-gives_sort : (r : Role) (s : Sort) → sort_of r ≡ Some s → role_gives r s ≡ true
+pub gives_sort : (r : Role) (s : Sort) → sort_of r ≡ Some s → role_gives r s ≡ true
 gives_sort role.Property sort.ObjectPropertyExpression e = refl
 gives_sort role.Class sort.ClassExpression e = refl
 gives_sort role.Range sort.DataRange e = refl

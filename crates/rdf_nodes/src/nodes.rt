@@ -7,6 +7,8 @@ ghost use Rattle.rdf_graph.specs.declared.term.Term.TheVariants.{Blank};
 ghost use Rattle.rdf_graph.specs.declared.triple.Triple.{Triple};
 ghost use Rattle.rdf_meaning.specs.Kinds.{HaveNoClash};
 ghost use Rattle.rdf_meaning.specs.Nodes.{role_of};
+ghost use Rattle.rdf_faults.specs.Faults.{IsUntypedPart};
+ghost use Rattle.rdf_roles.specs.Refusals.{AreNodesFormed};
 ghost use Rattle.rdf_roles.specs.Tables.{IsTableOf};
 ghost use Rattle.rdf_nodes.specs.Nodes.{AreDenoted, IsDenoteFault};
 ghost use Rattle.rdf_nodes.specs.Numbers.{IsDenotedAs};
@@ -55,14 +57,13 @@ impl Nodes {
 }
 
 /// The numbers of what the nodes of the graph stand for (Mapping to RDF Graphs,
-/// section 3.2), where these are the roles of the graph's nodes. The arena keeps
-/// the trees that it had, at their numbers, also where this refuses.
+/// section 3.2), where these are the roles of the graph's nodes, which `Roles::of`
+/// has found without a fault, and `untyped` finds no triple. The arena keeps the
+/// trees that it had, at their numbers, also where this refuses.
 ///
 /// In this order: `NumberTooLarge` where a cardinality of a class expression is
 /// 2^64 or more; `TooDeep` where a node stands for a tree of more than 128 levels;
-/// `TooHeavy` where one stands for a tree of more than 2^24 nodes and leaves. Where a
-/// node has the role of an expression and the form of none, this is `Memory`: in a
-/// graph that says an ontology there is no such node.
+/// `TooHeavy` where one stands for a tree of more than 2^24 nodes and leaves.
 pub fn denote(
     alloc: Global,
     graph: &Graph,
@@ -72,6 +73,8 @@ pub fn denote(
 ) -> Result<Nodes, DenoteFault>
     requires table { IsTableOf graph.now roles.now }
     requires kinds { HaveNoClash kinds.now }
+    requires formed { AreNodesFormed graph.now }
+    requires typed { (t : Triple) → IsUntypedPart graph.now kinds.now t → ⊥ }
     ensures nodes { IfOk result (AreDenoted graph.now kinds.now arena.new.trees) }
     ensures fault { IfErr result (IsDenoteFault graph.now kinds.now) }
     ensures kept { Keeps (HasNumber arena.old.trees) (HasNumber arena.new.trees) }
@@ -84,9 +87,6 @@ pub fn denote(
     };
     if source.has_large_number() {
         return Err(DenoteFault::NumberTooLarge);
-    }
-    if !source.have_forms()? {
-        return Err(DenoteFault::Memory);
     }
     if !source.are_shallow()? {
         return Err(DenoteFault::TooDeep);

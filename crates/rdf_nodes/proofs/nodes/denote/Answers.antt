@@ -2,17 +2,17 @@ use Rattle.std.proofs.Common.{subst, sym}
 use Rattle.std.proofs.lemmas.Bool.{both_ways}
 use Rattle.tree_stores.specs.Stores.{HasNumber}
 use Rattle.rdf_nodes.specs.Numbers.{AreKnown, AreNumbered}
-use Rattle.rdf_nodes.proofs.Forming.{forms_denote_trees}
+use Rattle.rdf_nodes.specs.DenotedLaws.{typed_denote_trees}
 use Rattle.rdf_nodes.proofs.nodes.denote.Goals as goal
 
 pub are_shallow-requires-clause-trees : goal.are_shallow-requires-clause-trees
 are_shallow-requires-clause-trees c =
-    forms_denote_trees c.args.graph.now c.args.kinds.now c.args.roles.now c.requires.table (c.in_ok-have_forms.ensures c.if-not-branch.false)
+    typed_denote_trees c.args.graph.now c.args.kinds.now c.requires.kinds c.requires.formed c.requires.typed
     (λ h. both_ways c.has_large_number.result c.if-has_large_number.false (c.has_large_number.ensures.1 h))
 
 pub numbers-requires-clause-trees : goal.numbers-requires-clause-trees
 numbers-requires-clause-trees c =
-    forms_denote_trees c.args.graph.now c.args.kinds.now c.args.roles.now c.requires.table (c.in_ok-have_forms.ensures c.if-not-branch.false)
+    typed_denote_trees c.args.graph.now c.args.kinds.now c.requires.kinds c.requires.formed c.requires.typed
     (λ h. both_ways c.has_large_number.result c.if-has_large_number.false (c.has_large_number.ensures.1 h))
 
 pub by_label-requires-clause-known : goal.by_label-requires-clause-known
