@@ -25,11 +25,8 @@ use Rattle.rdf_annotations.specs.Annotations.{AreSets, an_annotation, a_set, is_
 use Rattle.rdf_annotations.specs.AnnotationLaws.{noted_or}
 use Rattle.rdf_nodes.specs.Numbers.{AreAllHeld}
 use Rattle.rdf_statements.proofs.Adding.{labels_are}
+use Rattle.rdf_statements.specs.PartLaws.{part_of_part}
 use Rattle.rdf_statements.specs.GraphTrees.{AreStatements, IsHeldWithin, IsPartOf, itself, below, IsTreeOf, of_node, of_annotation, of_axiom, of_axiom_node}
-
-part_of_part : (t u v : Tree) → IsPartOf t u → IsPartOf u v → IsPartOf t v
-part_of_part t u _ p (itself v) = p
-part_of_part t u _ p (below v w tag us m q) = below t w tag us m (part_of_part t u w p q)
 
 either : (h a b c n s : Bool) → ((h && a && b && c) || (n && s)) ≡ true → (h ≡ true) ⊎ ((n ≡ true) × (s ≡ true))
 either true a b c n s e = inl refl

@@ -3,3 +3,4 @@ pub mod PartLaws
 pub mod Forms
 pub mod FormLaws
 pub mod Holding
+pub mod StatedLaws

@@ -1,11 +1,12 @@
 -- A part of a tree is no deeper than the tree, and its canonical form no heavier.
 use Rattle.std.specs.Prelude.{◌≤◌, List, [], ◌∷◌, Contains, map}
-use Rattle.std.proofs.Common.{inl, inr, ap, arith}
+use Rattle.std.proofs.Common.{inl, inr, ap, arith, subst}
 use Rattle.owl_list.specs.AscendingLaws.{in_cases, in_map, in_none}
 use Rattle.owl_tree.specs.declared.tag.Tag.{Tag}
 use Rattle.owl_tree.specs.Canonical.{arranged, canonical}
 use Rattle.owl_tree.specs.CanonicalLaws.{arranged_holds, canonicals_kids_of}
 use Rattle.owl_tree.specs.Rows.{row_of, set_start}
+use Rattle.owl_tree.specs.Shape.{AreShaped, IsShaped}
 use Rattle.owl_tree.specs.Trees.{Tree, depth, kids_of, most_depth, node, sum_weight, weight}
 use Rattle.rdf_statements.specs.GraphTrees.{IsPartOf, itself, below}
 
@@ -45,3 +46,21 @@ part_depth _ _ (below t u tag us m p) = let first = part_depth t u p in let more
 pub part_weight : (t u : Tree) → IsPartOf t u → weight (canonical t) ≤ weight (canonical u)
 part_weight _ _ (itself t) = omega arith
 part_weight _ _ (below t u tag us m p) = let first = part_weight t u p in let more = kid_weight tag us u m in omega arith
+
+pub part_of_part : (t u v : Tree) → IsPartOf t u → IsPartOf u v → IsPartOf t v
+part_of_part t u _ p (itself v) = p
+part_of_part t u _ p (below v w tag us m q) = below t w tag us m (part_of_part t u w p q)
+
+-- each kid of a part is one
+pub kid_part : (t u : Tree) (tag : Tag) (us : List Tree) → Contains us u → IsPartOf (node tag (kids_of us)) t → IsPartOf u t
+kid_part t u tag us m p = part_of_part u (node tag (kids_of us)) t (below u u tag us m (itself u)) p
+
+kids_are_shaped : (us : List Tree) (u : Tree) → Contains us u → AreShaped (kids_of us) → IsShaped u
+kids_are_shaped [] u m s = absurd (in_none u m)
+kids_are_shaped (v ∷ us) u m s =
+    elim (in_cases v us u m) [ inl e ↦ subst IsShaped e s.0 | inr n ↦ kids_are_shaped us u n s.1 ]
+
+-- a part of a shaped tree is shaped
+pub part_shape : (t u : Tree) → IsPartOf t u → IsShaped u → IsShaped t
+part_shape _ _ (itself t) s = s
+part_shape _ _ (below t u tag us m p) s = part_shape t u p (kids_are_shaped us u m s.1)
