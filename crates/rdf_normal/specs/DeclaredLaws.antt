@@ -180,7 +180,7 @@ to_tail : (o : Option Entity) (es : List Entity) (e : Entity) → Contains es e 
 to_tail None es e m = m
 to_tail (Some d) es e m = in_tail d es e m
 
-declared_by : (ts : List Tree) (e : Entity) → Contains (filter_map declaration ts) e → DeclaresIn ts e
+pub declared_by : (ts : List Tree) (e : Entity) → Contains (filter_map declaration ts) e → DeclaresIn ts e
 declared_by [] e m = absurd (in_none e m)
 declared_by (t ∷ ts) e m =
     elim (by_head (declaration t) (filter_map declaration ts) e m) [
@@ -188,7 +188,7 @@ declared_by (t ∷ ts) e m =
       | inr n ↦ let d = declared_by ts e n in record { tree = d.tree; inside = in_tail t ts d.tree d.inside; entity = d.entity }
     ]
 
-declares_it : (ts : List Tree) (t : Tree) (e : Entity) → Contains ts t → declaration t ≡ Some e → Contains (filter_map declaration ts) e
+pub declares_it : (ts : List Tree) (t : Tree) (e : Entity) → Contains ts t → declaration t ≡ Some e → Contains (filter_map declaration ts) e
 declares_it [] t e m f = absurd (in_none t m)
 declares_it (u ∷ ts) t e m f =
     elim (in_cases u ts t m) [
@@ -219,14 +219,14 @@ from_flat (t ∷ ts) x m =
       | inr n ↦ let s = from_flat ts x n in record { tree = s.tree; inside = in_tail t ts s.tree s.inside; part = s.part }
     ]
 
-form_declares : (ts : List Tree) (e : Entity) → DeclaresIn ts e → DeclaresIn (canonical_list ts) e
+pub form_declares : (ts : List Tree) (e : Entity) → DeclaresIn ts e → DeclaresIn (canonical_list ts) e
 form_declares ts e d = record {
   tree = canonical d.tree;
   inside = (holds (map canonical ts) (canonical d.tree)).1 (in_map canonical ts d.tree d.inside);
   entity = canonical_declares d.tree ∙ d.entity;
 }
 
-declares_before : (ts : List Tree) (e : Entity) → DeclaresIn (canonical_list ts) e → DeclaresIn ts e
+pub declares_before : (ts : List Tree) (e : Entity) → DeclaresIn (canonical_list ts) e → DeclaresIn ts e
 declares_before ts e d =
     let t = from_map canonical ts d.tree ((holds (map canonical ts) d.tree).0 d.inside) in
     record { tree = t.element; inside = t.inside; entity = sym (canonical_declares t.element) ∙ ap declaration t.value ∙ d.entity }

@@ -3,3 +3,5 @@ pub mod ReverseLaws
 pub mod Faults
 pub mod Clear
 pub mod Limits
+pub mod WithinLaws
+pub mod DeclaringLaws

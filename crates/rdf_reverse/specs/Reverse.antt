@@ -1,9 +1,10 @@
 -- What a graph says within the limits, or why it says nothing (Mapping to RDF Graphs, section 3).
 use Rattle.std.specs.Prelude.{◌≡◌, ◌≤◌, ◌<◌, ◌⊎◌, ℕ, List, [], ◌∷◌, ◌++◌, length}
+use Rattle.std.specs.List.{AllByRecursion}
 use Rattle.owl_arena.specs.Shared.{deepest, heaviest}
 use Rattle.owl_kind.specs.Kinds.{Entity, IsFirstClash}
 use Rattle.owl_tree.specs.Canonical.{canonical}
-use Rattle.owl_tree.specs.Ontologies.{Ontology, ontology_weight}
+use Rattle.owl_tree.specs.Ontologies.{IsOntology, Ontology, ontology_weight}
 use Rattle.owl_tree.specs.Trees.{Tree, depth, weight}
 use Rattle.rdf_graph.specs.declared.term.Term.{Term}
 use Rattle.rdf_graph.specs.declared.triple.Triple.{Triple}
@@ -34,6 +35,17 @@ pub record IsSaid (g : List Triple) (k : List Entity) (o : Ontology) : Type 0 wh
   pub small : HasLargeNumber g → ⊥
   pub shallow : HasDeepTree g k says.states.header → ⊥
   pub light : HasHeavyTree g k says.states.header → ⊥
+
+-- no annotation and no axiom of the ontology is too deep
+abbrev pub AreShallow : Ontology → Type 0
+AreShallow o = AllByRecursion (λ t. depth t ≤ deepest) (o.annotations ++ o.axioms)
+
+-- The ontology passes no limit: no tree is too deep, nor do all weigh too much, and its trees are those of the Structural Specification, whose
+-- numbers fit 64 bits.
+pub record IsWithin (o : Ontology) : Type 0 where
+  pub is : IsOntology o
+  pub shallow : AreShallow o
+  pub light : ontology_weight o ≤ heaviest
 
 -- What is asked of a graph, one behind the other: its kinds, its header, the forms of its nodes, what its reifications reify, the reserved IRIs,
 -- what reaches its nodes, the terms of its nodes and of its other triples, and the limits.

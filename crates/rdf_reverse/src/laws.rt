@@ -5,7 +5,7 @@ ghost use Rattle.owl_kind.specs.Kinds.{Entity};
 ghost use Rattle.owl_tree.specs.Ontologies.{IsSameOntology, Ontology};
 ghost use Rattle.rdf_graph.specs.declared.triple.Triple.{Triple};
 ghost use Rattle.rdf_meaning.specs.Statements.{Says};
-ghost use Rattle.rdf_reverse.specs.Reverse.{IsLimitFault, IsSaid, IsUnsaid};
+ghost use Rattle.rdf_reverse.specs.Reverse.{IsLimitFault, IsSaid, IsUnsaid, IsWithin};
 ghost use Rattle.rdf_reverse.specs.declared.fault.ReverseFault.{ReverseFault};
 
 /// Laws: what a graph says within the limits is one ontology, up to structural
@@ -21,4 +21,11 @@ pub fn graphs_are_read_one_way()
         → IsSaid g k o → IsUnsaid g k f → ⊥ }
     ensures limit { (g : List Triple) (k : List Entity) (o : Ontology) (f : ReverseFault)
         → Says g k o → IsUnsaid g k f → IsLimitFault f }
+{}
+
+/// Law: a graph that says an ontology within the limits says it within them: none
+/// of its numbers and trees passes one.
+pub fn limits_are_those_of_ontologies()
+    ensures { (g : List Triple) (k : List Entity) (o : Ontology) → Says g k o → IsWithin o
+        → IsSaid g k o }
 {}
