@@ -20,10 +20,12 @@ use Rattle.owl_lexer.specs.BytesLaws.{decodes_first, decodes_none, unfinished_be
 use Rattle.owl_lexer.specs.Cutting.{Cuts, Lexeme, Stops}
 use Rattle.owl_lexer.specs.DecodingLaws.{decode}
 use Rattle.owl_lexer.specs.Giving.{Begun, Continues, EndsAt, Gives, GivesSome, end_of}
+use Rattle.owl_characters.specs.Utf8Laws.{size_append}
+use Rattle.owl_lexer.specs.GivingLaws.{gives_held}
 use Rattle.owl_lexer.specs.Hands.{IsFrontOf, Finishes, FinishesBadly, IsReady, Refuses, Takes, begun_of}
 use Rattle.owl_lexer.specs.Lexing.{KeepsEnd}
 use Rattle.owl_lexer.specs.LexingLaws.{bytes_of}
-use Rattle.owl_lexer.specs.Sources.{EndsBytes, EndsBytesBadly, IsOpen, RefusesBytes, TakesBytes, begun_in, bytes_in}
+use Rattle.owl_lexer.specs.Sources.{EndsBytesBadly, IsOpen, TurnsBack, RefusesBytes, TakesBytes, begun_in, bytes_in}
 use Rattle.owl_lexer.specs.declared.hand.Front.{Front}
 use Rattle.owl_lexer.specs.declared.hand.Hand.{Hand}
 use Rattle.owl_lexer.specs.declared.placed.Placed.{Placed}
@@ -175,6 +177,33 @@ takes_whole a value old new b c before after r f plain_c fresh t =
       ends = keeps_whole (begun_in old) (begun_in new) b c f.is held fresh t.ends;
     }
 
+-- a character that leads nowhere is not taken
+pub turns_back : {T : Type 0} → (a : Automaton) (value : ℕ → List ℕ → Option T) (old new : Source) (b c x : ℕ) (before after : List (Placed T)) → IsOpen a old → FeedsWhole old.feed new.feed b c → (old.fresh && is_mark c) ≡ false → new.fresh ≡ false → (new.hand ≡ old.hand) × (after ≡ before) → Some c ≡ Some x → TurnsBack a value old (b ∷ []) x before after new
+turns_back a value old new b c x before after r f plain_c fresh same is =
+    let at = f.at in
+    let held = f.held in
+    let takes = width old.feed new.feed b c f in
+    let place = r.place in
+    let new_hand : new.hand.end ≡ old.hand.end = ap (λ (h : Hand). h.end) same.0 in
+    let sizes = size_append old.hand.held.items (c ∷ []) in
+    let whole : IsWhole (begun_in old) b c = record { scalar = f.scalar; is = f.is; no_mark = plain_c; first = r.first } in
+    let begun : Begun = record { at = old.hand.at; held = old.hand.held.items ++ c ∷ [] } in
+    let c_is : c ≡ x = cc in
+    subst (λ (y : ℕ). TurnsBack a value old (b ∷ []) y before after new) c_is (record {
+      hand = same.0;
+      moves = record {
+        adds = record { given = []; added = same.1 ∙ sym (append-nil before); gives = gives_whole a (begun_in old) b c [] begun whole (gives_held a old.hand.at c old.hand.held.items) };
+        few = let e : length after ≡ length before = ap (λ (l : List (Placed _)). length l) same.1 in omega arith;
+        end = omega arith;
+        ends = keeps_whole (begun_in old) (whole_behind begun) b c f.is refl refl (record { front = []; parts = refl });
+      };
+      scalar = f.scalar;
+      feed = held;
+      clean = f.clean;
+      place = omega arith;
+      fresh = fresh;
+    })
+
 pub refuses_whole : {T : Type 0} → (a : Automaton) (value : ℕ → List ℕ → Option T) (old : Source) (new : Feeding) (b c : ℕ) (before after : List (Placed T)) (fault : LexFault) → IsOpen a old → FeedsWhole old.feed new b c → (old.fresh && is_mark c) ≡ false → Refuses a value (begun_of old.hand) (c ∷ []) before after fault → RefusesBytes a value (begun_in old) (b ∷ []) before after fault
 refuses_whole a value old new b c before after fault r f plain_c t =
     let whole : IsWhole (begun_in old) b c = record { scalar = f.scalar; is = f.is; no_mark = plain_c; first = r.first } in
@@ -246,7 +275,7 @@ takes_mark a value old new b c before r f passes fresh moved =
 
 -- no character is begun, and none follows
 
-last_bytes : (a : Automaton) (old : BegunBytes) (more : List ℕ) (xs : List Lexeme) (e : Option LexFault) → (old.fresh ≡ true → old.held ≡ []) → BeginsNoCharacter (old.bytes ++ more) → Continues a (characters_of old) [] (old.bytes ++ more) xs e → ContinuesBytes a old more xs e
+pub last_bytes : (a : Automaton) (old : BegunBytes) (more : List ℕ) (xs : List Lexeme) (e : Option LexFault) → (old.fresh ≡ true → old.held ≡ []) → BeginsNoCharacter (old.bytes ++ more) → Continues a (characters_of old) [] (old.bytes ++ more) xs e → ContinuesBytes a old more xs e
 last_bytes a old more xs e first none k = record {
   characters = [];
   tail = old.bytes ++ more;
@@ -306,57 +335,6 @@ refuses_last a value old b before after fault r n f = record {
 
 none_behind : (bytes : List ℕ) → BeginsNoCharacter bytes → BeginsNoCharacter (bytes ++ [])
 none_behind bytes n = subst BeginsNoCharacter (sym (append-nil bytes)) n
-
-pub ends_well : {T : Type 0} → (a : Automaton) (value : ℕ → List ℕ → Option T) (old new : Source) (before after : List (Placed T)) → IsOpen a old → old.feed.held ≡ [] → new.feed ≡ old.feed → new.fresh ≡ false → Finishes a value old.hand before after new.hand → EndsBytes a value old before after new
-ends_well a value old new before after r none feed fresh f =
-    let place = r.place in
-    let old_end = r.ready.end in
-    let new_end = f.ready.end in
-    let nothing : length old.feed.held ≡ 0 = ap (λ (l : List ℕ). length l) none in
-    let hand_at : new.hand.at ≡ old.hand.end = ap (λ (b : Begun). b.at) f.begun in
-    let hand_held : new.hand.held.items ≡ [] = ap (λ (b : Begun). b.held) f.begun in
-    let feed_at : new.feed.at ≡ old.feed.at = ap (λ (x : Feeding). x.at) feed in
-    let feed_held : new.feed.held ≡ [] = ap (λ (x : Feeding). x.held) feed ∙ none in
-    let empty : size new.hand.held.items ≡ 0 = ap size hand_held in
-    let at : new.hand.at ≡ end_of_bytes (begun_in old) = omega arith in
-    let all_none : old.feed.held ++ [] ≡ [] = append-nil old.feed.held ∙ none in
-    record {
-      ready = record { ready = f.ready; place = omega arith; clean = ap (λ (x : Feeding). x.bad) feed ∙ r.clean; first = λ e. hand_held; start = λ e. let no : true ≡ false = sym e ∙ fresh in cc; part = inl feed_held };
-      begun = λ i. record { at = at i; held = hand_held i; bytes = feed_held i; fresh = fresh i };
-      adds = record {
-        given = f.adds.given;
-        added = f.adds.added;
-        last = last_bytes a (begun_in old) [] f.adds.given None r.first (subst BeginsNoCharacter (sym all_none) no_bytes)
-            (f.adds.last (old.feed.held ++ []) None (subst (λ (l : List ℕ). Stops (Spells a) (end_of (begun_of old.hand)) [] l None) (sym all_none) refl));
-      };
-      few = f.few;
-    }
-
-pub ends_cut : {T : Type 0} → (a : Automaton) (value : ℕ → List ℕ → Option T) (old : Source) (hand : Hand) (at : ℕ) (before after : List (Placed T)) → IsOpen a old → at ≡ old.hand.end → IsUnfinished old.feed.held × (0 < length old.feed.held) → Finishes a value old.hand before after hand → EndsBytesBadly a value (begun_in old) before after (BadUtf8 at)
-ends_cut a value old hand at before after r e u f =
-    let none = none_behind old.feed.held (unfinished_begins_none old.feed.held u.0) in
-    let some : 0 < length (old.feed.held ++ []) = let size = length-append old.feed.held [] in let more = u.1 in omega arith in
-    let last = last_bytes a (begun_in old) [] f.adds.given (Some (BadUtf8 at)) r.first none (f.adds.last (old.feed.held ++ []) (Some (BadUtf8 at)) (bad_ending a old at (old.feed.held ++ []) r e some)) in
-    record {
-      some = record {
-        given = f.adds.given;
-        added = f.adds.added;
-        next = ([], Some (BadUtf8 at), subst (λ (l : List Lexeme). ContinuesBytes a (begun_in old) [] l (Some (BadUtf8 at))) (sym (append-nil f.adds.given)) last);
-      };
-      bad = λ ne. record { given = f.adds.given; added = f.adds.added; last = last };
-    }
-
-pub ends_badly : {T : Type 0} → (a : Automaton) (value : ℕ → List ℕ → Option T) (old : Source) (before after : List (Placed T)) (fault : LexFault) → IsOpen a old → BeginsNoCharacter old.feed.held → FinishesBadly a value (begun_of old.hand) before after fault → EndsBytesBadly a value (begun_in old) before after fault
-ends_badly a value old before after fault r n f =
-    let none = none_behind old.feed.held n in
-    record {
-      some = record {
-        given = f.some.given;
-        added = f.some.added;
-        next = let o = f.some.next (old.feed.held ++ []) in (o.0, o.1, last_bytes a (begun_in old) [] (f.some.given ++ o.0) o.1 r.first none o.2);
-      };
-      bad = λ ne. let bad = f.bad ne in record { given = bad.given; added = bad.added; last = last_bytes a (begun_in old) [] bad.given (Some fault) r.first none (bad.ends (old.feed.held ++ [])) };
-    }
 
 -- what the feed tells at the end
 pub unfinished_of : (feed : Feeding) → feed.bad ≡ false → (feed.bad ≡ true) ⊎ (IsUnfinished feed.held × (0 < length feed.held)) → IsUnfinished feed.held × (0 < length feed.held)

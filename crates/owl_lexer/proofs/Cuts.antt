@@ -3,6 +3,7 @@ use Rattle.std.proofs.Common.{◌≡◌, ℕ, ◌+◌, ◌<◌, ◌≤◌, Bool,
 use Rattle.std.proofs.lemmas.List.{append_assoc, append-nil, length-append, length-reverse, take-append-drop}
 use Rattle.std.specs.Char.{len_utf8}
 use Rattle.std.specs.List.{All}
+use Rattle.std.specs.Prelude.{Result, Ok, Err, OnOk}
 use Rattle.owl_characters.specs.Utf8.{size}
 use Rattle.owl_characters.specs.Utf8Laws.{size_append}
 use Rattle.owl_lexer.specs.declared.fault.LexFault.{LexFault}
@@ -166,64 +167,17 @@ with_none hand again e = λ i. record { at = hand.at; held = (ap (λ (l : List �
 with_one : (hand : Hand) (again : Again) (c : ℕ) → again.chars.items ≡ c ∷ [] → begun_with hand again ≡ record { at = hand.at; held = hand.held.items ++ c ∷ [] }
 with_one hand again c e = λ i. record { at = hand.at; held = ap (λ (l : List ℕ). hand.held.items ++ reverse l) e i }
 
-pub takes_again : {T : Type 0} → (a : Automaton) (value : ℕ → List ℕ → Option T) (old new : Hand) (again left : Again) (c : ℕ) (before after : List (Placed T)) → IsReady a old → again.chars.items ≡ c ∷ [] → again.ended ≡ false → Settles a value old again before after new left → Takes a value old (c ∷ []) before after new
-takes_again a value old new again left c before after r one ended s =
-    let was : Begun = record { at = old.at; held = old.held.items ++ c ∷ [] } in
-    let t : AddsCut a value false was before after (begun_of new) =
-    subst (AddsCut a value false was before after) (with_none new left s.none)
-    (subst (λ (b : Begun). AddsCut a value false b before after (begun_with new left)) (with_one old again c one)
-    (subst (λ (b : Bool). AddsCut a value b (begun_with old again) before after (begun_with new left)) ended s.adds)) in
-    let end = t.end in
-    let old_end = r.end in
-    let new_end = s.ready.end in
-    let sizes = size_append old.held.items (c ∷ []) in
-    record {
-      ready = s.ready;
-      adds = record {
-        given = t.given;
-        added = t.added;
-        gives = λ more tail rest e k.
-            move a old.at ((old.held.items ++ c ∷ []) ++ more) (old.held.items ++ c ∷ more) tail (t.given ++ rest) e (append_assoc old.held.items (c ∷ []) more) (t.gives more tail rest e (may_follow more) k);
-      };
-      few = t.few;
-      end = omega arith;
-      ends = t.ends;
-    }
-
-pub refuses_again : {T : Type 0} → (a : Automaton) (value : ℕ → List ℕ → Option T) (old : Hand) (again : Again) (c : ℕ) (before after : List (Placed T)) (fault : LexFault) → again.chars.items ≡ c ∷ [] → again.ended ≡ false → RefusesAgain a value again.ended (begun_with old again) before after fault → Refuses a value (begun_of old) (c ∷ []) before after fault
-refuses_again a value old again c before after fault one ended s =
-    let was : Begun = record { at = old.at; held = old.held.items ++ c ∷ [] } in
-    let r : RefusesAgain a value false was before after fault =
-    subst (λ (b : Begun). RefusesAgain a value false b before after fault) (with_one old again c one)
-    (subst (λ (b : Bool). RefusesAgain a value b (begun_with old again) before after fault) ended s) in
-    record {
-      some = record {
-        given = r.some.given;
-        added = r.some.added;
-        next = λ more tail.
-            let o = r.some.next more tail (may_follow more) in
-            (o.0, o.1, move a old.at ((old.held.items ++ c ∷ []) ++ more) (old.held.items ++ c ∷ more) tail (r.some.given ++ o.0) o.1 (append_assoc old.held.items (c ∷ []) more) o.2);
-      };
-      bad = λ ne.
-          let bad = r.bad ne in
-          record {
-            given = bad.given;
-            added = bad.added;
-            ends = λ more tail. move a old.at ((old.held.items ++ c ∷ []) ++ more) (old.held.items ++ c ∷ more) tail bad.given (Some fault) (append_assoc old.held.items (c ∷ []) more) (bad.stop more tail (may_follow more));
-          };
-    }
-
 -- where the end was told
 
 none_follows : (ended : Bool) → MayFollow ended []
 none_follows ended e = refl
 
-pub finishes_again : {T : Type 0} → (a : Automaton) (value : ℕ → List ℕ → Option T) (old new : Hand) (again left : Again) (before after : List (Placed T)) → IsReady a old → again.chars.items ≡ [] → again.ended ≡ true → Settles a value old again before after new left → Finishes a value old before after new
-finishes_again a value old new again left before after r none ended s =
+pub finishes_again : {T : Type 0} → (a : Automaton) (value : ℕ → List ℕ → Option T) (old new : Hand) (again left : Again) (before after : List (Placed T)) → IsReady a old → again.chars.items ≡ [] → again.ended ≡ true → Settles a value old again before after new left → (left.chars.items ≡ []) × (again.ended ≡ true → new.held.items ≡ []) → Finishes a value old before after new
+finishes_again a value old new again left before after r none ended s done =
     let t : AddsCut a value again.ended (begun_of old) before after (begun_of new) =
-    subst (AddsCut a value again.ended (begun_of old) before after) (with_none new left s.none)
+    subst (AddsCut a value again.ended (begun_of old) before after) (with_none new left done.0)
     (subst (λ (b : Begun). AddsCut a value again.ended b before after (begun_with new left)) (with_none old again none) s.adds) in
-    let held = s.empty ended in
+    let held = done.1 ended in
     let nothing : size new.held.items ≡ 0 = ap size held in
     let end = t.end in
     let few = t.few in
@@ -258,20 +212,13 @@ end_one a hand again c r e =
     let whole : end_of (begun_with hand again) ≡ hand.at + size (hand.held.items ++ c ∷ []) = ap end_of (with_one hand again c e) in
     omega arith
 
--- what was cut so far
-pub record SettlesSoFar {T : Type 0} (a : Automaton) (value : ℕ → List ℕ → Option T) (old_hand : Hand) (old : Again) (before after : List (Placed T)) (new_hand : Hand) (new : Again) : Type 0 where
-  pub ready : IsReady a new_hand
-  pub kept : AreKept a new_hand new
-  pub ended : new.ended ≡ old.ended
-  pub adds : AddsCut a value old.ended (begun_with old_hand old) before after (begun_with new_hand new)
-
 -- characters were held again since
-still : {T : Type 0} → (a : Automaton) (value : ℕ → List ℕ → Option T) (old_hand now held : Hand) (old again held_again : Again) (before so_far : List (Placed T)) → SettlesSoFar a value old_hand old before so_far now again → HoldsAgain a now again held held_again → AddsCut a value old.ended (begun_with old_hand old) before so_far (begun_with held held_again)
+still : {T : Type 0} → (a : Automaton) (value : ℕ → List ℕ → Option T) (old_hand now held : Hand) (old again held_again : Again) (before so_far : List (Placed T)) → Settles a value old_hand old before so_far now again → HoldsAgain a now again held held_again → AddsCut a value old.ended (begun_with old_hand old) before so_far (begun_with held held_again)
 still a value old_hand now held old again held_again before so_far s h =
     let same : begun_with now again ≡ begun_with held held_again = λ i. record { at = sym h.at i; held = sym h.whole i } in
     subst (AddsCut a value old.ended (begun_with old_hand old) before so_far) same s.adds
 
-pub settles_more : {T : Type 0} → (a : Automaton) (value : ℕ → List ℕ → Option T) (old_hand now held new_hand : Hand) (old again held_again new : Again) (before so_far after : List (Placed T)) → SettlesSoFar a value old_hand old before so_far now again → HoldsAgain a now again held held_again → CutsFront a value held held_again so_far after new_hand new → SettlesSoFar a value old_hand old before after new_hand new
+pub settles_more : {T : Type 0} → (a : Automaton) (value : ℕ → List ℕ → Option T) (old_hand now held new_hand : Hand) (old again held_again new : Again) (before so_far after : List (Placed T)) → Settles a value old_hand old before so_far now again → HoldsAgain a now again held held_again → CutsFront a value held held_again so_far after new_hand new → Settles a value old_hand old before after new_hand new
 settles_more a value old_hand now held new_hand old again held_again new before so_far after s h cuts =
     let ended : held_again.ended ≡ old.ended = h.ended ∙ s.ended in
     record {
@@ -283,8 +230,13 @@ settles_more a value old_hand now held new_hand old again held_again new before 
           (subst (λ (b : Bool). AddsCut a value b (begun_with held held_again) so_far after (begun_with new_hand new)) ended cuts.adds);
     }
 
-pub settles_badly : {T : Type 0} → (a : Automaton) (value : ℕ → List ℕ → Option T) (old_hand now held : Hand) (old again held_again : Again) (before so_far after : List (Placed T)) (fault : LexFault) → SettlesSoFar a value old_hand old before so_far now again → HoldsAgain a now again held held_again → RefusesAgain a value held_again.ended (begun_with held held_again) so_far after fault → RefusesAgain a value old.ended (begun_with old_hand old) before after fault
+pub settles_badly : {T : Type 0} → (a : Automaton) (value : ℕ → List ℕ → Option T) (old_hand now held : Hand) (old again held_again : Again) (before so_far after : List (Placed T)) (fault : LexFault) → Settles a value old_hand old before so_far now again → HoldsAgain a now again held held_again → RefusesAgain a value held_again.ended (begun_with held held_again) so_far after fault → RefusesAgain a value old.ended (begun_with old_hand old) before after fault
 settles_badly a value old_hand now held old again held_again before so_far after fault s h r =
     again_behind a value old.ended (begun_with old_hand old) (begun_with held held_again) before so_far after fault
     (still a value old_hand now held old again held_again before so_far s h)
     (subst (λ (b : Bool). RefusesAgain a value b (begun_with held held_again) so_far after fault) (h.ended ∙ s.ended) r)
+
+-- where there is an answer, what two clauses say of it
+pub on_ok_both : {T E P Q R : Type 0} (r : Result T E) → (P → Q → R) → OnOk r P → OnOk r Q → OnOk r R
+on_ok_both (Ok x) f p q = f p q
+on_ok_both (Err e) f p q = tt

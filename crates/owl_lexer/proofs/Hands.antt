@@ -38,7 +38,7 @@ end_grown a old new c r g =
     let after = g.end in
     omega arith
 
-scalar_behind : (cs : List ℕ) (c : ℕ) → all_scalars cs ≡ true → IsScalar c → all_scalars (cs ++ c ∷ []) ≡ true
+pub scalar_behind : (cs : List ℕ) (c : ℕ) → all_scalars cs ≡ true → IsScalar c → all_scalars (cs ++ c ∷ []) ≡ true
 scalar_behind [] c h s = and_from _ _ s refl
 scalar_behind (d ∷ cs) c h s = let parts = and_parts _ _ h in and_from _ _ parts.0 (scalar_behind cs c parts.1 s)
 

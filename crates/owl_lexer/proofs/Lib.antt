@@ -9,3 +9,5 @@ pub mod Classes
 pub mod Holds
 pub mod Tokens
 pub mod Runs
+pub mod Moving
+pub mod Portions

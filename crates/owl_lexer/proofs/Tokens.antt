@@ -12,14 +12,11 @@ use Rattle.owl_lexer.specs.Languages.{AreSpelled, IsLanguage}
 use Rattle.owl_lexer.specs.Lexing.{Adds, AddsSome, AddsSomeLast, Begun, Continues, end_of, nothing_begun}
 use Rattle.owl_lexer.specs.LexingLaws.{IsSound, always_split, bytes_of, comes, lexemes_continue, split_spelled}
 use Rattle.owl_lexer.specs.OneWayLaws.{same_continues}
-use Rattle.owl_lexer.specs.Sources.{EndsBytes, EndsBytesBadly, EndsPieces, EndsPiecesBadly, IsOpen, RefusesBytes, RefusesPiece, TakesBytes, TakesPiece, begun_in, bytes_in}
+use Rattle.owl_lexer.specs.Sources.{EndsAgain, EndsBytesBadly, EndsPieces, EndsPiecesBadly, EndsSomeAgain, EndsSomePieces, IsOpenWith, RefusesBytes, RefusesPiece, TakesAgain, TakesPiece, begun_with_again, bytes_with}
+use Rattle.owl_lexer.specs.declared.again.Again.{Again}
 use Rattle.owl_lexer.specs.declared.fault.LexFault.{LexFault}
 use Rattle.owl_lexer.specs.declared.placed.Placed.{Placed}
 use Rattle.owl_lexer.specs.declared.source.Source.{Source}
-use Rattle.owl_lexer.proofs.Holds.{holds_no_end, holds_none}
-
-sound_of : (a : Automaton) (source : Source) → IsOpen a source → IsSound (begun_in source)
-sound_of a source r = record { scalars = r.ready.scalars; first = r.start }
 
 -- what is added
 
@@ -101,59 +98,81 @@ end_is begun = let held = held_is begun in omega arith
 
 -- a piece of bytes, and the end
 
-pub takes_piece : {T : Type 0} → (a : Automaton) (value : ℕ → List ℕ → Option T) (spells : T → List ℕ → Type 0) → IsLanguage a value spells → (old new : Source) (bytes : List ℕ) (before after : List (Placed T)) → IsOpen a old → TakesBytes a value old bytes before after new → TakesPiece a spells old bytes before after new
-takes_piece a value spells l old new bytes before after r t =
-    let adds = adds_tokens a value spells l (begun_in old) (begun_in new) bytes before after (sound_of a old r) (sound_of a new t.ready) t.adds in
-    let some : AddsSome spells (bytes_in old) bytes before after = record { given = adds.given; added = adds.added; next = λ more tokens e k. let o = adds.gives.all more tokens e k in (o.0, o.1) } in
-    let few = t.few in
-    let end = t.end in
-    let old_held = held_is (begun_in old) in
-    let new_held = held_is (begun_in new) in
+sound_with : (a : Automaton) (source : Source) (again : Again) → IsOpenWith a source again → IsSound (begun_with_again source again)
+sound_with a source again o = record { scalars = o.scalars; first = o.start }
+
+pub takes_piece : {T : Type 0} → (a : Automaton) (value : ℕ → List ℕ → Option T) (spells : T → List ℕ → Type 0) → IsLanguage a value spells → (old new : Source) (again left : Again) (bytes : List ℕ) (before after : List (Placed T)) → IsOpenWith a old again → TakesAgain a value old again bytes before after new left → TakesPiece a spells (bytes_with old again) bytes before after (bytes_with new left)
+takes_piece a value spells l old new again left bytes before after o t =
+    let adds = adds_tokens a value spells l (begun_with_again old again) (begun_with_again new left) bytes before after (sound_with a old again o) (sound_with a new left t.open_yet) t.moves.adds in
+    let some : AddsSome spells (bytes_with old again) bytes before after = record { given = adds.given; added = adds.added; next = λ more tokens e k. let o = adds.gives.all more tokens e k in (o.0, o.1) } in
+    let few = t.moves.few in
+    let end = t.moves.end in
+    let old_held = held_is (begun_with_again old again) in
+    let new_held = held_is (begun_with_again new left) in
     record {
-      ready = t.ready;
       adds = adds;
-      spelled = some_spelled a value spells l (bytes_in old) bytes before after some;
-      few = omega arith;
-      early = holds_none a value spells l new t.ready;
-      prompt = holds_no_end a value spells l new t.ready;
+      spelled = some_spelled a value spells l (bytes_with old again) bytes before after some;
+      few = few;
       end = omega arith;
-      ends = t.ends;
+      ends = t.moves.ends;
     }
 
-pub refuses_piece : {T : Type 0} → (a : Automaton) (value : ℕ → List ℕ → Option T) (spells : T → List ℕ → Type 0) → IsLanguage a value spells → (old : Source) (bytes : List ℕ) (before after : List (Placed T)) (fault : LexFault) → IsOpen a old → RefusesBytes a value (begun_in old) bytes before after fault → RefusesPiece spells (bytes_in old) bytes before after fault
-refuses_piece a value spells l old bytes before after fault r t =
-    let sound = sound_of a old r in
-    let some = some_tokens a value spells l (begun_in old) bytes before after sound t.some in
+pub refuses_piece : {T : Type 0} → (a : Automaton) (value : ℕ → List ℕ → Option T) (spells : T → List ℕ → Type 0) → IsLanguage a value spells → (old : Source) (again : Again) (bytes : List ℕ) (before after : List (Placed T)) (fault : LexFault) → IsOpenWith a old again → RefusesBytes a value (begun_with_again old again) bytes before after fault → RefusesPiece spells (bytes_with old again) bytes before after fault
+refuses_piece a value spells l old again bytes before after fault o t =
+    let sound = sound_with a old again o in
+    let some = some_tokens a value spells l (begun_with_again old again) bytes before after sound t.some in
     record {
       bad = λ ne.
           let bad = t.bad ne in
-          record { given = tokens_of value bad.given; added = bad.added; ends = λ more. lexemes_continue a value spells l (begun_in old) sound (bytes ++ more) bad.given (Some fault) (bad.ends more) };
+          record { given = tokens_of value bad.given; added = bad.added; ends = λ more. lexemes_continue a value spells l (begun_with_again old again) sound (bytes ++ more) bad.given (Some fault) (bad.ends more) };
       some = some;
-      spelled = some_spelled a value spells l (bytes_in old) bytes before after some;
+      spelled = some_spelled a value spells l (bytes_with old again) bytes before after some;
     }
 
-pub ends_pieces : {T : Type 0} → (a : Automaton) (value : ℕ → List ℕ → Option T) (spells : T → List ℕ → Type 0) → IsLanguage a value spells → (old new : Source) (before after : List (Placed T)) → IsOpen a old → EndsBytes a value old before after new → EndsPieces a spells old before after new
-ends_pieces a value spells l old new before after r t =
-    let last = lexemes_continue a value spells l (begun_in old) (sound_of a old r) [] t.adds.given None t.adds.last in
+pub ends_pieces : {T : Type 0} → (a : Automaton) (value : ℕ → List ℕ → Option T) (spells : T → List ℕ → Type 0) → IsLanguage a value spells → (old new : Source) (again left : Again) (before after : List (Placed T)) → IsOpenWith a old again → EndsAgain a value old again before after new left → EndsPieces spells (bytes_with old again) before after (bytes_with new left)
+ends_pieces a value spells l old new again left before after o t =
+    let last = lexemes_continue a value spells l (begun_with_again old again) (sound_with a old again o) [] t.adds.given None t.adds.last in
     let few = t.few in
-    let held = held_is (begun_in old) in
+    let held = held_is (begun_with_again old again) in
     record {
-      ready = t.ready;
-      begun = ap bytes_of t.begun ∙ ap nothing_begun (sym (end_is (begun_in old)));
+      begun = ap bytes_of t.begun ∙ ap nothing_begun (sym (end_is (begun_with_again old again)));
       adds = record { given = tokens_of value t.adds.given; added = t.adds.added; continues = last };
       spelled = spelled_both spells before (tokens_of value t.adds.given) after t.adds.added
-          (split_spelled spells old.fresh old.hand.at ((bytes_in old).held ++ []) (tokens_of value t.adds.given) None last);
+          (split_spelled spells old.fresh old.hand.at ((bytes_with old again).held ++ []) (tokens_of value t.adds.given) None last);
       few = omega arith;
     }
 
-pub ends_pieces_badly : {T : Type 0} → (a : Automaton) (value : ℕ → List ℕ → Option T) (spells : T → List ℕ → Type 0) → IsLanguage a value spells → (old : Source) (before after : List (Placed T)) (fault : LexFault) → IsOpen a old → EndsBytesBadly a value (begun_in old) before after fault → EndsPiecesBadly spells (bytes_in old) before after fault
-ends_pieces_badly a value spells l old before after fault r t =
-    let sound = sound_of a old r in
-    let some = some_last_tokens a value spells l (begun_in old) before after sound t.some in
+pub ends_some_pieces : {T : Type 0} → (a : Automaton) (value : ℕ → List ℕ → Option T) (spells : T → List ℕ → Type 0) → IsLanguage a value spells → (old new : Source) (again left : Again) (before after : List (Placed T)) → IsOpenWith a old again → EndsSomeAgain a value old again before after new left → EndsSomePieces spells (bytes_with old again) before after (bytes_with new left)
+ends_some_pieces a value spells l old new again left before after o t =
+    let gives : (rest : List (Placed _)) (e : Option LexFault) → Continues spells (bytes_with new left) [] rest e → Continues spells (bytes_with old again) [] (tokens_of value t.given ++ rest) e = λ rest e k.
+    let x = comes a (begun_with_again new left) [] in
+    let same = same_continues a value spells l (bytes_with new left) [] (tokens_of value x.lexemes) rest x.ending e (lexemes_continue a value spells l (begun_with_again new left) (sound_with a new left t.open_yet) [] x.lexemes x.ending x.continues) k in
+    subst (λ (ts : List (Placed _)). Continues spells (bytes_with old again) [] ts e) (tokens-append value t.given x.lexemes ∙ ap (λ (ts : List (Placed _)). tokens_of value t.given ++ ts) same.0)
+    (subst (λ (f : Option LexFault). Continues spells (bytes_with old again) [] (tokens_of value (t.given ++ x.lexemes)) f) same.1
+    (lexemes_continue a value spells l (begun_with_again old again) (sound_with a old again o) [] (t.given ++ x.lexemes) x.ending (t.gives x.lexemes x.ending x.continues))) in
+    let x = comes a (begun_with_again new left) [] in
+    let k = lexemes_continue a value spells l (begun_with_again new left) (sound_with a new left t.open_yet) [] x.lexemes x.ending x.continues in
+    let few = t.few in
+    let end = t.end in
+    let old_held = held_is (begun_with_again old again) in
+    let new_held = held_is (begun_with_again new left) in
+    record {
+      adds = record { given = tokens_of value t.given; added = t.added; gives = gives };
+      spelled = spelled_both spells before (tokens_of value t.given) after t.added
+          (spelled_front spells (tokens_of value t.given) (tokens_of value x.lexemes)
+          (split_spelled spells old.fresh old.hand.at ((bytes_with old again).held ++ []) (tokens_of value t.given ++ tokens_of value x.lexemes) x.ending (gives (tokens_of value x.lexemes) x.ending k)));
+      few = few;
+      end = omega arith;
+    }
+
+pub ends_pieces_badly : {T : Type 0} → (a : Automaton) (value : ℕ → List ℕ → Option T) (spells : T → List ℕ → Type 0) → IsLanguage a value spells → (old : Source) (again : Again) (before after : List (Placed T)) (fault : LexFault) → IsOpenWith a old again → EndsBytesBadly a value (begun_with_again old again) before after fault → EndsPiecesBadly spells (bytes_with old again) before after fault
+ends_pieces_badly a value spells l old again before after fault o t =
+    let sound = sound_with a old again o in
+    let some = some_last_tokens a value spells l (begun_with_again old again) before after sound t.some in
     record {
       bad = λ ne.
           let bad = t.bad ne in
-          record { given = tokens_of value bad.given; added = bad.added; continues = lexemes_continue a value spells l (begun_in old) sound [] bad.given (Some fault) bad.last };
+          record { given = tokens_of value bad.given; added = bad.added; continues = lexemes_continue a value spells l (begun_with_again old again) sound [] bad.given (Some fault) bad.last };
       some = some;
-      spelled = some_last_spelled a value spells l (bytes_in old) before after some;
+      spelled = some_last_spelled a value spells l (bytes_with old again) before after some;
     }

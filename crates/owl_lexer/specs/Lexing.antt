@@ -1,5 +1,5 @@
 -- What a lexer has in hand, and what can still come of it.
-use Rattle.std.specs.Prelude.{◌≡◌, ℕ, ◌+◌, Bool, true, false, List, [], ◌∷◌, ◌++◌, length, map, Option, Some}
+use Rattle.std.specs.Prelude.{◌≡◌, ℕ, ◌+◌, Bool, true, false, List, [], ◌∷◌, ◌++◌, length, map, take, Option, None, Some}
 use Rattle.std.specs.Str.{encode_utf8_all}
 use Rattle.owl_characters.specs.Utf8.{behind_mark, mark_size, size}
 use Rattle.owl_lexer.specs.Splitting.{OneEndsFrom, Splits, SplitsAt, is_space}
@@ -64,6 +64,13 @@ pub record AddsLast {T : Type 0} (spells : T → List ℕ → Type 0) (old : Beg
   pub added : after ≡ before ++ given
   pub continues : Continues spells old [] given ending
 
+-- Some tokens were added to a list, and new is left: where nothing follows, they stand before what comes of new, and that
+-- comes of old.
+pub record AddsToEnd {T : Type 0} (spells : T → List ℕ → Type 0) (old : Begun) (before after : List (Placed T)) (new : Begun) : Type 0 where
+  pub given : List (Placed T)
+  pub added : after ≡ before ++ given
+  pub gives : (rest : List (Placed T)) (ending : Option LexFault) → Continues spells new [] rest ending → Continues spells old [] (given ++ rest) ending
+
 -- Where nothing follows, some of the tokens that come of what is begun were added to a list, and perhaps not all.
 pub record AddsSomeLast {T : Type 0} (spells : T → List ℕ → Type 0) (old : Begun) (before after : List (Placed T)) : Type 0 where
   pub given : List (Placed T)
@@ -98,6 +105,11 @@ pub record EndWith (bytes : List ℕ) (begun : Begun) : Type 0 where
 -- where what was fed ends with old, it ends with new when these bytes follow
 abbrev pub KeepsEnd : Begun → List ℕ → Begun → Type 0
 KeepsEnd old piece new = (fed : List ℕ) → EndWith fed old → EndWith (fed ++ piece) new
+
+-- the bytes of a piece that were taken: so many of the first ones, or all
+abbrev pub taken_of : Option ℕ → List ℕ → List ℕ
+taken_of None piece = piece
+taken_of (Some count) piece = take count piece
 
 -- What a lexer is: what is begun, and the refusal that it keeps.
 pub record Lexing : Type 0 where

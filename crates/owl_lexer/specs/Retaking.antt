@@ -61,12 +61,12 @@ pub record CutsFront {T : Type 0} (a : Automaton) (value : ℕ → List ℕ → 
   pub adds : AddsCut a value old.ended (begun_with old_hand old) before after (begun_with new_hand new)
   pub fewer : length new_hand.held.items + length new.chars.items < length old_hand.held.items + length old.chars.items
 
--- all that could be was cut
+-- lexemes were cut, and what is left may be cut next
 pub record Settles {T : Type 0} (a : Automaton) (value : ℕ → List ℕ → Option T) (old_hand : Hand) (old : Again) (before after : List (Placed T)) (new_hand : Hand) (new : Again) : Type 0 where
   pub ready : IsReady a new_hand
+  pub kept : AreKept a new_hand new
+  pub ended : new.ended ≡ old.ended
   pub adds : AddsCut a value old.ended (begun_with old_hand old) before after (begun_with new_hand new)
-  pub none : new.chars.items ≡ []
-  pub empty : old.ended ≡ true → new_hand.held.items ≡ []
 
 -- Whatever may follow, these lexemes stand first, and perhaps more; their tokens were added to a list.
 pub record AddsSomeCut {T : Type 0} (a : Automaton) (value : ℕ → List ℕ → Option T) (ended : Bool) (old : Begun) (before after : List (Placed T)) : Type 0 where

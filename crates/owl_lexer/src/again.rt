@@ -49,6 +49,18 @@ pub fn nothing_again(alloc: Global, ended: bool) -> Again
     }
 }
 
+/// Says whether the end follows. The runs that were lost may not be so then.
+pub fn tell_ended(again: &mut Again, ended: bool)
+    ensures ended { again.new.ended ≡ ended }
+    ensures chars { again.new.chars.items ≡ again.old.chars.items }
+    ensures lost { (again.new ≡ again.old) ⊎ (again.new.lost.items ≡ []) }
+{
+    if again.ended != ended {
+        again.ended = ended;
+        again.lost.clear();
+    }
+}
+
 /// Whether a run that stands at this state is known to be lost.
 fn is_lost(lost: &[LostRun], state: u8) -> bool
     ensures { IsTrue result → (a : Automaton) (ended : Bool) (held cs : List ℕ) →
@@ -207,7 +219,7 @@ fn cut<L: TokenLanguage>(
 }
 
 /// Whether the longest lexeme in front is to be cut before more can be held.
-fn is_stuck(hand: &Hand, again: &Again) -> bool
+pub fn is_stuck(hand: &Hand, again: &Again) -> bool
     ensures stuck { IsTrue result →
         (0 < length again.now.chars.items)
         ⊎ ((again.now.ended ≡ true) × (0 < length hand.now.held.items)) }
@@ -217,26 +229,30 @@ fn is_stuck(hand: &Hand, again: &Again) -> bool
     !again.chars.is_empty() || (again.ended && !hand.held.is_empty())
 }
 
-/// Takes all characters that are taken again, and adds the tokens that are whole
-/// then to the end of `into`: where the end follows, all.
+/// Takes the characters that are taken again, and adds the tokens that are whole
+/// then to the end of `into`, until it has `most`: where the end follows, all.
 pub fn settle<L: TokenLanguage>(
     hand: &mut Hand,
     again: &mut Again,
     into: &mut Vec<Placed<L::Token>>,
+    most: usize,
 ) -> Result<(), LexFault>
     requires ready { IsReady L.automaton hand.old }
     requires kept { AreKept L.automaton hand.old again.old }
     requires room { end_of (begun_with hand.old again.old) < 2 ^ 63 }
     ensures ok { OnOk result (Settles L.automaton L.value_of hand.old again.old
         into.old.items into.new.items hand.new again.new) }
+    ensures done { OnOk result (length into.new.items < most →
+        (again.new.chars.items ≡ []) × (again.old.ended ≡ true → hand.new.held.items ≡ [])) }
     ensures err { IfErr result (λ fault. RefusesAgain L.automaton L.value_of again.old.ended
         (begun_with hand.old again.old) into.old.items into.new.items fault) }
 {
-    loop {
+    while into.len() < most {
         hold_again::<L>(hand, again)?;
         if !is_stuck(hand, again) {
             return Ok(());
         }
         cut::<L>(hand, again, into)?;
     }
+    Ok(())
 }

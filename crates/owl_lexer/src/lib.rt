@@ -8,6 +8,7 @@ mod hand;
 mod language;
 mod laws;
 mod lexer;
+mod pieces;
 mod placed;
 mod source;
 mod tables;

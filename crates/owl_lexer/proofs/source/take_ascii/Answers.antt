@@ -20,20 +20,20 @@ returns-in_err-push-clause-err g c =
 
 pub hold_run-requires-clause-room : goal.hold_run-requires-clause-room
 hold_run-requires-clause-room g c =
-    let taken = takes_ascii g.L.TokenLanguage.automaton g.L.TokenLanguage.value_of c.args.source.now c.loop-place.source c.push.new.hand c.args.bytes.now c.loop-place.place c.from.result c.args.into.now.items c.loop-place.into.items c.push.new.into.items c.loop-place-test.true c.from.ensures c.if-bytes-place-lt128.true c.loop-place.invariant.1 c.loop-place.invariant.2 c.in_ok-push.ensures.ok in
+    let taken = takes_ascii g.L.TokenLanguage.automaton g.L.TokenLanguage.value_of c.args.source.now c.loop-place.source c.push.new.hand c.args.bytes.now c.loop-place.place c.from.result c.args.into.now.items c.loop-place.into.items c.push.new.into.items c.loop-place-test.true c.from.ensures c.if-bytes-place-lt128.true c.loop-place.invariant.1 c.loop-place.invariant.2 (c.in_ok-push.ensures.ok (search rules)) in
     let so_far : length (take (c.loop-place.place + 1) c.args.bytes.now) ≡ c.loop-place.place + 1 = length-take-le (c.loop-place.place + 1) c.args.bytes.now (omega (arith, c.loop-place-test.true)) in
     omega (arith, taken.end, taken.ready.ready.end, c.requires.room, c.loop-place-test.true, rest_length c.args.bytes.now (c.loop-place.place + 1))
 
 pub returns-in_err-place-clause-err : goal.returns-in_err-place-clause-err
 returns-in_err-place-clause-err g c =
-    let taken = takes_ascii g.L.TokenLanguage.automaton g.L.TokenLanguage.value_of c.args.source.now c.loop-place.source c.push.new.hand c.args.bytes.now c.loop-place.place c.from.result c.args.into.now.items c.loop-place.into.items c.push.new.into.items c.loop-place-test.true c.from.ensures c.if-bytes-place-lt128.true c.loop-place.invariant.1 c.loop-place.invariant.2 c.in_ok-push.ensures.ok in
+    let taken = takes_ascii g.L.TokenLanguage.automaton g.L.TokenLanguage.value_of c.args.source.now c.loop-place.source c.push.new.hand c.args.bytes.now c.loop-place.place c.from.result c.args.into.now.items c.loop-place.into.items c.push.new.into.items c.loop-place-test.true c.from.ensures c.if-bytes-place-lt128.true c.loop-place.invariant.1 c.loop-place.invariant.2 (c.in_ok-push.ensures.ok (search rules)) in
     IfErr-weaker c.from_residual-in_err-place.result _ _
     (λ fault. refuses_run g.L.TokenLanguage.automaton g.L.TokenLanguage.value_of c.args.source.now _ c.args.bytes.now (c.loop-place.place + 1) c.args.into.now.items c.push.new.into.items fault taken)
     (search rules)
 
 pub loop-place-preserved : goal.loop-place-preserved
 loop-place-preserved g c =
-    let taken = takes_ascii g.L.TokenLanguage.automaton g.L.TokenLanguage.value_of c.args.source.now c.loop-place.source c.push.new.hand c.args.bytes.now c.loop-place.place c.from.result c.args.into.now.items c.loop-place.into.items c.push.new.into.items c.loop-place-test.true c.from.ensures c.if-bytes-place-lt128.true c.loop-place.invariant.1 c.loop-place.invariant.2 c.in_ok-push.ensures.ok in
+    let taken = takes_ascii g.L.TokenLanguage.automaton g.L.TokenLanguage.value_of c.args.source.now c.loop-place.source c.push.new.hand c.args.bytes.now c.loop-place.place c.from.result c.args.into.now.items c.loop-place.into.items c.push.new.into.items c.loop-place-test.true c.from.ensures c.if-bytes-place-lt128.true c.loop-place.invariant.1 c.loop-place.invariant.2 (c.in_ok-push.ensures.ok (search rules)) in
     let count = c.in_ok-place.field-0 in
     let within : count ≤ _ = c.in_ok-place.ensures.within in
     let rest = take (length c.args.bytes.now - (c.loop-place.place + 1)) (drop (c.loop-place.place + 1) c.args.bytes.now) in (
