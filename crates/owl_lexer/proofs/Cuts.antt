@@ -10,12 +10,12 @@ use Rattle.owl_lexer.specs.declared.fault.LexFault.{LexFault}
 use Rattle.owl_lexer.specs.declared.fault.LexFault.TheVariants.{BadToken, Memory}
 use Rattle.owl_lexer.specs.Adding.{placed_at, tokens_of}
 use Rattle.owl_lexer.specs.AddingLaws.{added_both}
-use Rattle.owl_lexer.specs.Retaking.{AddsCut, AreKept, CutsFront, HoldsAgain, IsLostRun, MayFollow, RefusesAgain, Settles, begun_with, coming}
+use Rattle.owl_lexer.specs.Retaking.{AddsCut, CutsFront, HoldsAgain, IsLostRun, MayFollow, RefusesAgain, Settles, begun_with, coming}
 use Rattle.owl_lexer.specs.Automata.{Automaton, Spells}
 use Rattle.owl_lexer.specs.Cutting.{BeginsNone, Cuts, Lexeme, Stops}
 use Rattle.owl_lexer.specs.Giving.{Begun, Continues, end_of}
 use Rattle.owl_lexer.specs.GivingLaws.{comes_before, front_of}
-use Rattle.owl_lexer.specs.Hands.{Finishes, FinishesBadly, IsFrontOf, IsReady, Refuses, Takes, begun_of}
+use Rattle.owl_lexer.specs.Hands.{Finishes, FinishesBadly, IsFrontOf, IsReady, begun_of}
 use Rattle.owl_lexer.specs.Holding.{IsLost}
 use Rattle.owl_lexer.specs.HoldingLaws.{none_first}
 use Rattle.owl_lexer.specs.TotalLaws.{cut}

@@ -1,6 +1,5 @@
 -- What is made of bytes where characters may be taken again.
 use Rattle.std.proofs.Common.{◌≡◌, ◌⊎◌, inl, inr, ℕ, suc, get_or, ◌+◌, ◌-◌, ◌<◌, ◌≤◌, Bool, true, false, Option, None, Some, List, [], ◌∷◌, ◌++◌, length, take, drop, reverse, refl, sym, ap, ◌∙◌, subst, arith}
-use Rattle.std.specs.Char.{IsScalar, len_utf8}
 use Rattle.std.specs.List.{All}
 use Rattle.std.specs.Str.{all_scalars, encode_utf8_all}
 use Rattle.std.proofs.lemmas.Bool.{and_parts}
@@ -13,16 +12,16 @@ use Rattle.owl_characters.specs.Utf8Laws.{size_append}
 use Rattle.owl_lexer.specs.Adding.{tokens_of}
 use Rattle.owl_lexer.specs.AddingLaws.{added_both}
 use Rattle.owl_lexer.specs.Automata.{Automaton, Spells}
-use Rattle.owl_lexer.specs.BytesGiving.{AddsLastBytes, AddsSomeBytes, BegunBytes, ContinuesBytes, CutsBehindMark, EndsBytesAt, GivesBytes, GivesSomeBytes, end_of_bytes, nothing_begun}
+use Rattle.owl_lexer.specs.BytesGiving.{AddsLastBytes, BegunBytes, ContinuesBytes, CutsBehindMark, EndsBytesAt, GivesBytes, GivesSomeBytes, end_of_bytes}
 use Rattle.owl_lexer.specs.BytesLaws.{ends_behind_bytes, gives_both_bytes, none_decoded, some_behind_bytes}
 use Rattle.owl_lexer.specs.Cutting.{Cuts, Lexeme, Stops}
 use Rattle.owl_lexer.specs.DecodingLaws.{decode}
-use Rattle.owl_lexer.specs.Giving.{Begun, Continues, end_of}
+use Rattle.owl_lexer.specs.Giving.{Begun, Continues}
 use Rattle.owl_lexer.specs.Hands.{EndsIn, IsReady}
 use Rattle.owl_lexer.specs.Lexing.{EndWith, KeepsEnd}
 use Rattle.owl_lexer.specs.LexingLaws.{bytes_of, comes}
 use Rattle.owl_lexer.specs.Retaking.{AddsCut, AreKept, IsLostRun, MayFollow, RefusesAgain, Settles, begun_with, coming}
-use Rattle.owl_lexer.specs.Sources.{EndsAgain, EndsBytesBadly, EndsSomeAgain, IsOpen, IsOpenWith, IsPart, Moves, RefusesBytes, TakesAgain, TakesBytes, TurnsBack, begun_in, begun_with_again, bytes_in}
+use Rattle.owl_lexer.specs.Sources.{EndsAgain, EndsBytesBadly, EndsSomeAgain, IsOpen, IsOpenWith, IsPart, Moves, RefusesBytes, TakesAgain, TakesBytes, TurnsBack, begun_in, begun_with_again}
 use Rattle.owl_lexer.specs.declared.again.Again.{Again}
 use Rattle.owl_lexer.specs.declared.fault.LexFault.{LexFault}
 use Rattle.owl_lexer.specs.declared.fault.LexFault.TheVariants.{BadUtf8, Memory}

@@ -5,11 +5,11 @@ ghost use Rattle.owl_lexer.specs.declared.fault.LexFault.{LexFault};
 ghost use Rattle.owl_lexer.specs.Languages.{AreSpelled, IsPrompt};
 ghost use Rattle.owl_lexer.specs.Lexing.{Adds, AddsLast, AddsSome, AddsSomeLast, AddsToEnd, EndsAt, HoldsNoEnd, HoldsNone, KeepsEnd, end_of, nothing_begun, nothing_fed, taken_of};
 
+use crate::again::{Again, nothing_again};
 use crate::fault::LexFault;
 use crate::language::TokenLanguage;
-use crate::placed::Placed;
-use crate::again::{Again, nothing_again};
 use crate::pieces::{end_pieces, take_piece};
+use crate::placed::Placed;
 use crate::source::{Source, fresh_source};
 use std::alloc::Global;
 use std::marker::{Model, PhantomData};

@@ -1,17 +1,20 @@
 -- What comes of bytes more.
-use Rattle.std.proofs.Common.{◌≡◌, ℕ, ◌+◌, Option, None, Some, List, [], ◌∷◌, ◌++◌, length, refl, sym, ap, ◌∙◌, subst}
-use Rattle.std.proofs.lemmas.List.{append_assoc, append-nil, length-append, map-append}
+use Rattle.std.proofs.Common.{◌≡◌, ℕ, ◌+◌, Bool, true, false, ◌-◌, ◌≤◌, ◌<◌, Option, None, Some, List, [], ◌∷◌, ◌++◌, length, take, drop, arith, refl, sym, ap, ◌∙◌, subst}
+use Rattle.std.proofs.lemmas.List.{append_assoc, append-nil, length-append, length-drop, length-take-le, map-append, take-append-drop, take_rest}
+use Rattle.std.proofs.Math.Seq.{take-add}
+use Rattle.std.specs.Prelude.{IfSome, IsTrue}
 use Rattle.grammar.specs.Derivations.{Event}
 use Rattle.grammar.specs.Grammars.{Entry}
 use Rattle.grammar.specs.Parsing.{Parsing}
-use Rattle.owl_lexer.specs.Lexing.{Adds, AddsLast, Begun, Continues, EndsAt, Gives, KeepsEnd, Lexing, end_of, nothing_fed}
+use Rattle.owl_lexer.specs.Lexing.{Adds, AddsLast, AddsToEnd, Begun, Continues, EndsAt, Gives, KeepsEnd, Lexing, end_of, nothing_fed, taken_of}
 use Rattle.owl_lexer.specs.Splitting.{Splits}
 use Rattle.owl_lexer.specs.declared.fault.LexFault.{LexFault}
 use Rattle.owl_lexer.specs.declared.placed.Placed.{Placed}
 use Rattle.owl_reader.specs.Defects.{HasDefect}
 use Rattle.owl_reader.specs.Defects.HasDefect.{at_token, no_token}
 use Rattle.owl_reader.specs.Faults.{lexing_refusal}
-use Rattle.owl_reader.specs.Readings.{AreAllTaken, HasDefectAlways, IsOpen}
+use Rattle.owl_reader.specs.Readings.{AreAllTaken, CanEnd, HasDefectAlways, HasRoom, IsEnding, IsOpen}
+use Rattle.owl_characters.specs.Limit.{most_bytes}
 use Rattle.owl_reader.specs.Standing.{IsRefusedAmong, StandsWith}
 use Rattle.owl_reader.specs.Steps.{Step, tokens_in}
 use Rattle.owl_reader.specs.Syntaxes.{Rules}
@@ -118,29 +121,159 @@ stopped_there {T} {spells = spells} {old = old} {bytes = bytes} {piece = piece} 
 split_last : {T : Type 0} {spells : T → List ℕ → Type 0} (b : Begun) (bytes : List ℕ) (xs ys : List (Placed T)) (ending : Option LexFault) → Gives spells nothing_fed bytes xs b → Continues spells b [] ys ending → Splits spells bytes (xs ++ ys) ending
 split_last {T} {spells = spells} b bytes xs ys ending g k = subst (λ (l : List ℕ). Splits spells l (xs ++ ys) ending) (append-nil bytes) (g.only [] ys ending k)
 
-pub all_taken : {T S : Type 0} {spells : T → List ℕ → Type 0} {g : List Entry} {rules : Rules T} {Made : List (Event T) → S → Type 0} {old : Lexing} {parsing after : Parsing} {made other : S} {item last : Option Item} {bytes : List ℕ} {before tokens : List (Placed T)} → (o : IsOpen spells g rules Made old parsing made item bytes) → before ≡ [] → AddsLast spells old.begun before tokens None → StandsWith g rules Made after other last o.steps tokens → AreAllTaken spells g rules Made after other last bytes
-all_taken {T} {spells = spells} {old = old} {bytes = bytes} o none adds s =
-    let given = given_are adds.added none refl in
+pub open_ends : {T S : Type 0} {spells : T → List ℕ → Type 0} {g : List Entry} {rules : Rules T} {Made : List (Event T) → S → Type 0} {lexing : Lexing} {parsing : Parsing} {made : S} {item : Option Item} {bytes : List ℕ} → IsOpen spells g rules Made lexing parsing made item bytes → IsEnding spells g rules Made lexing parsing made item bytes
+open_ends {lexing = lexing} {bytes = bytes} o = record {
+  steps = o.steps;
+  lexer_open = o.lexer_open;
+  splits = λ tokens ending k. split_last lexing.begun bytes (tokens_in o.steps) tokens ending o.gives k;
+  stands = o.stands;
+}
+
+pub ends_more : {T S : Type 0} {spells : T → List ℕ → Type 0} {g : List Entry} {rules : Rules T} {Made : List (Event T) → S → Type 0} {old new : Lexing} {parsing after : Parsing} {made other : S} {item last : Option Item} {bytes : List ℕ} {before tokens : List (Placed T)} → (o : IsEnding spells g rules Made old parsing made item bytes) → before ≡ [] → AddsToEnd spells old.begun before tokens new.begun → new.refused ≡ None → StandsWith g rules Made after other last o.steps tokens → IsEnding spells g rules Made new after other last bytes
+ends_more {T} {spells = spells} {bytes = bytes} {tokens = tokens} o none adds still s =
+    let given : adds.given ≡ tokens = given_are adds.added none refl in
     record {
       steps = o.steps ++ s.more;
-      splits = subst (λ (l : List (Placed T)). Splits spells bytes l None) (ap (λ (l : List (Placed T)). tokens_in o.steps ++ l) (given ∙ sym s.are) ∙ sym (tokens-append o.steps s.more)) (split_last old.begun bytes (tokens_in o.steps) adds.given None o.gives adds.continues);
+      lexer_open = still;
+      splits = λ rest ending k.
+          subst (λ (l : List (Placed T)). Splits spells bytes l ending)
+          (ap (λ (l : List (Placed T)). tokens_in o.steps ++ (l ++ rest)) (given ∙ sym s.are) ∙ sym (append_assoc (tokens_in o.steps) (tokens_in s.more) rest) ∙ ap (λ (l : List (Placed T)). l ++ rest) (sym (tokens-append o.steps s.more)))
+          (o.splits (adds.given ++ rest) ending (adds.gives rest ending k));
       stands = s.stands;
     }
 
-pub refused_last : {T S : Type 0} {spells : T → List ℕ → Type 0} {g : List Entry} {rules : Rules T} {Made : List (Event T) → S → Type 0} {old : Lexing} {parsing : Parsing} {made : S} {item : Option Item} {bytes : List ℕ} {before tokens : List (Placed T)} {ending : Option LexFault} {r : ReadFault} → (o : IsOpen spells g rules Made old parsing made item bytes) → before ≡ [] → AddsLast spells old.begun before tokens ending → IsRefusedAmong g rules o.steps tokens r → HasDefect spells g rules bytes r
-refused_last {T} {spells = spells} {old = old} {bytes = bytes} {tokens = tokens} {ending = ending} o none adds a =
+-- among a portion of the last tokens
+pub refused_more : {T S : Type 0} {spells : T → List ℕ → Type 0} {g : List Entry} {rules : Rules T} {Made : List (Event T) → S → Type 0} {old : Lexing} {now : Begun} {parsing : Parsing} {made : S} {item : Option Item} {bytes : List ℕ} {before tokens : List (Placed T)} {r : ReadFault} → ComesAlways spells → (o : IsEnding spells g rules Made old parsing made item bytes) → before ≡ [] → AddsToEnd spells old.begun before tokens now → IsRefusedAmong g rules o.steps tokens r → HasDefect spells g rules bytes r
+refused_more {T} {spells = spells} {now = now} {bytes = bytes} {tokens = tokens} always o none adds a =
+    let given : adds.given ≡ tokens = given_are adds.added none refl in
+    let rest = always now [] in
+    let all = o.splits (adds.given ++ rest.0) rest.1 (adds.gives rest.0 rest.1 rest.2) in
+    refused_at a (record {
+      others = rest.0;
+      ending = rest.1;
+      splits = subst (λ (l : List (Placed T)). Splits spells bytes l rest.1) (ap (λ (l : List (Placed T)). tokens_in o.steps ++ (l ++ rest.0)) given ∙ sym (append_assoc (tokens_in o.steps) tokens rest.0)) all;
+    })
+
+pub all_taken : {T S : Type 0} {spells : T → List ℕ → Type 0} {g : List Entry} {rules : Rules T} {Made : List (Event T) → S → Type 0} {old : Lexing} {parsing after : Parsing} {made other : S} {item last : Option Item} {bytes : List ℕ} {before tokens : List (Placed T)} → (o : IsEnding spells g rules Made old parsing made item bytes) → before ≡ [] → AddsLast spells old.begun before tokens None → StandsWith g rules Made after other last o.steps tokens → AreAllTaken spells g rules Made after other last bytes
+all_taken {T} {spells = spells} {bytes = bytes} o none adds s =
     let given = given_are adds.added none refl in
-    let all = split_last old.begun bytes (tokens_in o.steps) adds.given ending o.gives adds.continues in
+    record {
+      steps = o.steps ++ s.more;
+      splits = subst (λ (l : List (Placed T)). Splits spells bytes l None) (ap (λ (l : List (Placed T)). tokens_in o.steps ++ l) (given ∙ sym s.are) ∙ sym (tokens-append o.steps s.more)) (o.splits adds.given None adds.continues);
+      stands = s.stands;
+    }
+
+pub refused_last : {T S : Type 0} {spells : T → List ℕ → Type 0} {g : List Entry} {rules : Rules T} {Made : List (Event T) → S → Type 0} {old : Lexing} {parsing : Parsing} {made : S} {item : Option Item} {bytes : List ℕ} {before tokens : List (Placed T)} {ending : Option LexFault} {r : ReadFault} → (o : IsEnding spells g rules Made old parsing made item bytes) → before ≡ [] → AddsLast spells old.begun before tokens ending → IsRefusedAmong g rules o.steps tokens r → HasDefect spells g rules bytes r
+refused_last {T} {spells = spells} {bytes = bytes} {tokens = tokens} {ending = ending} o none adds a =
+    let given = given_are adds.added none refl in
+    let all = o.splits adds.given ending adds.continues in
     refused_at a (record {
       others = [];
       ending = ending;
       splits = subst (λ (l : List (Placed T)). Splits spells bytes l ending) (ap (λ (l : List (Placed T)). tokens_in o.steps ++ l) given ∙ sym (append-nil (tokens_in o.steps ++ tokens))) all;
     })
 
-pub stopped_last : {T S : Type 0} {spells : T → List ℕ → Type 0} {g : List Entry} {rules : Rules T} {Made : List (Event T) → S → Type 0} {old : Lexing} {parsing after : Parsing} {made other : S} {item last : Option Item} {bytes : List ℕ} {before tokens : List (Placed T)} {fault : LexFault} {r : ReadFault} → (o : IsOpen spells g rules Made old parsing made item bytes) → before ≡ [] → AddsLast spells old.begun before tokens (Some fault) → StandsWith g rules Made after other last o.steps tokens → r ≡ lexing_refusal fault last → HasDefect spells g rules bytes r
-stopped_last {T} {spells = spells} {old = old} {bytes = bytes} {fault = fault} o none adds s e =
+pub stopped_last : {T S : Type 0} {spells : T → List ℕ → Type 0} {g : List Entry} {rules : Rules T} {Made : List (Event T) → S → Type 0} {old : Lexing} {parsing after : Parsing} {made other : S} {item last : Option Item} {bytes : List ℕ} {before tokens : List (Placed T)} {fault : LexFault} {r : ReadFault} → (o : IsEnding spells g rules Made old parsing made item bytes) → before ≡ [] → AddsLast spells old.begun before tokens (Some fault) → StandsWith g rules Made after other last o.steps tokens → r ≡ lexing_refusal fault last → HasDefect spells g rules bytes r
+stopped_last {T} {spells = spells} {bytes = bytes} {fault = fault} o none adds s e =
     let given = given_are adds.added none refl in
-    let all = split_last old.begun bytes (tokens_in o.steps) adds.given (Some fault) o.gives adds.continues in
+    let all = o.splits adds.given (Some fault) adds.continues in
     no_token (o.steps ++ s.more) fault
     (subst (λ (l : List (Placed T)). Splits spells bytes l (Some fault)) (ap (λ (l : List (Placed T)). tokens_in o.steps ++ l) (given ∙ sym s.are) ∙ sym (tokens-append o.steps s.more)) all)
     (begun s.stands) (e ∙ ap (λ (i : Option Item). lexing_refusal fault i) s.stands.last_is)
+
+-- where a portion of the last tokens is taken, or all of them
+pub ending_refused : {T S : Type 0} {spells : T → List ℕ → Type 0} {g : List Entry} {rules : Rules T} {Made : List (Event T) → S → Type 0} {old : Lexing} {now : Begun} {parsing : Parsing} {made : S} {item : Option Item} {bytes : List ℕ} {before tokens : List (Placed T)} {r : ReadFault} → (done : Bool) → ComesAlways spells → (o : IsEnding spells g rules Made old parsing made item bytes) → before ≡ [] → (IsTrue done → AddsLast spells old.begun before tokens None) → (done ≡ false → AddsToEnd spells old.begun before tokens now) → IsRefusedAmong g rules o.steps tokens r → HasDefect spells g rules bytes r
+ending_refused true always o none all more a = refused_last o none (all refl) a
+ending_refused false always o none all more a = refused_more always o none (more refl) a
+
+-- ---- portions of a piece
+
+taken_front : (left : Option ℕ) (piece : List ℕ) → (rest : List ℕ) × (taken_of left piece ++ rest ≡ piece)
+taken_front None piece = ([], append-nil piece)
+taken_front (Some count) piece = (drop count piece, take-append-drop count piece)
+
+-- what is a defect of a front of a piece, whatever follows, is one of the piece
+pub front_refused : {T : Type 0} {spells : T → List ℕ → Type 0} {g : List Entry} {rules : Rules T} {r : ReadFault} (bytes : List ℕ) (left : Option ℕ) (piece : List ℕ) → HasDefectAlways spells g rules (bytes ++ taken_of left piece) r → HasDefectAlways spells g rules (bytes ++ piece) r
+front_refused {spells = spells} {g = g} {rules = rules} {r = r} bytes left piece h more =
+    let o = taken_front left piece in
+    subst (λ (l : List ℕ). HasDefect spells g rules l r)
+    (append_assoc bytes (taken_of left piece) (o.0 ++ more) ∙ ap (λ (l : List ℕ). bytes ++ l) (sym (append_assoc (taken_of left piece) o.0 more) ∙ ap (λ (l : List ℕ). l ++ more) o.1) ∙ sym (append_assoc bytes piece more))
+    (h (o.0 ++ more))
+
+-- the piece so far was taken
+pub record TakesSoFar {T S : Type 0} (spells : T → List ℕ → Type 0) (g : List Entry) (rules : Rules T) (Made : List (Event T) → S → Type 0) (old : Lexing) (parsing : Parsing) (made : S) (item : Option Item) (now : Lexing) (after : Parsing) (other : S) (last : Option Item) (piece : List ℕ) (place : ℕ) : Type 0 where
+  pub within : place ≤ length piece
+  pub room : HasRoom spells g rules Made now after other last (length piece - place)
+  pub takes : (bytes : List ℕ) → IsOpen spells g rules Made old parsing made item bytes → IsOpen spells g rules Made now after other last (bytes ++ take place piece)
+
+pub none_so_far : {T S : Type 0} {spells : T → List ℕ → Type 0} {g : List Entry} {rules : Rules T} {Made : List (Event T) → S → Type 0} {old : Lexing} {parsing : Parsing} {made : S} {item : Option Item} (piece : List ℕ) → HasRoom spells g rules Made old parsing made item (length piece) → TakesSoFar spells g rules Made old parsing made item old parsing made item piece 0
+none_so_far {spells = spells} {g = g} {rules = rules} {Made = Made} {old = old} {parsing = parsing} {made = made} {item = item} piece room = record {
+  within = omega arith;
+  room = record { bytes = room.bytes; open_yet = room.open_yet; few = let few = room.few in omega arith };
+  takes = λ bytes o. subst (λ (l : List ℕ). IsOpen spells g rules Made old parsing made item l) (sym (append-nil bytes)) o;
+}
+
+-- the rest of the piece from a place
+abbrev pub rest_from : List ℕ → ℕ → List ℕ
+rest_from piece place = take (length piece - place) (drop place piece)
+
+rest_length : (piece : List ℕ) (place : ℕ) → length (rest_from piece place) ≡ length piece - place
+rest_length piece place = ap (λ (l : List ℕ). length l) (take_rest piece place) ∙ length-drop place piece
+
+pub more_so_far : {T S : Type 0} {spells : T → List ℕ → Type 0} {g : List Entry} {rules : Rules T} {Made : List (Event T) → S → Type 0} {old now new : Lexing} {parsing mid after : Parsing} {made half other : S} {item between last : Option Item} (piece : List ℕ) (place count : ℕ) → TakesSoFar spells g rules Made old parsing made item now mid half between piece place → count ≤ length (rest_from piece place) → ((bytes : List ℕ) → IsOpen spells g rules Made now mid half between bytes → IsOpen spells g rules Made new after other last (bytes ++ take count (rest_from piece place))) → TakesSoFar spells g rules Made old parsing made item new after other last piece (place + count)
+more_so_far {spells = spells} {g = g} {rules = rules} {Made = Made} {new = new} {after = after} {other = other} {last = last} piece place count s few takes =
+    let left = rest_length piece place in
+    let within = s.within in
+    let room = s.room.few in
+    let size : length (take count (rest_from piece place)) ≡ count = length-take-le count (rest_from piece place) few in
+    let all : length (s.room.bytes ++ take count (rest_from piece place)) ≡ length s.room.bytes + length (take count (rest_from piece place)) = length-append s.room.bytes (take count (rest_from piece place)) in
+    record {
+      within = omega arith;
+      room = record { bytes = s.room.bytes ++ take count (rest_from piece place); open_yet = takes s.room.bytes s.room.open_yet; few = omega arith };
+      takes = λ bytes o.
+          subst (λ (l : List ℕ). IsOpen spells g rules Made new after other last l)
+          (append_assoc bytes (take place piece) (take count (rest_from piece place))
+          ∙ ap (λ (l : List ℕ). bytes ++ l) (ap (λ (l : List ℕ). take place piece ++ take count l) (take_rest piece place) ∙ sym (take-add place count piece)))
+          (takes (bytes ++ take place piece) (s.takes bytes o));
+    }
+
+-- what stands behind what was taken is the rest
+pub whole_piece : (bytes piece : List ℕ) (place : ℕ) → (bytes ++ take place piece) ++ rest_from piece place ≡ bytes ++ piece
+whole_piece bytes piece place = append_assoc bytes (take place piece) (rest_from piece place) ∙ ap (λ (l : List ℕ). bytes ++ l) (ap (λ (l : List ℕ). take place piece ++ l) (take_rest piece place) ∙ take-append-drop place piece)
+
+pub so_far_room : {T S : Type 0} {spells : T → List ℕ → Type 0} {g : List Entry} {rules : Rules T} {Made : List (Event T) → S → Type 0} {old now : Lexing} {parsing mid : Parsing} {made half : S} {item between : Option Item} (piece : List ℕ) (place : ℕ) → TakesSoFar spells g rules Made old parsing made item now mid half between piece place → HasRoom spells g rules Made now mid half between (length (rest_from piece place))
+so_far_room piece place s = record { bytes = s.room.bytes; open_yet = s.room.open_yet; few = let few = s.room.few in let left = rest_length piece place in omega arith }
+
+-- what is begun stands within the bytes that a document may have
+pub begins_within : {T S : Type 0} {spells : T → List ℕ → Type 0} {g : List Entry} {rules : Rules T} {Made : List (Event T) → S → Type 0} {now : Lexing} {mid : Parsing} {half : S} {between : Option Item} {room : ℕ} → HasRoom spells g rules Made now mid half between room → now.begun.at ≤ most_bytes
+begins_within h = let place = h.open_yet.place in let few = h.few in omega arith
+
+pub rest_refused : {T : Type 0} {spells : T → List ℕ → Type 0} {g : List Entry} {rules : Rules T} {r : ReadFault} (bytes piece : List ℕ) (place : ℕ) → HasDefectAlways spells g rules ((bytes ++ take place piece) ++ rest_from piece place) r → HasDefectAlways spells g rules (bytes ++ piece) r
+rest_refused {spells = spells} {g = g} {rules = rules} {r = r} bytes piece place h = subst (λ (l : List ℕ). HasDefectAlways spells g rules l r) (whole_piece bytes piece place) h
+
+pub all_so_far : {T S : Type 0} {spells : T → List ℕ → Type 0} {g : List Entry} {rules : Rules T} {Made : List (Event T) → S → Type 0} {old now new : Lexing} {parsing mid after : Parsing} {made half other : S} {item between last : Option Item} (piece : List ℕ) (place : ℕ) → TakesSoFar spells g rules Made old parsing made item now mid half between piece place → ((bytes : List ℕ) → IsOpen spells g rules Made now mid half between bytes → IsOpen spells g rules Made new after other last (bytes ++ rest_from piece place)) → (bytes : List ℕ) → IsOpen spells g rules Made old parsing made item bytes → IsOpen spells g rules Made new after other last (bytes ++ piece)
+all_so_far {spells = spells} {g = g} {rules = rules} {Made = Made} {new = new} {after = after} {other = other} {last = last} piece place s takes bytes o =
+    subst (λ (l : List ℕ). IsOpen spells g rules Made new after other last l) (whole_piece bytes piece place) (takes (bytes ++ take place piece) (s.takes bytes o))
+
+-- as a call answers it
+
+pub more_left : {T S : Type 0} {spells : T → List ℕ → Type 0} {g : List Entry} {rules : Rules T} {Made : List (Event T) → S → Type 0} {old now new : Lexing} {parsing mid after : Parsing} {made half other : S} {item between last : Option Item} (piece : List ℕ) (place count : ℕ) (left : Option ℕ) → left ≡ Some count → TakesSoFar spells g rules Made old parsing made item now mid half between piece place → IfSome left (λ n. n ≤ length (rest_from piece place)) → ((bytes : List ℕ) → IsOpen spells g rules Made now mid half between bytes → IsOpen spells g rules Made new after other last (bytes ++ taken_of left (rest_from piece place))) → TakesSoFar spells g rules Made old parsing made item new after other last piece (place + count)
+more_left {spells = spells} {g = g} {rules = rules} {Made = Made} {new = new} {after = after} {other = other} {last = last} piece place count left e s within takes =
+    more_so_far piece place count s (subst (λ (o : Option ℕ). IfSome o (λ n. n ≤ length (rest_from piece place))) e within)
+    (λ bytes o. subst (λ (l : Option ℕ). IsOpen spells g rules Made new after other last (bytes ++ taken_of l (rest_from piece place))) e (takes bytes o))
+
+pub all_left : {T S : Type 0} {spells : T → List ℕ → Type 0} {g : List Entry} {rules : Rules T} {Made : List (Event T) → S → Type 0} {old now new : Lexing} {parsing mid after : Parsing} {made half other : S} {item between last : Option Item} (piece : List ℕ) (place : ℕ) (left : Option ℕ) → left ≡ None → TakesSoFar spells g rules Made old parsing made item now mid half between piece place → ((bytes : List ℕ) → IsOpen spells g rules Made now mid half between bytes → IsOpen spells g rules Made new after other last (bytes ++ taken_of left (rest_from piece place))) → (bytes : List ℕ) → IsOpen spells g rules Made old parsing made item bytes → IsOpen spells g rules Made new after other last (bytes ++ piece)
+all_left {spells = spells} {g = g} {rules = rules} {Made = Made} {new = new} {after = after} {other = other} {last = last} piece place left e s takes =
+    all_so_far piece place s (λ bytes o. subst (λ (l : Option ℕ). IsOpen spells g rules Made new after other last (bytes ++ taken_of l (rest_from piece place))) e (takes bytes o))
+
+-- ---- portions of the last tokens
+
+pub record EndsSoFar {T S : Type 0} (spells : T → List ℕ → Type 0) (g : List Entry) (rules : Rules T) (Made : List (Event T) → S → Type 0) (old : Lexing) (parsing : Parsing) (made : S) (item : Option Item) (now : Lexing) (after : Parsing) (other : S) (last : Option Item) : Type 0 where
+  pub can : CanEnd spells g rules Made now after other last
+  pub takes : (bytes : List ℕ) → IsEnding spells g rules Made old parsing made item bytes → IsEnding spells g rules Made now after other last bytes
+
+pub none_ended : {T S : Type 0} {spells : T → List ℕ → Type 0} {g : List Entry} {rules : Rules T} {Made : List (Event T) → S → Type 0} {old : Lexing} {parsing : Parsing} {made : S} {item : Option Item} {room : ℕ} → HasRoom spells g rules Made old parsing made item room → EndsSoFar spells g rules Made old parsing made item old parsing made item
+none_ended h = record { can = record { bytes = h.bytes; ending = open_ends h.open_yet }; takes = λ bytes o. o }
+
+pub more_ended : {T S : Type 0} {spells : T → List ℕ → Type 0} {g : List Entry} {rules : Rules T} {Made : List (Event T) → S → Type 0} {old now new : Lexing} {parsing mid after : Parsing} {made half other : S} {item between last : Option Item} → EndsSoFar spells g rules Made old parsing made item now mid half between → ((bytes : List ℕ) → IsEnding spells g rules Made now mid half between bytes → IsEnding spells g rules Made new after other last bytes) → EndsSoFar spells g rules Made old parsing made item new after other last
+more_ended h takes = record { can = record { bytes = h.can.bytes; ending = takes h.can.bytes h.can.ending }; takes = λ bytes o. takes bytes (h.takes bytes o) }

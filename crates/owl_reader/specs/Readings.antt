@@ -1,11 +1,13 @@
 -- What a reader is, and how it stands to the bytes that it was fed.
-use Rattle.std.specs.Prelude.{◌≡◌, ◌≢◌, ◌+◌, ◌≤◌, ℕ, List, ◌++◌, length, Option, None, Some}
+use Rattle.std.specs.Prelude.{◌≡◌, ◌≢◌, ◌+◌, ◌≤◌, ℕ, List, [], ◌++◌, length, Option, None, Some}
 use Rattle.grammar.specs.Derivations.{Event}
 use Rattle.grammar.specs.Grammars.{Entry}
 use Rattle.grammar.specs.Parsing.{Parsing}
 use Rattle.owl_characters.specs.Limit.{most_bytes}
-use Rattle.owl_lexer.specs.Lexing.{EndWith, Gives, Lexing, end_of, nothing_fed}
+use Rattle.owl_lexer.specs.Lexing.{Continues, EndWith, Gives, Lexing, end_of, nothing_fed}
 use Rattle.owl_lexer.specs.Splitting.{Splits}
+use Rattle.owl_lexer.specs.declared.fault.LexFault.{LexFault}
+use Rattle.owl_lexer.specs.declared.placed.Placed.{Placed}
 use Rattle.owl_reader.specs.Defects.{HasDefect, IsFirstDefect, NoneBarred}
 use Rattle.owl_reader.specs.Standing.{Ends, Stands}
 use Rattle.owl_reader.specs.Steps.{Step, tokens_in}
@@ -37,6 +39,18 @@ pub record HasRoom {T S : Type 0} (spells : T → List ℕ → Type 0) (g : List
   pub bytes : List ℕ
   pub open_yet : IsOpen spells g rules Made lexing parsing made last bytes
   pub few : length bytes + room ≤ most_bytes
+
+-- The end behind the bytes was told, and some of their tokens were taken: those that come of the lexer follow them.
+pub record IsEnding {T S : Type 0} (spells : T → List ℕ → Type 0) (g : List Entry) (rules : Rules T) (Made : List (Event T) → S → Type 0) (lexing : Lexing) (parsing : Parsing) (made : S) (last : Option Item) (bytes : List ℕ) : Type 0 where
+  pub steps : List (Step T)
+  pub lexer_open : lexing.refused ≡ None
+  pub splits : (tokens : List (Placed T)) (ending : Option LexFault) → Continues spells lexing.begun [] tokens ending → Splits spells bytes (tokens_in steps ++ tokens) ending
+  pub stands : Stands g rules Made parsing made last steps
+
+-- some bytes end so
+pub record CanEnd {T S : Type 0} (spells : T → List ℕ → Type 0) (g : List Entry) (rules : Rules T) (Made : List (Event T) → S → Type 0) (lexing : Lexing) (parsing : Parsing) (made : S) (last : Option Item) : Type 0 where
+  pub bytes : List ℕ
+  pub ending : IsEnding spells g rules Made lexing parsing made last bytes
 
 -- All tokens of the bytes were taken.
 pub record AreAllTaken {T S : Type 0} (spells : T → List ℕ → Type 0) (g : List Entry) (rules : Rules T) (Made : List (Event T) → S → Type 0) (parsing : Parsing) (made : S) (last : Option Item) (bytes : List ℕ) : Type 0 where

@@ -1,10 +1,10 @@
 //! Bytes, token by token.
 
-ghost use Rattle.std.specs.Prelude.{◌≡◌, ◌≢◌, ◌++◌, List, ℕ, length, IfErr, OnOk};
-ghost use Rattle.owl_lexer.specs.Lexing.{HoldsNoEnd};
+ghost use Rattle.std.specs.Prelude.{◌≡◌, ◌≢◌, ◌<◌, ◌≤◌, ◌++◌, List, ℕ, length, false, None, IsSome, IsTrue, IfErr, IfOk, IfSome, OnOk};
+ghost use Rattle.owl_lexer.specs.Lexing.{HoldsNoEnd, taken_of};
 ghost use Rattle.owl_reader.specs.Defects.{HasDefect};
 ghost use Rattle.owl_reader.specs.Faults.{lexing_refusal};
-ghost use Rattle.owl_reader.specs.Readings.{AreAllTaken, HasDefectAlways, HasRoom, IsOpen};
+ghost use Rattle.owl_reader.specs.Readings.{AreAllTaken, CanEnd, HasDefectAlways, HasRoom, IsEnding, IsOpen};
 ghost use Rattle.owl_reader.specs.declared.fault.ReadFault.TheVariants.{Memory};
 
 use crate::fault::{ReadFault, Reason};
@@ -33,6 +33,46 @@ fn refusal_of(fault: LexFault, last: Option<Item>) -> ReadFault
     }
 }
 
+/// Takes some of the next bytes, and the portion of tokens that they give. Answers
+/// how many, unless that is all.
+fn take_some<S: Syntax>(
+    alloc: Global,
+    lexer: &mut Lexer<S::Language>,
+    progress: &mut Progress<S>,
+    piece: &[u8],
+) -> Result<Option<usize>, ReadFault>
+    requires { HasRoom S.Language.spells S.Grammar.grammar S.rules S.Made lexer.old
+        progress.old.parser progress.old.syntax progress.old.last (length piece.now) }
+    ensures within { IfOk result (λ left. IfSome left (λ count. count ≤ length piece.now)) }
+    ensures takes { IfOk result (λ left. (bytes : List ℕ)
+        → IsOpen S.Language.spells S.Grammar.grammar S.rules S.Made lexer.old
+        progress.old.parser progress.old.syntax progress.old.last bytes
+        → IsOpen S.Language.spells S.Grammar.grammar S.rules S.Made lexer.new
+        progress.new.parser progress.new.syntax progress.new.last
+        (bytes ++ taken_of left piece.now)) }
+    ensures refuses { IfErr result (λ fault. fault ≢ Memory → (bytes : List ℕ)
+        → IsOpen S.Language.spells S.Grammar.grammar S.rules S.Made lexer.old
+        progress.old.parser progress.old.syntax progress.old.last bytes
+        → HasDefectAlways S.Language.spells S.Grammar.grammar S.rules (bytes ++ piece.now) fault) }
+    ensures nearer { IfOk result (λ left. IsSome left → lexer.old.begun.at < lexer.new.begun.at) }
+    ensures prompt { IfOk result (λ left. left ≡ None →
+        HoldsNoEnd S.Language.spells S.rules.long_quotes lexer.new.begun) }
+{
+    tokens_come_always::<S::Language>();
+    let mut tokens = Vec::new(alloc);
+    match lexer.feed_some(piece, &mut tokens) {
+        Ok(left) => {
+            progress.take_all(tokens)?;
+            Ok(left)
+        }
+        Err(LexFault::Memory) => Err(ReadFault::Memory),
+        Err(fault) => {
+            progress.take_all(tokens)?;
+            Err(refusal_of(fault, progress.last))
+        }
+    }
+}
+
 /// Takes the next bytes.
 pub fn take<S: Syntax>(
     alloc: Global,
@@ -54,10 +94,46 @@ pub fn take<S: Syntax>(
     ensures prompt { OnOk result
         (HoldsNoEnd S.Language.spells S.rules.long_quotes lexer.new.begun) }
 {
+    let mut place = 0;
+    while let Some(count) = take_some::<S>(alloc, lexer, progress, &piece[place..])? {
+        place += count;
+    }
+    Ok(())
+}
+
+/// Takes a portion of the last tokens, which the end makes whole. Answers whether
+/// all were taken.
+fn take_some_last<S: Syntax>(
+    alloc: Global,
+    lexer: &mut Lexer<S::Language>,
+    progress: &mut Progress<S>,
+) -> Result<bool, ReadFault>
+    requires { CanEnd S.Language.spells S.Grammar.grammar S.rules S.Made lexer.old
+        progress.old.parser progress.old.syntax progress.old.last }
+    ensures all { IfOk result (λ done. IsTrue done → (bytes : List ℕ)
+        → IsEnding S.Language.spells S.Grammar.grammar S.rules S.Made lexer.old
+        progress.old.parser progress.old.syntax progress.old.last bytes
+        → AreAllTaken S.Language.spells S.Grammar.grammar S.rules S.Made
+        progress.new.parser progress.new.syntax progress.new.last bytes) }
+    ensures some { IfOk result (λ done. done ≡ false → (bytes : List ℕ)
+        → IsEnding S.Language.spells S.Grammar.grammar S.rules S.Made lexer.old
+        progress.old.parser progress.old.syntax progress.old.last bytes
+        → IsEnding S.Language.spells S.Grammar.grammar S.rules S.Made lexer.new
+        progress.new.parser progress.new.syntax progress.new.last bytes) }
+    ensures refuses { IfErr result (λ fault. fault ≢ Memory → (bytes : List ℕ)
+        → IsEnding S.Language.spells S.Grammar.grammar S.rules S.Made lexer.old
+        progress.old.parser progress.old.syntax progress.old.last bytes
+        → HasDefect S.Language.spells S.Grammar.grammar S.rules bytes fault) }
+    ensures nearer { IfOk result (λ done. done ≡ false →
+        length lexer.new.begun.held < length lexer.old.begun.held) }
+{
     tokens_come_always::<S::Language>();
     let mut tokens = Vec::new(alloc);
-    match lexer.feed(piece, &mut tokens) {
-        Ok(()) => progress.take_all(tokens),
+    match lexer.finish_some(&mut tokens) {
+        Ok(done) => {
+            progress.take_all(tokens)?;
+            Ok(done)
+        }
         Err(LexFault::Memory) => Err(ReadFault::Memory),
         Err(fault) => {
             progress.take_all(tokens)?;
@@ -84,13 +160,6 @@ pub fn take_last<S: Syntax>(
         progress.old.parser progress.old.syntax progress.old.last bytes
         → HasDefect S.Language.spells S.Grammar.grammar S.rules bytes fault) }
 {
-    let mut tokens = Vec::new(alloc);
-    match lexer.finish(&mut tokens) {
-        Ok(()) => progress.take_all(tokens),
-        Err(LexFault::Memory) => Err(ReadFault::Memory),
-        Err(fault) => {
-            progress.take_all(tokens)?;
-            Err(refusal_of(fault, progress.last))
-        }
-    }
+    while !take_some_last::<S>(alloc, lexer, progress)? {}
+    Ok(())
 }

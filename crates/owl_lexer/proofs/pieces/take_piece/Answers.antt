@@ -1,5 +1,5 @@
 -- The same in tokens.
-use Rattle.std.proofs.Common.{arith, ap, ◌+◌, ◌≤◌, length, subst}
+use Rattle.std.proofs.Common.{arith, ap, subst}
 use Rattle.std.proofs.lemmas.Result.{IfErr-weaker, IfOk-weaker}
 use Rattle.owl_lexer.specs.BytesGiving.{BegunBytes, end_of_bytes}
 use Rattle.owl_lexer.specs.Lexing.{taken_of}

@@ -1,25 +1,25 @@
-use Rattle.std.proofs.Common.{rules}
-use Rattle.std.proofs.lemmas.Result.{IfErr-weaker, on_ok_weaker}
+-- A portion more was taken, or refused; and all were taken.
+use Rattle.std.proofs.Common.{arith, rules}
 use Rattle.owl_characters.specs.ResultLaws.{passed}
-use Rattle.owl_reader.proofs.Streams.{open_more, refused_among, refused_before, stopped_there}
+use Rattle.owl_reader.proofs.Streams.{all_left, begins_within, more_left, none_so_far, rest_refused}
 use Rattle.owl_reader.proofs.stream.take.Goals as goal
 
-pub returns-in-Ok-clause-takes : goal.returns-in-Ok-clause-takes
-returns-in-Ok-clause-takes g c = on_ok_weaker c.take_all.result (λ takes bytes o. open_more o c.new-tokens.ensures.items c.in-Ok.ensures.ok c.in-Ok.ensures.open_yet.1 c.in-Ok.ensures.end c.in-Ok.ensures.ends (takes o.steps o.stands)) c.take_all.ensures.takes
+pub loop-count-init : goal.loop-count-init
+loop-count-init g c = none_so_far c.args.piece.now c.requires
 
-pub returns-in-Ok-clause-refuses : goal.returns-in-Ok-clause-refuses
-returns-in-Ok-clause-refuses g c = IfErr-weaker c.take_all.result _ _ (λ e refuses other bytes o. refused_among c.tokens_come_always.ensures.rest o c.new-tokens.ensures.items c.in-Ok.ensures.ok (refuses other o.steps o.stands)) c.take_all.ensures.refuses
+pub returns-in_err-count-clause-refuses : goal.returns-in_err-count-clause-refuses
+returns-in_err-count-clause-refuses g c =
+    passed c.from_residual.result c.in_err-count.field-0.0 _ c.from_residual.ensures.1
+    (λ other bytes o. rest_refused bytes c.args.piece.now c.loop-count.place (c.in_err-count.ensures.refuses other _ (c.loop-count.invariant.takes bytes o)))
 
-pub returns-in-Ok-clause-prompt : goal.returns-in-Ok-clause-prompt
-returns-in-Ok-clause-prompt g c = on_ok_weaker c.take_all.result (λ takes. c.in-Ok.ensures.prompt g.S.Syntax.rules.long_quotes g.met.S.Syntax.is_prompt) c.take_all.ensures.takes
+pub loop-count-smaller : goal.loop-count-smaller
+loop-count-smaller g c =
+    let more = more_left c.args.piece.now c.loop-count.place c.in-Some.count c.in_ok-count.field-0 c.in-Some.is c.loop-count.invariant c.in_ok-count.ensures.within c.in_ok-count.ensures.takes in
+    omega (arith, c.in_ok-count.ensures.nearer (search rules), begins_within more.room)
 
-pub returns-in_ok-take_all-in-Err : goal.returns-in_ok-take_all-in-Err
-returns-in_ok-take_all-in-Err g c = record {
-  takes = tt;
-  prompt = tt;
-  refuses = λ other bytes o. stopped_there o c.new-tokens.ensures.items (c.in-Err.ensures.bad o.lexer_open (search rules)) (c.in_ok-take_all-in-Err.ensures.takes o.steps o.stands) c.refusal_of.ensures;
-}
+pub loop-count-preserved : goal.loop-count-preserved
+loop-count-preserved g c =
+    more_left c.args.piece.now c.loop-count.place c.in-Some.count c.in_ok-count.field-0 c.in-Some.is c.loop-count.invariant c.in_ok-count.ensures.within c.in_ok-count.ensures.takes
 
-pub returns-in_err-take_all-in-Err-clause-refuses : goal.returns-in_err-take_all-in-Err-clause-refuses
-returns-in_err-take_all-in-Err-clause-refuses g c = passed c.from_residual.result c.in_err-take_all-in-Err.field-0.0 _ c.from_residual.ensures.1
-    (λ other bytes o. refused_before o c.new-tokens.ensures.items (c.in-Err.ensures.bad o.lexer_open (search rules)) (c.in_err-take_all-in-Err.ensures.refuses other o.steps o.stands))
+pub returns-clause-takes : goal.returns-clause-takes
+returns-clause-takes g c = all_left c.args.piece.now c.loop-count.place c.in_ok-count.field-0 c.in_default.is c.loop-count.invariant c.in_ok-count.ensures.takes
