@@ -37,9 +37,6 @@ takes_more_bytes a value old mid new bytes i before between after lt t u =
     let next : take i bytes ++ get_or bytes i 0 ∷ [] ≡ take (i + 1) bytes = sym (take-suc bytes i 0 lt) ∙ ap (λ (n : ℕ). take n bytes) (let e : suc i ≡ i + 1 = omega arith in e) in
     subst (λ (l : List ℕ). TakesBytes a value old l before after new) next (takes_both_bytes a value old mid new (take i bytes) (get_or bytes i 0 ∷ []) before between after t u)
 
-pub takes_all_bytes : {T : Type 0} → (a : Automaton) (value : ℕ → List ℕ → Option T) (old new : Source) (bytes : List ℕ) (i : ℕ) (before after : List (Placed T)) → length bytes ≤ i → TakesBytes a value old (take i bytes) before after new → TakesBytes a value old bytes before after new
-takes_all_bytes a value old new bytes i before after le t = subst (λ (l : List ℕ). TakesBytes a value old l before after new) (take_all i bytes le) t
-
 pub refuses_in_bytes : {T : Type 0} → (a : Automaton) (value : ℕ → List ℕ → Option T) (old mid : Source) (bytes : List ℕ) (i : ℕ) (before between after : List (Placed T)) (fault : LexFault) → i < length bytes → TakesBytes a value old (take i bytes) before between mid → RefusesBytes a value (begun_in mid) (get_or bytes i 0 ∷ []) between after fault → RefusesBytes a value (begun_in old) bytes before after fault
 refuses_in_bytes a value old mid bytes i before between after fault lt t r = record {
   some = record {

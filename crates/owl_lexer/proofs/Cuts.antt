@@ -155,17 +155,9 @@ again_bad {T = T} a value hand again before r lost some none =
       bad = λ ne. record { given = []; added = sym (append-nil before); stop = stop };
     }
 
--- where one character was taken again, before more
-
-may_follow : (more : List ℕ) → MayFollow false more
-may_follow more e = cc
-
 -- what is begun, where nothing is taken again
 pub with_none : (hand : Hand) (again : Again) → again.chars.items ≡ [] → begun_with hand again ≡ begun_of hand
 with_none hand again e = λ i. record { at = hand.at; held = (ap (λ (l : List ℕ). hand.held.items ++ reverse l) e ∙ append-nil hand.held.items) i }
-
-with_one : (hand : Hand) (again : Again) (c : ℕ) → again.chars.items ≡ c ∷ [] → begun_with hand again ≡ record { at = hand.at; held = hand.held.items ++ c ∷ [] }
-with_one hand again c e = λ i. record { at = hand.at; held = ap (λ (l : List ℕ). hand.held.items ++ reverse l) e i }
 
 -- where the end was told
 
@@ -203,14 +195,6 @@ finishes_badly a value old again before after fault none s =
       some = record { given = r.some.given; added = r.some.added; next = λ tail. r.some.next [] tail (none_follows again.ended) };
       bad = λ ne. let bad = r.bad ne in record { given = bad.given; added = bad.added; ends = λ tail. bad.stop [] tail (none_follows again.ended) };
     }
-
--- where there is one, it stands behind what is held
-pub end_one : (a : Automaton) (hand : Hand) (again : Again) (c : ℕ) → IsReady a hand → again.chars.items ≡ c ∷ [] → end_of (begun_with hand again) ≡ hand.end + len_utf8 c
-end_one a hand again c r e =
-    let end = r.end in
-    let sizes = size_append hand.held.items (c ∷ []) in
-    let whole : end_of (begun_with hand again) ≡ hand.at + size (hand.held.items ++ c ∷ []) = ap end_of (with_one hand again c e) in
-    omega arith
 
 -- characters were held again since
 still : {T : Type 0} → (a : Automaton) (value : ℕ → List ℕ → Option T) (old_hand now held : Hand) (old again held_again : Again) (before so_far : List (Placed T)) → Settles a value old_hand old before so_far now again → HoldsAgain a now again held held_again → AddsCut a value old.ended (begun_with old_hand old) before so_far (begun_with held held_again)

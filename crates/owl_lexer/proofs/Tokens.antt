@@ -101,7 +101,7 @@ end_is begun = let held = held_is begun in omega arith
 sound_with : (a : Automaton) (source : Source) (again : Again) → IsOpenWith a source again → IsSound (begun_with_again source again)
 sound_with a source again o = record { scalars = o.scalars; first = o.start }
 
-pub takes_piece : {T : Type 0} → (a : Automaton) (value : ℕ → List ℕ → Option T) (spells : T → List ℕ → Type 0) → IsLanguage a value spells → (old new : Source) (again left : Again) (bytes : List ℕ) (before after : List (Placed T)) → IsOpenWith a old again → TakesAgain a value old again bytes before after new left → TakesPiece a spells (bytes_with old again) bytes before after (bytes_with new left)
+pub takes_piece : {T : Type 0} → (a : Automaton) (value : ℕ → List ℕ → Option T) (spells : T → List ℕ → Type 0) → IsLanguage a value spells → (old new : Source) (again left : Again) (bytes : List ℕ) (before after : List (Placed T)) → IsOpenWith a old again → TakesAgain a value old again bytes before after new left → TakesPiece spells (bytes_with old again) bytes before after (bytes_with new left)
 takes_piece a value spells l old new again left bytes before after o t =
     let adds = adds_tokens a value spells l (begun_with_again old again) (begun_with_again new left) bytes before after (sound_with a old again o) (sound_with a new left t.open_yet) t.moves.adds in
     let some : AddsSome spells (bytes_with old again) bytes before after = record { given = adds.given; added = adds.added; next = λ more tokens e k. let o = adds.gives.all more tokens e k in (o.0, o.1) } in

@@ -115,7 +115,7 @@ pub record EndsBytesBadly {T : Type 0} (a : Automaton) (value : ℕ → List ℕ
   pub bad : fault ≢ Memory → AddsLastBytes a value old before after (Some fault)
 
 -- The same in tokens: a piece of bytes was taken.
-pub record TakesPiece {T : Type 0} (a : Automaton) (spells : T → List ℕ → Type 0) (old : Begun) (bytes : List ℕ) (before after : List (Placed T)) (new : Begun) : Type 0 where
+pub record TakesPiece {T : Type 0} (spells : T → List ℕ → Type 0) (old : Begun) (bytes : List ℕ) (before after : List (Placed T)) (new : Begun) : Type 0 where
   pub adds : Adds spells old bytes before after new
   pub spelled : AreSpelled spells before → AreSpelled spells after
   pub few : length after + old.at ≤ length before + new.at

@@ -22,7 +22,7 @@ pub fn take_piece<L: TokenLanguage>(
     requires open_yet { IsOpenWith L.automaton source.old again.old }
     requires room { end_of (bytes_with source.old again.old) + length piece.now ≤ 2 ^ 62 }
     ensures within { IfOk result (λ left. IfSome left (λ count. count ≤ length piece.now)) }
-    ensures ok { IfOk result (λ left. TakesPiece L.automaton L.spells
+    ensures ok { IfOk result (λ left. TakesPiece L.spells
         (bytes_with source.old again.old) (taken_of left piece.now)
         into.old.items into.new.items (bytes_with source.new again.new)) }
     ensures open_yet { IfOk result (λ left. IsOpenWith L.automaton source.new again.new) }

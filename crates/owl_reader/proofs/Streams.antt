@@ -1,5 +1,5 @@
 -- What comes of bytes more.
-use Rattle.std.proofs.Common.{◌≡◌, ℕ, ◌+◌, Bool, true, false, ◌-◌, ◌≤◌, ◌<◌, Option, None, Some, List, [], ◌∷◌, ◌++◌, length, take, drop, arith, refl, sym, ap, ◌∙◌, subst}
+use Rattle.std.proofs.Common.{◌≡◌, ℕ, ◌+◌, Bool, true, false, ◌-◌, ◌≤◌, Option, None, Some, List, [], ◌∷◌, ◌++◌, length, take, drop, arith, refl, sym, ap, ◌∙◌, subst}
 use Rattle.std.proofs.lemmas.List.{append_assoc, append-nil, length-append, length-drop, length-take-le, map-append, take-append-drop, take_rest}
 use Rattle.std.proofs.Math.Seq.{take-add}
 use Rattle.std.specs.Prelude.{IfSome, IsTrue}
@@ -240,9 +240,6 @@ more_so_far {spells = spells} {g = g} {rules = rules} {Made = Made} {new = new} 
 -- what stands behind what was taken is the rest
 pub whole_piece : (bytes piece : List ℕ) (place : ℕ) → (bytes ++ take place piece) ++ rest_from piece place ≡ bytes ++ piece
 whole_piece bytes piece place = append_assoc bytes (take place piece) (rest_from piece place) ∙ ap (λ (l : List ℕ). bytes ++ l) (ap (λ (l : List ℕ). take place piece ++ l) (take_rest piece place) ∙ take-append-drop place piece)
-
-pub so_far_room : {T S : Type 0} {spells : T → List ℕ → Type 0} {g : List Entry} {rules : Rules T} {Made : List (Event T) → S → Type 0} {old now : Lexing} {parsing mid : Parsing} {made half : S} {item between : Option Item} (piece : List ℕ) (place : ℕ) → TakesSoFar spells g rules Made old parsing made item now mid half between piece place → HasRoom spells g rules Made now mid half between (length (rest_from piece place))
-so_far_room piece place s = record { bytes = s.room.bytes; open_yet = s.room.open_yet; few = let few = s.room.few in let left = rest_length piece place in omega arith }
 
 -- what is begun stands within the bytes that a document may have
 pub begins_within : {T S : Type 0} {spells : T → List ℕ → Type 0} {g : List Entry} {rules : Rules T} {Made : List (Event T) → S → Type 0} {now : Lexing} {mid : Parsing} {half : S} {between : Option Item} {room : ℕ} → HasRoom spells g rules Made now mid half between room → now.begun.at ≤ most_bytes

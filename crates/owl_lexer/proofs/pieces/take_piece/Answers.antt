@@ -16,7 +16,7 @@ take_some-requires-clause-room g c =
 pub returns-clause-ok : goal.returns-clause-ok
 returns-clause-ok g c =
     IfOk-weaker c.take_some.result _ _
-    (λ left t. subst (λ (b : BegunBytes). TakesPiece g.L.TokenLanguage.automaton g.L.TokenLanguage.spells (bytes_of b) (taken_of left c.args.piece.now) c.args.into.now.items c.take_some.new.into.items (bytes_with c.take_some.new.source c.take_some.new.again)) (same_told c.args.source.now c.args.again.now c.tell_ended.new.again c.tell_ended.ensures.chars)
+    (λ left t. subst (λ (b : BegunBytes). TakesPiece g.L.TokenLanguage.spells (bytes_of b) (taken_of left c.args.piece.now) c.args.into.now.items c.take_some.new.into.items (bytes_with c.take_some.new.source c.take_some.new.again)) (same_told c.args.source.now c.args.again.now c.tell_ended.new.again c.tell_ended.ensures.chars)
     (takes_piece g.L.TokenLanguage.automaton g.L.TokenLanguage.value_of g.L.TokenLanguage.spells g.met.L.TokenLanguage.is_language c.args.source.now c.take_some.new.source c.tell_ended.new.again c.take_some.new.again (taken_of left c.args.piece.now) c.args.into.now.items c.take_some.new.into.items (open_told g.L.TokenLanguage.automaton c.args.source.now c.args.again.now c.tell_ended.new.again c.requires.open_yet c.tell_ended.ensures.chars c.tell_ended.ensures.lost) t))
     c.take_some.ensures.ok
 
