@@ -2,3 +2,4 @@ pub mod Digits
 pub mod Prefixes
 pub mod FreshTexts
 pub mod FarDigits
+pub mod TakenNumbers

@@ -54,7 +54,7 @@ same_passing taken m n e =
           ]
     ]
 
-less_is : (x y : ℕ) → nat_cmp x y ≡ Less → x < y
+pub less_is : (x y : ℕ) → nat_cmp x y ≡ Less → x < y
 less_is x y e =
     elim (cases_order x y) [
       | inl s ↦ let tie = nat_cmp_is x y Equal s in cc

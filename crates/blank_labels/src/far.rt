@@ -1,6 +1,8 @@
 //! Labels whose numbers have 19 digits, and numbers that pass over them.
 
 ghost use Rattle.std.specs.Prelude.{◌≡◌, IfSome};
+ghost use Rattle.std.specs.Ordering.{nat_cmp};
+ghost use Rattle.owl_list.specs.Ascending.{IsAscending};
 ghost use Rattle.blank_labels.specs.FreshLabels.{are_far, far_in, far_number, passing};
 
 use rdf_terms::Label;
@@ -38,18 +40,21 @@ fn are_far(digits: &str) -> bool
     digits.bytes().all(|b| b.is_ascii_digit())
 }
 
-/// The number, where those that are taken, which ascend, are passed over.
+/// The number, where those that are taken, which ascend, are passed over: found
+/// by a search for how many they are.
 pub fn passing(taken: &[u64], number: u64) -> Option<u64>
+    requires { IsAscending nat_cmp taken.now }
     ensures { IfSome result (λ passed. passed ≡ passing taken.now number) }
 {
-    let mut left = taken;
-    let mut passed = number;
-    while let [first, others @ ..] = left {
-        if passed < *first {
-            return Some(passed);
+    let mut low = 0;
+    let mut high = taken.len();
+    while low < high {
+        let middle = low + (high - low) / 2;
+        if taken[middle].saturating_sub(middle as u64) <= number {
+            low = middle + 1;
+        } else {
+            high = middle;
         }
-        passed = passed.checked_add(1)?;
-        left = others;
     }
-    Some(passed)
+    number.checked_add(low as u64)
 }

@@ -72,11 +72,15 @@ pub struct FreshLabels {
 }
 
 impl Model for FreshLabels {
+    ghost use Rattle.std.specs.Ordering.{nat_cmp};
+    ghost use Rattle.owl_list.specs.Ascending.{IsAscending};
     ghost use Rattle.blank_labels.specs.LabelNumbers as numbers;
 
     ghost Value = { numbers.LabelNumbers };
 
     ghost view = { λ f. record { greatest = f.greatest; far = f.taken.items } };
+
+    ghost invariant = { λ f. IsAscending nat_cmp f.taken.items };
 }
 
 impl FreshLabels {

@@ -1,9 +1,9 @@
-use Rattle.std.proofs.Common.{◌≡◌, length}
-use Rattle.blank_labels.specs.FreshLabels.{passing}
+use Rattle.std.proofs.Common.{◌-◌}
+use Rattle.blank_labels.proofs.TakenNumbers.{IsBetween}
 use Rattle.blank_labels.proofs.far.passing.Given as goal
 
-abbrev pub invariant-loop-left : goal.invariant-loop-left
-invariant-loop-left l = passing l.left l.passed ≡ passing l.taken l.number
+abbrev pub invariant-loop-low : goal.invariant-loop-low
+invariant-loop-low l = IsBetween l.taken l.number l.low l.high
 
-abbrev pub decreases-loop-left : goal.decreases-loop-left
-decreases-loop-left l = length l.left
+abbrev pub decreases-loop-low : goal.decreases-loop-low
+decreases-loop-low l = l.high - l.low
