@@ -1,22 +1,29 @@
--- The graph that a translation to Turtle writes says the normal form.
-use Rattle.std.proofs.Common.{◌≡◌, ◌≤◌, List, [], ◌∷◌, map, refl, sym, subst}
+-- The graph that a translation to Turtle writes says the normal form, and declares what it does.
+use Rattle.std.proofs.Common.{◌≡◌, ◌≤◌, ◌++◌, List, [], ◌∷◌, Contains, ap, map, sym, subst}
 use Rattle.std.specs.List.{AllByRecursion}
 use Rattle.owl_arena.specs.Shared.{heaviest}
-use Rattle.owl_doc.specs.Entities.{AreWellTyped, entities, entities_of}
+use Rattle.owl_doc.specs.Entities.{AreWellTyped, declarations, declared_in, entities, entities_of}
 use Rattle.owl_kind.specs.Kinds.{Entity}
 use Rattle.owl_tree.specs.Ontologies.{IsOntology, Ontology, canonical_list, canonical_ontology, ontology_weight}
+use Rattle.owl_tree.specs.OntologyLaws.{equivalent_lists}
 use Rattle.owl_tree.specs.Trees.{Tree, kids_of}
 use Rattle.owl_documents.specs.Documents.{Said}
+use Rattle.rdf_graph.specs.declared.triple.Triple.{Triple}
 use Rattle.rdf_mapping.specs.Graphs.{graph_of}
 use Rattle.rdf_meaning.specs.Statements.{Says}
+use Rattle.rdf_normal.specs.DeclaredLaws.{DeclaresIn, declared_by, declares_before, declares_it, form_declares}
 use Rattle.rdf_normal.specs.NormalForms.{normal_form, unsettled_annotations, unsettled_axioms}
+use Rattle.rdf_normal.specs.ShapedLaws.{normal_is_ontology}
 use Rattle.rdf_normal.specs.TidiedLaws.{settled_form}
-use Rattle.rdf_states.specs.NormalStatesLaws.{form_says}
+use Rattle.rdf_reverse.specs.DeclaringLaws.{declares_stated}
+use Rattle.rdf_reverse.specs.WithinLaws.{said_within}
+use Rattle.rdf_scans.specs.Outlines.{declarations as graph_declarations}
+use Rattle.rdf_states.specs.NormalStatesLaws.{form_axioms_typed, form_notes_typed, form_says}
 use Rattle.rdf_sayable.specs.Parts.{of_axiom}
 use Rattle.rdf_sayable.specs.Sayable.{CanSayAll}
 use Rattle.owl_answer.specs.Outcome.{IsSuccess, Outcome}
-use Rattle.owl_answer.specs.Typing.{IsWellTyped}
-use Rattle.owl_answer.specs.TurtleOutcome.{IsTold, IsToldBack, IsTurtleTranslation, IsTyped, ReadsGraph, ReadsSaid, canonical_said, heavy, light, not_typed, ready, turtle_form, unsaid}
+use Rattle.owl_answer.specs.Typing.{DeclareSame, IsWellTyped}
+use Rattle.owl_answer.specs.TurtleOutcome.{IsReady, IsTold, IsToldBack, IsTurtleTranslation, IsTyped, ReadsGraph, ReadsSaid, canonical_said, heavy, light, not_typed, ready, turtle_form, unsaid}
 use Rattle.owl_answer.specs.Answers.{IsInTurtle}
 use Rattle.owl_answer.proofs.Turtles.{typing_fails}
 
@@ -24,27 +31,82 @@ each_axiom : (kinds : List Entity) (ts : List Tree) → AllByRecursion (IsWellTy
 each_axiom kinds [] h = tt
 each_axiom kinds (t ∷ ts) h = (h.0, each_axiom kinds ts h.1)
 
--- a normal form is its own canonical form, so its parts are its annotations and its axioms
-form_said : (o : Ontology) → IsOntology o → CanSayAll o → ontology_weight (normal_form o) ≤ heaviest → (kinds : List Entity) → IsTyped kinds (normal_form o) → Says (graph_of (normal_form o)) kinds (normal_form o)
-form_said o is said weighs kinds typed =
-    form_says kinds o is said weighs typed.no_clash
-    (subst (λ (ts : List Tree). AreWellTyped kinds (entities_of (kids_of ts))) (settled_form (unsettled_annotations o)) typed.typed.0)
-    (subst (λ (ts : List Tree). AllByRecursion (λ t. AreWellTyped kinds (entities t)) ts) (settled_form (unsettled_axioms o)) (each_axiom kinds (canonical_list (normal_form o).axioms) typed.typed.1))
+axiom_parts : (kinds : List Entity) (ts : List Tree) → AllByRecursion (λ t. AreWellTyped kinds (entities t)) ts → AllByRecursion (IsWellTyped kinds) (map of_axiom ts)
+axiom_parts kinds [] h = tt
+axiom_parts kinds (t ∷ ts) h = (h.0, axiom_parts kinds ts h.1)
 
-form_told : (o : Ontology) → IsOntology o → (kinds : List Entity) (main : Said) (outcome : Outcome) → main.ontology ≡ o → IsTold kinds main outcome → IsSuccess outcome.status → CanSayAll o × (ontology_weight (normal_form o) ≤ heaviest)
-form_told o is kinds main outcome e (not_typed h) s = absurd (typing_fails kinds main.ontology outcome h s)
-form_told o is kinds main outcome e (unsaid t part why h f) s = absurd (subst (λ (x : Outcome). IsSuccess x.status) f s)
-form_told o is kinds main outcome e (ready r (heavy l f)) s = absurd (subst (λ (x : Outcome). IsSuccess x.status) f s)
-form_told o is kinds main outcome e (ready r (light l w)) s =
-    (subst CanSayAll e r.sayable, subst (λ (p : Ontology). ontology_weight (normal_form p) ≤ heaviest) e l)
+-- What is declared.
+
+-- lists with equivalent axioms declare the same
+declared_there : (ts us : List Tree) → canonical_list ts ≡ canonical_list us → (e : Entity) → Contains (declarations ts) e → Contains (declarations us) e
+declared_there ts us same e m =
+    let form = subst (λ (xs : List Tree). DeclaresIn xs e) same (form_declares ts e (declared_by ts e m)) in
+    let d = declares_before us e form in
+    declares_it us d.tree e d.inside d.entity
+
+-- what a graph says declares what the graph does
+says_declares : (g : List Triple) (kinds : List Entity) (o : Ontology) → Says g kinds o → DeclareSame (graph_declarations g) (declared_in o)
+says_declares g kinds o says kind iri =
+    let e : Entity = record { kind = kind; iri = iri } in
+    let stated = says.states.by_triples ++ says.states.by_nodes in
+    let same = (equivalent_lists o.axioms stated).0 says.states.axioms in (
+      λ m. declared_there stated o.axioms (sym same) e ((declares_stated g kinds o says e).0 m),
+      λ m. (declares_stated g kinds o says e).1 (declared_there o.axioms stated same e m),
+    )
+
+-- The normal form of an ontology in canonical form, which is well typed.
+
+module _ (kinds : List Entity) (o : Ontology) (form : canonical_ontology o ≡ o) (typed : IsTyped kinds o) where
+  notes_typed : AreWellTyped kinds (entities_of (kids_of o.annotations))
+  notes_typed = subst (λ (ts : List Tree). AreWellTyped kinds (entities_of (kids_of ts))) (ap (λ (p : Ontology). p.annotations) form) typed.typed.0
+
+  axioms_typed : AllByRecursion (λ t. AreWellTyped kinds (entities t)) o.axioms
+  axioms_typed =
+      subst (λ (ts : List Tree). AllByRecursion (λ t. AreWellTyped kinds (entities t)) ts) (ap (λ (p : Ontology). p.axioms) form)
+      (each_axiom kinds (canonical_list o.axioms) typed.typed.1)
+
+  -- a normal form is its own canonical form, so its parts are its annotations and its axioms
+  form_typed : IsTyped kinds (normal_form o)
+  form_typed = record {
+    no_clash = typed.no_clash;
+    typed = (
+      subst (λ (ts : List Tree). AreWellTyped kinds (entities_of (kids_of ts))) (sym (settled_form (unsettled_annotations o)))
+          (form_notes_typed kinds o notes_typed axioms_typed),
+      subst (λ (ts : List Tree). AllByRecursion (IsWellTyped kinds) (map of_axiom ts)) (sym (settled_form (unsettled_axioms o)))
+          (axiom_parts kinds (normal_form o).axioms (form_axioms_typed kinds o notes_typed axioms_typed)),
+    );
+  }
+
+  form_said : IsOntology o → CanSayAll o → ontology_weight (normal_form o) ≤ heaviest → Says (graph_of (normal_form o)) kinds (normal_form o)
+  form_said is said weighs =
+      form_says kinds o is said weighs typed.no_clash (form_notes_typed kinds o notes_typed axioms_typed) (form_axioms_typed kinds o notes_typed axioms_typed)
+
+-- a document that was translated
+record IsTranslatable (kinds : List Entity) (o : Ontology) : Type 0 where
+  ready : IsReady kinds o
+  light : ontology_weight (normal_form o) ≤ heaviest
+
+form_told : (kinds : List Entity) (main : Said) (outcome : Outcome) → IsTold kinds main outcome → IsSuccess outcome.status → IsTranslatable kinds main.ontology
+form_told kinds main outcome (not_typed h) s = absurd (typing_fails kinds main.ontology outcome h s)
+form_told kinds main outcome (unsaid t part why h f) s = absurd (subst (λ (x : Outcome). IsSuccess x.status) f s)
+form_told kinds main outcome (ready r (heavy l f)) s = absurd (subst (λ (x : Outcome). IsSuccess x.status) f s)
+form_told kinds main outcome (ready r (light l w)) s = record { ready = r; light = l }
 
 -- what is read back to the graph of a normal form says it
-said_back : (kinds : List Entity) (main : Said) (outcome : Outcome) → IsOntology main.ontology → canonical_ontology main.ontology ≡ main.ontology → IsTurtleTranslation kinds main outcome → IsSuccess outcome.status → ReadsGraph outcome.text (turtle_form (canonical_said main)) → ReadsSaid outcome.text (turtle_form (canonical_said main))
+said_back : (kinds : List Entity) (main : Said) (outcome : Outcome) → IsOntology main.ontology → canonical_ontology main.ontology ≡ main.ontology → IsTurtleTranslation kinds main outcome → IsSuccess outcome.status → ReadsGraph outcome.text (turtle_form (canonical_said main)) → ReadsSaid kinds outcome.text (turtle_form (canonical_said main))
 said_back kinds main outcome is canonical told s reads =
     let o = canonical_ontology main.ontology in
     let own : IsOntology o = subst IsOntology (sym canonical) is in
-    let told_ready = form_told o own kinds (canonical_said main) outcome refl told s in
-    record { graph = graph_of (normal_form o); reads = reads; says = form_said o own told_ready.0 told_ready.1 }
+    let its = form_told kinds (canonical_said main) outcome told s in
+    let form = ap canonical_ontology canonical in
+    let says = form_said kinds o form its.ready.typed own its.ready.sayable its.light in
+    record {
+      graph = graph_of (normal_form o);
+      reads = reads.reads;
+      declares = says_declares (graph_of (normal_form o)) kinds (normal_form o) says;
+      typed = form_typed kinds o form its.ready.typed;
+      says = said_within (graph_of (normal_form o)) kinds (normal_form o) says (record { is = normal_is_ontology o own; shallow = reads.shallow; light = its.light });
+    }
 
 pub in_turtle : (kinds : List Entity) (main : Said) (outcome : Outcome) → IsOntology main.ontology → canonical_ontology main.ontology ≡ main.ontology → IsToldBack (IsTurtleTranslation kinds main) (turtle_form (canonical_said main)) outcome → IsInTurtle kinds main outcome
 in_turtle kinds main outcome is canonical h = record { is = h.is; back = λ s. said_back kinds main outcome is canonical h.is s (h.back s) }

@@ -1,12 +1,18 @@
 -- The translation to Turtle, step by step.
-use Rattle.std.proofs.Common.{◌≡◌, ◌<◌, ◌≤◌, ℕ, List, length, sym, subst}
+use Rattle.std.proofs.Common.{◌≡◌, ◌<◌, ◌≤◌, ◌∙◌, ℕ, List, [], ◌∷◌, ap, length, sym, subst}
+use Rattle.std.specs.List.{AllByRecursion}
 use Rattle.std.specs.Str.{encode_utf8_all}
 use Rattle.owl_characters.specs.Limit.{most_bytes}
-use Rattle.owl_arena.specs.Shared.{heaviest}
+use Rattle.owl_arena.specs.Held.{AreHeld, Held, trees_at}
+use Rattle.owl_arena.specs.HeldLaws.{entry_at}
+use Rattle.owl_arena.specs.Shared.{AreShared, deepest, heaviest}
 use Rattle.owl_atom.specs.declared.prefixes.Prefix.{Prefix}
 use Rattle.owl_kind.specs.Kinds.{Entity}
 use Rattle.owl_tree.specs.Ontologies.{Ontology, canonical_ontology, ontology_weight}
-use Rattle.owl_doc.specs.Documents.{Document, ontology_of}
+use Rattle.owl_tree.specs.Trees.{Tree, depth}
+use Rattle.owl_doc.specs.Counts.{axiom_count}
+use Rattle.owl_doc.specs.Documents.{Document, IsDocument, ontology_of}
+use Rattle.owl_writing.specs.Tables.{written_prefixes}
 use Rattle.owl_documents.specs.Documents.{Said, said_of}
 use Rattle.rdf_graph.specs.Graphs.{IsGraph, most_triples}
 use Rattle.rdf_graph.specs.declared.triple.Triple.{Triple}
@@ -15,8 +21,12 @@ use Rattle.rdf_sayable.specs.Reasons.{Objection}
 use Rattle.rdf_sayable.specs.Sayable.{CanSayAll, IsFirstUnsayable}
 use Rattle.rdf_normal.specs.NormalForms.{absorbed_count, normal_form}
 use Rattle.rdf_mapping.specs.Graphs.{graph_of}
+use Rattle.rdf_reverse.specs.Reverse.{AreShallow}
+use Rattle.rdf_states.specs.EndLaws.{all_both}
+use Rattle.ttl_grammar.specs.Documents.{ReadsTurtle}
 use Rattle.ttl_write.specs.Text.{turtle_text}
-use Rattle.owl_answer.specs.Outcome.{IsLimited, IsSuccess, Outcome, too_long_output}
+use Rattle.owl_command.specs.declared.status.Status.TheVariants.{Done}
+use Rattle.owl_answer.specs.Outcome.{IsLimited, IsSuccess, Outcome, done_line, fits, too_long_output}
 use Rattle.owl_answer.specs.Refusals.{unsayable}
 use Rattle.owl_answer.specs.TurtleOutcome.{IsFormTold, IsGraphTold, IsToldBack, IsTold, IsTurtleTranslation, IsTyped, IsTypingRefusal, ReadsGraph, canonical_said, clashes, few, graph_translation, heavy, light, many, not_typed, ready, too_heavy_output, too_many_triples, turtle_form, unsaid, untyped}
 use Rattle.owl_answer.proofs.Wanting.{passed}
@@ -35,6 +45,32 @@ long_told form absorbed prefixes graph outcome p g l e = record {
   is = passed (graph_translation form absorbed) outcome (subst (λ (text : List ℕ). most_bytes < length text) (λ i. encode_utf8_all (turtle_text (p i) (g i))) l) e;
   back = unread too_long_output outcome form e (λ s. s);
 }
+
+each_shallow : (ts : List Tree) (ids : List ℕ) → AreShared ts → AreHeld ts ids → AllByRecursion (λ t. depth t ≤ deepest) (trees_at ts ids)
+each_shallow ts [] shared held = tt
+each_shallow ts (id ∷ ids) shared held = ((entry_at ts id shared held.0).depth, each_shallow ts ids shared held.1)
+
+-- what an arena holds is not too deep
+shallow_document : (form : Document) (arena : Held) → arena ≡ form.arena → AreShared arena.trees → IsDocument form → AreShallow (ontology_of form)
+shallow_document form arena same shared is =
+    let own = subst (λ (a : Held). AreShared a.trees) same shared in
+    all_both (λ t. depth t ≤ deepest) (trees_at form.arena.trees form.notes) (trees_at form.arena.trees form.axioms)
+    (each_shallow form.arena.trees form.notes own is.notes) (each_shallow form.arena.trees form.axioms own is.axioms)
+
+pub fits_told : (form : Document) (arena : Held) (absorbed : ℕ) (prefixes : List Prefix) (graph : List Triple) (text : List ℕ) (outcome : Outcome) → arena ≡ form.arena → AreShared arena.trees → IsDocument form → prefixes ≡ form.prefixes → graph ≡ graph_of (ontology_of form) → text ≡ turtle_text prefixes graph → length (encode_utf8_all text) ≤ most_bytes → ReadsTurtle (encode_utf8_all text) (written_prefixes prefixes) graph → outcome ≡ record { status = Done; text = encode_utf8_all text; line = done_line (axiom_count (ontology_of form)) absorbed } → IsToldBack (IsLimited (λ (wanted : Outcome). wanted ≡ graph_translation (said_of form) absorbed)) (said_of form) outcome
+fits_told form arena absorbed prefixes graph text outcome a shared is p g t l reads e =
+    let line = done_line (axiom_count (ontology_of form)) absorbed in
+    let whole : text ≡ turtle_text form.prefixes (graph_of (ontology_of form)) = t ∙ (λ i. turtle_text (p i) (g i)) in
+    let own_reads : ReadsTurtle (encode_utf8_all text) (written_prefixes form.prefixes) (graph_of (ontology_of form)) =
+    subst (λ (triples : List Triple). ReadsTurtle (encode_utf8_all text) (written_prefixes form.prefixes) triples) g
+    (subst (λ (ps : List Prefix). ReadsTurtle (encode_utf8_all text) (written_prefixes ps) graph) p reads) in
+    record {
+      is = fits (e ∙ ap (λ (bytes : List ℕ). record { status = Done; text = encode_utf8_all bytes; line = line }) whole) (subst (λ (o : Outcome). length o.text ≤ most_bytes) (sym e) l);
+      back = λ s. record {
+        reads = subst (λ (o : Outcome). ReadsTurtle o.text (written_prefixes form.prefixes) (graph_of (ontology_of form))) (sym e) own_reads;
+        shallow = shallow_document form arena a shared is;
+      };
+    }
 
 pub few_told : (form : Said) (absorbed : ℕ) (graph : List Triple) (outcome : Outcome) → graph ≡ graph_of form.ontology → IsGraph graph → IsToldBack (IsLimited (λ (wanted : Outcome). wanted ≡ graph_translation form absorbed)) form outcome → IsToldBack (IsFormTold form absorbed) form outcome
 few_told form absorbed graph outcome e g h = record { is = few (subst (λ (triples : List Triple). length triples ≤ most_triples) e g.few) h.is; back = h.back }

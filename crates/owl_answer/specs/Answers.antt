@@ -50,7 +50,7 @@ pub record IsClosure (request : Request) (documents : List Parsed) (places : Lis
 -- what becomes of a main document that is translated, and the text reads back to the normal form of what it says
 pub record IsTranslated (target : Syntax) (parsed : Parsed) (kinds : List Entity) (main : Said) (outcome : Outcome) : Type 0 where
   pub is : IsTranslation target parsed kinds main outcome
-  pub back : IsSuccess outcome.status → ReadsIn target outcome.text (normal_form target main)
+  pub back : IsSuccess outcome.status → ReadsIn target kinds outcome.text (normal_form target main)
 
 -- what becomes of a main document that says this under these kinds
 abbrev pub IsToldOfMain : Request → Parsed → List Entity → Said → Outcome → Type 0
@@ -61,7 +61,7 @@ IsToldOfMain (compares first second) parsed kinds main outcome = ⊥
 -- what becomes of a document of which a graph is written, and the text says its normal form
 pub record IsInTurtle (kinds : List Entity) (main : Said) (outcome : Outcome) : Type 0 where
   pub is : IsTurtleTranslation kinds main outcome
-  pub back : IsSuccess outcome.status → ReadsSaid outcome.text (turtle_form (canonical_said main))
+  pub back : IsSuccess outcome.status → ReadsSaid kinds outcome.text (turtle_form (canonical_said main))
 
 -- what is told where an ontology is not well typed, and else that it is
 abbrev pub IsTyping : List Entity → Ontology → Option Answer → Type 0

@@ -116,15 +116,15 @@ pub data IsLine (words : List (List ℕ)) (IsCause : Request → List ℕ → Ty
   of_memory : status ≡ Memory → line ≡ codes "memory\n" → IsLine words IsCause status line
   of_asked : (request : Request) → Asks words request → LineFor request (IsCause request) status line → IsLine words IsCause status line
 
--- the bytes are this in a syntax
-abbrev pub ReadsIn : Syntax → List ℕ → Said → Type 0
-ReadsIn Fss text said = ReadsFunctional text said.prefixes said.ontology
-ReadsIn Ttl text said = ReadsSaid text said
+-- the bytes are this in a syntax, under these kinds
+abbrev pub ReadsIn : Syntax → List Entity → List ℕ → Said → Type 0
+ReadsIn Fss kinds text said = ReadsFunctional text said.prefixes said.ontology
+ReadsIn Ttl kinds text said = ReadsSaid kinds text said
 
--- the text of a translation reads back to the normal form of what the main document says
+-- the text of a translation reads back to the normal form of what the main document says, under the same kinds
 abbrev pub IsBack : Request → List Parsed → List ℕ → Type 0
 IsBack (translates target partial names) documents text =
-    HoldsOfMain (translates target partial names) documents (λ parsed kinds main. ReadsIn target text (normal_form target main))
+    HoldsOfMain (translates target partial names) documents (λ parsed kinds main. ReadsIn target kinds text (normal_form target main))
 IsBack (shows partial names) documents text = Unit {0}
 IsBack (compares first second) documents text = Unit {0}
 

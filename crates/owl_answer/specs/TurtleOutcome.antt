@@ -5,22 +5,24 @@ use Rattle.owl_arena.specs.Shared.{heaviest}
 use Rattle.owl_kind.specs.Kinds.{Entity, HasClash, IsFirstClash}
 use Rattle.owl_tree.specs.Ontologies.{Ontology, canonical_ontology, ontology_weight}
 use Rattle.owl_doc.specs.Counts.{axiom_count}
+use Rattle.owl_doc.specs.Entities.{declared_in}
 use Rattle.owl_writing.specs.Tables.{written_prefixes}
 use Rattle.rdf_graph.specs.Graphs.{most_triples}
 use Rattle.rdf_graph.specs.declared.triple.Triple.{Triple}
-use Rattle.rdf_meaning.specs.Statements.{Says}
 use Rattle.rdf_sayable.specs.Parts.{Part}
 use Rattle.rdf_sayable.specs.Reasons.{Objection}
 use Rattle.rdf_sayable.specs.Sayable.{CanSayAll, IsFirstUnsayable}
 use Rattle.rdf_normal.specs.NormalForms.{absorbed_count, normal_form}
 use Rattle.rdf_mapping.specs.Graphs.{graph_of}
+use Rattle.rdf_reverse.specs.Reverse.{AreShallow, IsSaid}
+use Rattle.rdf_scans.specs.Outlines.{declarations}
 use Rattle.ttl_grammar.specs.Documents.{ReadsTurtle}
 use Rattle.ttl_write.specs.Text.{turtle_text}
 use Rattle.owl_command.specs.declared.status.Status.TheVariants.{Done}
 use Rattle.owl_documents.specs.Documents.{Said}
 use Rattle.owl_answer.specs.Outcome.{IsLimited, IsSuccess, Outcome, done_line, passed_limit, translation}
 use Rattle.owl_answer.specs.Refusals.{two_kinds, undeclared, unsayable}
-use Rattle.owl_answer.specs.Typing.{AllAreWellTyped, IsFirstUntyped}
+use Rattle.owl_answer.specs.Typing.{AllAreWellTyped, DeclareSame, IsFirstUntyped}
 
 -- the same document in canonical form, which equivalent ones have in common
 abbrev pub canonical_said : Said → Said
@@ -46,9 +48,10 @@ graph_translation form absorbed = record {
   line = done_line (axiom_count form.ontology) absorbed;
 }
 
--- the bytes are read in Turtle to the graph of this form
-abbrev pub ReadsGraph : List ℕ → Said → Type 0
-ReadsGraph text form = ReadsTurtle text (written_prefixes form.prefixes) (graph_of form.ontology)
+-- the bytes are read in Turtle to the graph of this form, of which no tree is too deep
+pub record ReadsGraph (text : List ℕ) (form : Said) : Type 0 where
+  pub reads : ReadsTurtle text (written_prefixes form.prefixes) (graph_of form.ontology)
+  pub shallow : AreShallow form.ontology
 
 -- no IRI has two kinds that no IRI may share
 abbrev pub HasNoClash : List Entity → Type 0
@@ -59,11 +62,14 @@ pub record IsTyped (kinds : List Entity) (o : Ontology) : Type 0 where
   pub no_clash : HasNoClash kinds
   pub typed : AllAreWellTyped kinds o
 
--- The bytes are read in Turtle to a graph that says this form, and no more, under all kinds without a clash by which it is well typed.
-pub record ReadsSaid (text : List ℕ) (form : Said) : Type 0 where
+-- The bytes are read in Turtle to a graph that says this form, and no more, under these kinds and within the limits. The form is well typed
+-- under them, and the graph declares what it declares.
+pub record ReadsSaid (kinds : List Entity) (text : List ℕ) (form : Said) : Type 0 where
   pub graph : List Triple
   pub reads : ReadsTurtle text (written_prefixes form.prefixes) graph
-  pub says : (kinds : List Entity) → IsTyped kinds form.ontology → Says graph kinds form.ontology
+  pub declares : DeclareSame (declarations graph) (declared_in form.ontology)
+  pub typed : IsTyped kinds form.ontology
+  pub says : IsSaid graph kinds form.ontology
 
 -- All is well typed and can be said in a graph.
 pub record IsReady (kinds : List Entity) (o : Ontology) : Type 0 where

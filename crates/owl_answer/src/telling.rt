@@ -2,14 +2,15 @@
 
 ghost use Rattle.std.specs.Prelude.{◌≡◌, IfOk};
 ghost use Rattle.std.specs.Str.{encode_utf8_all};
+ghost use Rattle.fss_terms.specs.Functional.{ReadsFunctional};
 ghost use Rattle.fss_write.specs.Text.{text_of};
 ghost use Rattle.owl_command.specs.Commands.{request_of};
 ghost use Rattle.owl_command.specs.declared.command.Target.TheVariants.{Fss};
 ghost use Rattle.owl_doc.specs.Documents.{ontology_of};
 ghost use Rattle.owl_documents.specs.Documents.{parsed_of, said_of};
+ghost use Rattle.owl_writing.specs.Tables.{declared_prefixes};
 ghost use Rattle.owl_answer.specs.Answers.{IsInTurtle, IsToldOfMain, IsTranslated, outcome_of};
-ghost use Rattle.owl_answer.specs.Outcome.{IsLimited, IsSuccess, functional_form, shown, translation};
-ghost use Rattle.owl_answer.specs.Runs.{ReadsIn};
+ghost use Rattle.owl_answer.specs.Outcome.{IsLimited, IsSuccess, shown, translation};
 ghost use Rattle.owl_answer.specs.TurtleOutcome.{IsFunctionalTranslation};
 
 use crate::answer::{Answer, done_line, told, too_long_output};
@@ -82,7 +83,8 @@ fn translate_typed(alloc: Global, kinds: &Kinds, main: &Doc) -> Result<Answer, N
     ensures outcome { IfOk result (λ answer.
         IsFunctionalTranslation kinds.now (said_of main.now) (outcome_of answer)) }
     ensures back { IfOk result (λ answer. IsSuccess answer.status →
-        ReadsIn Fss (encode_utf8_all answer.text) (functional_form (said_of main.now))) }
+        ReadsFunctional (encode_utf8_all answer.text) (declared_prefixes main.now.prefixes)
+        (ontology_of main.now)) }
 {
     match typing_refusal(alloc, kinds, main)? {
         Some(refusal) => Ok(refusal),
@@ -109,7 +111,8 @@ fn translate_to_functional(alloc: Global, doc: &Doc) -> Result<Answer, NoMemory>
     ensures outcome { IfOk result (λ answer.
         IsLimited (λ wanted. wanted ≡ translation (said_of doc.now)) (outcome_of answer)) }
     ensures back { IfOk result (λ answer. IsSuccess answer.status →
-        ReadsIn Fss (encode_utf8_all answer.text) (functional_form (said_of doc.now))) }
+        ReadsFunctional (encode_utf8_all answer.text) (declared_prefixes doc.now.prefixes)
+        (ontology_of doc.now)) }
 {
     // What is known of every document.
     doc.notes();

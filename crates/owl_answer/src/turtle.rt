@@ -47,6 +47,9 @@ fn write_graph(alloc: Global, form: &Doc, absorbed: u64, graph: &Graph) -> Resul
         IsToldBack (IsLimited (λ wanted. wanted ≡ graph_translation (said_of form.now) absorbed))
         (said_of form.now) (outcome_of answer)) }
 {
+    // A document is in an arena, whose trees are within the limits.
+    form.notes();
+    form.arena().distinct();
     match write(alloc, graph, form.prefixes()) {
         Ok(text) => translated(alloc, form, absorbed, text),
         Err(WriteFault::TooLong) => too_long_output(alloc),
