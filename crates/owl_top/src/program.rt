@@ -32,6 +32,7 @@ fn deliver<O: Sink, N: Sink>(answer: &Answer, out: &mut O, note: &mut N) -> Stat
         O.written out.new ≡ O.written out.old ++ (outcome_of answer.now).text }
     ensures front { IsTrue (O.tells out.old) → result ≡ Status.WriteFailed →
         (n : ℕ) × (O.written out.new ≡ O.written out.old ++ take n (outcome_of answer.now).text) }
+    ensures kept { IsTrue (O.tells out.old) → (text : List ℕ) × (O.written out.new ≡ O.written out.old ++ text) }
     ensures write_fault { result ≡ Status.WriteFailed → Rose (O.faults out.old) (O.faults out.new) }
     ensures text { result ≡ Status.WriteFailed → (outcome_of answer.now).text ≢ [] }
     ensures line { IsTrue (N.tells note.old) → (Rose (N.faults note.old) (N.faults note.new) → ⊥) →
@@ -71,6 +72,7 @@ fn obey<S: Shelf, O: Sink, N: Sink>(
     ensures untouched { IsTrue (O.tells out.old) → IsQuiet result → O.written out.new ≡ O.written out.old }
     ensures front { IsTrue (S.tells shelf.old) → IsTrue (O.tells out.old) → result ≡ Status.WriteFailed →
         IsFrontWritten (Becomes (S.left shelf.old) (request_of command.now)) (O.written out.old) (O.written out.new) }
+    ensures kept { IsTrue (O.tells out.old) → (text : List ℕ) × (O.written out.new ≡ O.written out.old ++ text) }
     ensures read_fault { result ≡ Status.ReadFailed → (name : List ℕ)
         × IsFaulty (λ other. Rose (S.faults shelf.old other) (S.faults shelf.new other)) (request_of command.now) name }
     ensures in_order { IsTrue (S.tells shelf.old) → result ≡ Status.ReadFailed → (name : List ℕ)
@@ -142,6 +144,9 @@ pub fn run<S: Shelf, O: Sink, N: Sink>(
     ensures untouched { IsTrue (O.tells out.old) → IsQuiet result → O.written out.new ≡ O.written out.old }
     ensures front { IsTrue (S.tells shelf.old) → IsTrue (O.tells out.old) → result ≡ Status.WriteFailed →
         IsFrontWritten (IsOutcome (map string_bytes words.now) (S.left shelf.old)) (O.written out.old) (O.written out.new) }
+
+    // Whatever the shelf tells, the output keeps what it had.
+    ensures kept { IsTrue (O.tells out.old) → (text : List ℕ) × (O.written out.new ≡ O.written out.old ++ text) }
 
     // A fault has its cause. Each document before the one that could not be read is read.
     ensures read_fault { result ≡ Status.ReadFailed →
