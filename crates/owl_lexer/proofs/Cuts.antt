@@ -1,7 +1,6 @@
 -- What is cut of what is begun.
-use Rattle.std.proofs.Common.{◌≡◌, ℕ, ◌+◌, ◌<◌, ◌≤◌, Bool, true, false, Option, None, Some, List, [], ◌∷◌, ◌++◌, length, take, drop, reverse, refl, sym, ap, ◌∙◌, subst, arith}
+use Rattle.std.proofs.Common.{◌≡◌, ℕ, ◌+◌, ◌<◌, ◌≤◌, Bool, true, Option, None, Some, List, [], ◌∷◌, ◌++◌, length, take, drop, reverse, refl, sym, ap, ◌∙◌, subst, arith}
 use Rattle.std.proofs.lemmas.List.{append_assoc, append-nil, length-append, length-reverse, take-append-drop}
-use Rattle.std.specs.Char.{len_utf8}
 use Rattle.std.specs.List.{All}
 use Rattle.std.specs.Prelude.{Result, Ok, Err, OnOk}
 use Rattle.owl_characters.specs.Utf8.{size}
@@ -13,7 +12,7 @@ use Rattle.owl_lexer.specs.AddingLaws.{added_both}
 use Rattle.owl_lexer.specs.Retaking.{AddsCut, CutsFront, HoldsAgain, IsLostRun, MayFollow, RefusesAgain, Settles, begun_with, coming}
 use Rattle.owl_lexer.specs.Automata.{Automaton, Spells}
 use Rattle.owl_lexer.specs.Cutting.{BeginsNone, Cuts, Lexeme, Stops}
-use Rattle.owl_lexer.specs.Giving.{Begun, Continues, end_of}
+use Rattle.owl_lexer.specs.Giving.{Begun, Continues}
 use Rattle.owl_lexer.specs.GivingLaws.{comes_before, front_of}
 use Rattle.owl_lexer.specs.Hands.{Finishes, FinishesBadly, IsFrontOf, IsReady, begun_of}
 use Rattle.owl_lexer.specs.Holding.{IsLost}

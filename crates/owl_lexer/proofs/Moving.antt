@@ -10,15 +10,14 @@ use Rattle.std.proofs.lemmas.Str.{encodes-append}
 use Rattle.owl_characters.specs.Utf8.{BeginsNoCharacter, size}
 use Rattle.owl_characters.specs.Utf8Laws.{size_append}
 use Rattle.owl_lexer.specs.Adding.{tokens_of}
-use Rattle.owl_lexer.specs.AddingLaws.{added_both}
 use Rattle.owl_lexer.specs.Automata.{Automaton, Spells}
 use Rattle.owl_lexer.specs.BytesGiving.{AddsLastBytes, BegunBytes, ContinuesBytes, CutsBehindMark, EndsBytesAt, GivesBytes, GivesSomeBytes, end_of_bytes}
-use Rattle.owl_lexer.specs.BytesLaws.{ends_behind_bytes, gives_both_bytes, none_decoded, some_behind_bytes}
+use Rattle.owl_lexer.specs.BytesLaws.{none_decoded}
 use Rattle.owl_lexer.specs.Cutting.{Cuts, Lexeme, Stops}
 use Rattle.owl_lexer.specs.DecodingLaws.{decode}
 use Rattle.owl_lexer.specs.Giving.{Begun, Continues}
 use Rattle.owl_lexer.specs.Hands.{EndsIn, IsReady}
-use Rattle.owl_lexer.specs.Lexing.{EndWith, KeepsEnd}
+use Rattle.owl_lexer.specs.Lexing.{KeepsEnd}
 use Rattle.owl_lexer.specs.LexingLaws.{bytes_of, comes}
 use Rattle.owl_lexer.specs.Retaking.{AddsCut, AreKept, IsLostRun, MayFollow, RefusesAgain, Settles, begun_with, coming}
 use Rattle.owl_lexer.specs.Sources.{EndsAgain, EndsBytesBadly, EndsSomeAgain, IsOpen, IsOpenWith, IsPart, Moves, RefusesBytes, TakesAgain, TakesBytes, TurnsBack, begun_in, begun_with_again}
@@ -29,58 +28,9 @@ use Rattle.owl_lexer.specs.declared.hand.Hand.{Hand}
 use Rattle.owl_lexer.specs.declared.placed.Placed.{Placed}
 use Rattle.owl_lexer.specs.declared.source.Source.{Source}
 use Rattle.owl_lexer.proofs.Bytes.{last_bytes}
-use Rattle.owl_lexer.proofs.Ends.{keeps_both}
+use Rattle.owl_lexer.proofs.BytesFeeding.{moves_both, moves_none, moves_of, refuses_moved}
 use Rattle.owl_lexer.proofs.Hands.{scalar_behind}
 use Rattle.owl_lexer.proofs.Holds.{part_begins_none}
-
--- ---- bytes one behind another
-
-pub moves_of : {T : Type 0} → (a : Automaton) (value : ℕ → List ℕ → Option T) (old new : Source) (bytes : List ℕ) (before after : List (Placed T)) → TakesBytes a value old bytes before after new → Moves a value (begun_in old) bytes before after (begun_in new)
-moves_of a value old new bytes before after t = record { adds = t.adds; few = t.few; end = t.end; ends = t.ends }
-
-pub moves_none : {T : Type 0} → (a : Automaton) (value : ℕ → List ℕ → Option T) (begun : BegunBytes) (before : List (Placed T)) → Moves a value begun [] before before begun
-moves_none a value begun before = record {
-  adds = record { given = []; added = sym (append-nil before); gives = λ more rest e k. k };
-  few = omega arith;
-  end = omega arith;
-  ends = λ fed e. subst (λ (l : List ℕ). EndWith l (bytes_of begun)) (sym (append-nil fed)) e;
-}
-
-pub moves_both : {T : Type 0} → (a : Automaton) (value : ℕ → List ℕ → Option T) (old mid new : BegunBytes) (bs ds : List ℕ) (before between after : List (Placed T)) → Moves a value old bs before between mid → Moves a value mid ds between after new → Moves a value old (bs ++ ds) before after new
-moves_both a value old mid new bs ds before between after t u =
-    let many = length-append bs ds in
-    let few = t.few in
-    let fewer = u.few in
-    let end = t.end in
-    let later = u.end in
-    record {
-      adds = record {
-        given = t.adds.given ++ u.adds.given;
-        added = added_both value before between after t.adds.given u.adds.given t.adds.added u.adds.added;
-        gives = gives_both_bytes a old mid new bs ds t.adds.given u.adds.given t.adds.gives u.adds.gives;
-      };
-      few = omega arith;
-      end = omega arith;
-      ends = keeps_both (bytes_of old) (bytes_of mid) (bytes_of new) bs ds t.ends u.ends;
-    }
-
-pub refuses_moved : {T : Type 0} → (a : Automaton) (value : ℕ → List ℕ → Option T) (old mid : BegunBytes) (all bs ds es : List ℕ) (before between after : List (Placed T)) (fault : LexFault) → bs ++ (ds ++ es) ≡ all → Moves a value old bs before between mid → RefusesBytes a value mid ds between after fault → RefusesBytes a value old all before after fault
-refuses_moved a value old mid all bs ds es before between after fault is t r = record {
-  some = record {
-    given = t.adds.given ++ r.some.given;
-    added = added_both value before between after t.adds.given r.some.given t.adds.added r.some.added;
-    next = subst (λ (l : List ℕ). GivesSomeBytes a old l (t.adds.given ++ r.some.given)) is
-        (some_behind_bytes a old mid bs ds es t.adds.given r.some.given t.adds.gives r.some.next);
-  };
-  bad = λ ne.
-      let bad = r.bad ne in
-      record {
-        given = t.adds.given ++ bad.given;
-        added = added_both value before between after t.adds.given bad.given t.adds.added bad.added;
-        ends = subst (λ (l : List ℕ). EndsBytesAt a old l (t.adds.given ++ bad.given) fault) is
-            (ends_behind_bytes a old mid bs ds es t.adds.given bad.given fault t.adds.gives bad.ends);
-      };
-}
 
 -- ---- where nothing is taken again
 

@@ -36,7 +36,10 @@ impl<L: TokenLanguage> Model for Lexer<L> {
 
     ghost Value = { Lexing };
 
-    ghost view = { λ lexer. record { begun = bytes_with lexer.source lexer.again; refused = lexer.refused } };
+    ghost view = { λ lexer. record {
+      begun = bytes_with lexer.source lexer.again;
+      refused = lexer.refused;
+    } };
 
     ghost invariant = { λ lexer. lexer.refused ≡ None →
         IsOpenWith L.automaton lexer.source lexer.again
