@@ -1,5 +1,5 @@
 -- Numbers of 19 digits, in bytes and in characters.
-use Rattle.std.proofs.Common.{◌≡◌, ℕ, ◌<◌, ◌^◌, Bool, true, false, cond, List, ◌++◌, Some, None, Result, Ok, drop, length, get_or, refl, sym, ap, ◌∙◌, subst, arith}
+use Rattle.std.proofs.Common.{◌≡◌, ℕ, ◌<◌, ◌^◌, Bool, true, false, cond, List, Some, None, Result, Ok, drop, length, get_or, refl, sym, ap, ◌∙◌, subst, arith}
 use Rattle.std.specs.Prelude.{codes, ◌==◌, nat_eq, not}
 use Rattle.std.specs.Char.{is_ascii_digit}
 use Rattle.std.specs.List.{list_all}
@@ -8,12 +8,13 @@ use Rattle.std.specs.Str.Parse.{ParsesUnsigned, digits_value}
 use Rattle.std.specs.Str.Pattern.{FindsTextPrefix, StripsPrefix}
 use Rattle.std.proofs.lemmas.Bool.{and_parts, eqb-true}
 use Rattle.std.proofs.lemmas.Fmt.{IsAscii-from_digits}
-use Rattle.std.proofs.lemmas.Str.{IsUtf8-drop, IsUtf8-from_ascii, chars-IsAscii, chars-append, encodes-IsAscii, encodes-chars}
+use Rattle.std.proofs.lemmas.Str.{chars-IsAscii, encodes-IsAscii, encodes-chars}
 use Rattle.std.proofs.lemmas.Str.Parse.{digits_value_short, parse_gives}
 use Rattle.std.proofs.lemmas.Str.Pattern.{starts_text}
-use Rattle.owl_characters.specs.AsciiLaws.{ascii_chars, ascii_text, front_is}
+use Rattle.owl_characters.specs.AsciiLaws.{front_is}
 use Rattle.blank_labels.specs.LabelLaws.{numerals}
 use Rattle.blank_labels.specs.FreshLabels.{are_far, far_in, far_number}
+use Rattle.blank_labels.proofs.Prefixes.{gen_behind}
 
 pub record IsFar (ds : List ℕ) : Type 0 where
   pub many : length ds ≡ 19
@@ -48,11 +49,7 @@ far_alike bs u =
 
 -- the bytes behind `gen` are read as the label is
 pub far_behind : (label bs digits : List ℕ) → IsUtf8 bs → chars bs ≡ label → StripsPrefix (FindsTextPrefix (codes "gen")) bs digits → far_in digits ≡ far_number label
-far_behind label bs digits u e h =
-    let behind : IsUtf8 digits = subst IsUtf8 (sym (h.2 ∙ ap (λ n. drop n bs) h.1.0)) (IsUtf8-drop bs 3 u h.1.2) in
-    let whole : bs ≡ codes "gen" ++ digits = h.1.1 ∙ ap (λ x. codes "gen" ++ x) (sym h.2) in
-    let cut = chars-append (codes "gen") digits (IsUtf8-from_ascii (codes "gen") (ascii_text (codes "gen") refl)) ∙ ap (λ x. x ++ chars digits) (ascii_chars (codes "gen") refl) in
-    far_alike digits behind ∙ ap far_number (sym (ap chars whole ∙ cut) ∙ e)
+far_behind label bs digits u e h = let gen = gen_behind label bs digits u e h in far_alike digits gen.0 ∙ ap far_number gen.1
 
 pub not_far : (label bs : List ℕ) → all_scalars label ≡ true → bs ≡ encode_utf8_all label → FindsTextPrefix (codes "gen") bs None → None ≡ far_number label
 not_far label bs s e h =

@@ -9,13 +9,16 @@ use Rattle.owl_characters.specs.AsciiLaws.{ascii_chars, ascii_text, front_is}
 use Rattle.blank_labels.specs.Labels.{counted_number, label_number}
 use Rattle.blank_labels.proofs.Digits.{counted_alike}
 
--- the bytes behind it are counted as the label is
-pub number_behind : (label bs digits : List ℕ) → IsUtf8 bs → chars bs ≡ label → StripsPrefix (FindsTextPrefix (codes "gen")) bs digits → counted_number digits ≡ label_number label
-number_behind label bs digits u e h =
-    let behind : IsUtf8 digits = subst IsUtf8 (sym (h.2 ∙ ap (λ n. drop n bs) h.1.0)) (IsUtf8-drop bs 3 u h.1.2) in
+-- the digits behind `gen` are text, and the label is `gen` with their characters
+pub gen_behind : (label bs digits : List ℕ) → IsUtf8 bs → chars bs ≡ label → StripsPrefix (FindsTextPrefix (codes "gen")) bs digits → IsUtf8 digits × (codes "gen" ++ chars digits ≡ label)
+gen_behind label bs digits u e h =
     let whole : bs ≡ codes "gen" ++ digits = h.1.1 ∙ ap (λ x. codes "gen" ++ x) (sym h.2) in
     let cut = chars-append (codes "gen") digits (IsUtf8-from_ascii (codes "gen") (ascii_text (codes "gen") refl)) ∙ ap (λ x. x ++ chars digits) (ascii_chars (codes "gen") refl) in
-    counted_alike digits behind ∙ ap label_number (sym (ap chars whole ∙ cut) ∙ e)
+    (subst IsUtf8 (sym (h.2 ∙ ap (λ n. drop n bs) h.1.0)) (IsUtf8-drop bs 3 u h.1.2), sym (ap chars whole ∙ cut) ∙ e)
+
+-- the bytes behind it are counted as the label is
+pub number_behind : (label bs digits : List ℕ) → IsUtf8 bs → chars bs ≡ label → StripsPrefix (FindsTextPrefix (codes "gen")) bs digits → counted_number digits ≡ label_number label
+number_behind label bs digits u e h = let gen = gen_behind label bs digits u e h in counted_alike digits gen.0 ∙ ap label_number gen.1
 
 pub no_number : (label bs : List ℕ) → all_scalars label ≡ true → bs ≡ encode_utf8_all label → FindsTextPrefix (codes "gen") bs None → 0 ≡ label_number label
 no_number label bs s e h =
