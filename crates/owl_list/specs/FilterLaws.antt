@@ -1,8 +1,9 @@
--- The elements of a list that pass a test.
-use Rattle.std.specs.Prelude.{◌≡◌, Bool, true, false, cond, List, [], ◌∷◌, Contains}
-use Rattle.std.specs.List.{filter}
-use Rattle.std.proofs.Common.{inl, inr, sym, ap, subst}
+-- The elements of a list that pass a test, and what a function gives of those of which it gives something.
+use Rattle.std.specs.Prelude.{◌≡◌, ◌⊎◌, Bool, true, false, cond, List, [], ◌∷◌, Contains, Option, None, Some}
+use Rattle.std.specs.List.{cons_option, filter, filter_map}
+use Rattle.std.proofs.Common.{inl, inr, sym, ap, ◌∙◌, subst}
 use Rattle.std.proofs.lemmas.Bool.{cases_Bool}
+use Rattle.std.proofs.lemmas.Option.{none-some, same_Some}
 use Rattle.owl_list.specs.AscendingLaws.{in_cases, in_head, in_none, in_tail}
 
 module _ {X : Type 0} (test : X → Bool) where
@@ -40,4 +41,39 @@ module _ {X : Type 0} (test : X → Bool) where
         | inr f ↦
             let k = from_filter xs x (subst (λ ys. Contains ys x) (kept false y xs f) m) in
             record { inside = in_tail y xs x k.inside; passes = k.passes }
+      ]
+
+by_head : {Y : Type 0} (o : Option Y) (ys : List Y) (y : Y) → Contains (cons_option o ys) y → (o ≡ Some y) ⊎ Contains ys y
+by_head None ys y m = inr m
+by_head {Y} (Some z) ys y m = elim (in_cases z ys y m) [ inl e ↦ inl (ap (λ (x : Y). Some x) e) | inr n ↦ inr n ]
+
+to_head : {Y : Type 0} (o : Option Y) (ys : List Y) (y : Y) → o ≡ Some y → Contains (cons_option o ys) y
+to_head None ys y e = absurd (none-some y e)
+to_head (Some z) ys y e = subst (Contains (z ∷ ys)) (same_Some z y e) (in_head z ys)
+
+to_tail : {Y : Type 0} (o : Option Y) (ys : List Y) (y : Y) → Contains ys y → Contains (cons_option o ys) y
+to_tail None ys y m = m
+to_tail (Some z) ys y m = in_tail z ys y m
+
+module _ {X Y : Type 0} (f : X → Option Y) where
+  -- it is given of some element
+  pub record IsGivenOf (xs : List X) (y : Y) : Type 0 where
+    pub element : X
+    pub inside : Contains xs element
+    pub gives : f element ≡ Some y
+
+  pub from_filter_map : (xs : List X) (y : Y) → Contains (filter_map f xs) y → IsGivenOf xs y
+  from_filter_map [] y m = absurd (in_none y m)
+  from_filter_map (x ∷ xs) y m =
+      elim (by_head (f x) (filter_map f xs) y m) [
+        | inl e ↦ record { element = x; inside = in_head x xs; gives = e }
+        | inr n ↦ let g = from_filter_map xs y n in record { element = g.element; inside = in_tail x xs g.element g.inside; gives = g.gives }
+      ]
+
+  pub in_filter_map : (xs : List X) (x : X) (y : Y) → Contains xs x → f x ≡ Some y → Contains (filter_map f xs) y
+  in_filter_map [] x y m e = absurd (in_none x m)
+  in_filter_map (z ∷ xs) x y m e =
+      elim (in_cases z xs x m) [
+        | inl same ↦ to_head (f z) (filter_map f xs) y (ap f same ∙ e)
+        | inr n ↦ to_tail (f z) (filter_map f xs) y (in_filter_map xs x y n e)
       ]

@@ -1,8 +1,7 @@
 -- A normal form declares what its source declares.
 use Rattle.std.proofs.Common.{◌≡◌, ◌⊎◌, inl, inr, ℕ, Bool, true, false, ◌&&◌, cond, not, List, [], ◌∷◌, map, Contains, Option, None, Some, refl, sym, ap, ◌∙◌, subst}
 use Rattle.std.specs.Prelude.{◌↔◌, flat_map}
-use Rattle.std.specs.Cmp.{unsigned_Decides}
-use Rattle.std.specs.List.{cons_option, filter_map}
+use Rattle.std.specs.List.{filter_map}
 use Rattle.std.proofs.lemmas.List.Concat.{flat_map-cons}
 use Rattle.std.proofs.lemmas.List.Elements.{Contains-append_cases, Contains-append_left, Contains-append_right}
 use Rattle.std.proofs.lemmas.Option.{none-some, same_Some}
@@ -11,12 +10,13 @@ use Rattle.owl_doc.specs.Heads.{iri_in}
 use Rattle.owl_kind.specs.declared.kind.Kind.{Kind}
 use Rattle.owl_kind.specs.Kinds.{Entity}
 use Rattle.owl_list.specs.AscendingLaws.{from_map, in_cases, in_head, in_map, in_none, in_tail}
+use Rattle.owl_list.specs.FilterLaws.{from_filter_map, in_filter_map}
 use Rattle.owl_tree.specs.declared.atom.Atom.{Atom}
 use Rattle.owl_tree.specs.declared.tag.Tag.{Tag}
 use Rattle.owl_tree.specs.declared.tag.Tag.TheVariants as tag
 use Rattle.owl_tree.specs.Canonical.{canonical}
 use Rattle.owl_tree.specs.Ontologies.{Ontology, canonical_list}
-use Rattle.owl_tree.specs.OrderLaws.{same_number}
+use Rattle.owl_tree.specs.OrderLaws.{same_tag}
 use Rattle.owl_tree.specs.Rows.{is_tag, row_of}
 use Rattle.owl_tree.specs.Tags.{number_of}
 use Rattle.owl_tree.specs.Trees.{Tree, Kids, leaf, node, no_kids, kid, kids_in, tag_of}
@@ -27,10 +27,10 @@ use Rattle.rdf_normal.specs.NormalFormLaws.{nothing_else, stays, holds}
 -- Tags.
 
 pub tag_told : (u t : Tag) → is_tag u t ≡ true → t ≡ u
-tag_told u t e = sym (same_number u t ((unsigned_Decides (number_of u) (number_of t)).0 e))
+tag_told u t e = sym ((same_tag u t).0 e)
 
 itself : (u : Tag) → is_tag u u ≡ true
-itself u = (unsigned_Decides (number_of u) (number_of u)).1 refl
+itself u = (same_tag u u).1 refl
 
 tag_not : (u t : Tag) → is_tag u t ≡ false → t ≡ u → ⊥
 tag_not u t e f = let same = itself u in let g = ap (is_tag u) f in cc
@@ -168,33 +168,11 @@ pub record DeclaresIn (ts : List Tree) (e : Entity) : Type 0 where
   pub inside : Contains ts tree
   pub entity : declaration tree ≡ Some e
 
-by_head : (o : Option Entity) (es : List Entity) (e : Entity) → Contains (cons_option o es) e → (o ≡ Some e) ⊎ Contains es e
-by_head None es e m = inr m
-by_head (Some d) es e m = elim (in_cases d es e m) [ inl f ↦ inl (ap (λ (x : Entity). Some x) f) | inr n ↦ inr n ]
-
-to_head : (o : Option Entity) (es : List Entity) (e : Entity) → o ≡ Some e → Contains (cons_option o es) e
-to_head None es e f = absurd (none-some e f)
-to_head (Some d) es e f = subst (λ (x : Entity). Contains (d ∷ es) x) (same_Some d e f) (in_head d es)
-
-to_tail : (o : Option Entity) (es : List Entity) (e : Entity) → Contains es e → Contains (cons_option o es) e
-to_tail None es e m = m
-to_tail (Some d) es e m = in_tail d es e m
-
 pub declared_by : (ts : List Tree) (e : Entity) → Contains (filter_map declaration ts) e → DeclaresIn ts e
-declared_by [] e m = absurd (in_none e m)
-declared_by (t ∷ ts) e m =
-    elim (by_head (declaration t) (filter_map declaration ts) e m) [
-      | inl f ↦ record { tree = t; inside = in_head t ts; entity = f }
-      | inr n ↦ let d = declared_by ts e n in record { tree = d.tree; inside = in_tail t ts d.tree d.inside; entity = d.entity }
-    ]
+declared_by ts e m = let d = from_filter_map declaration ts e m in record { tree = d.element; inside = d.inside; entity = d.gives }
 
 pub declares_it : (ts : List Tree) (t : Tree) (e : Entity) → Contains ts t → declaration t ≡ Some e → Contains (filter_map declaration ts) e
-declares_it [] t e m f = absurd (in_none t m)
-declares_it (u ∷ ts) t e m f =
-    elim (in_cases u ts t m) [
-      | inl g ↦ to_head (declaration u) (filter_map declaration ts) e (ap declaration g ∙ f)
-      | inr n ↦ to_tail (declaration u) (filter_map declaration ts) e (declares_it ts t e n f)
-    ]
+declares_it = in_filter_map declaration
 
 in_flat : (ts : List Tree) (t x : Tree) → Contains ts t → Contains (spread t) x → Contains (flat_map spread ts) x
 in_flat [] t x m k = absurd (in_none t m)

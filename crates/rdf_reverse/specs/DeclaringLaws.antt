@@ -1,25 +1,24 @@
 -- A graph declares what the axioms declare that it states (Mapping to RDF Graphs, section 3.1.2).
 use Rattle.std.specs.Prelude.{◌≡◌, ◌↔◌, ◌&&◌, ◌||◌, ℕ, Bool, true, false, not, cond, List, [], ◌∷◌, ◌++◌, Contains, Option, None, Some}
-use Rattle.std.specs.List.{cons_option, filter, filter_map, list_all, list_any}
+use Rattle.std.specs.List.{filter, list_all, list_any}
 use Rattle.std.specs.Str.{bytes_eq}
 use Rattle.std.proofs.Common.{inl, inr, refl, sym, ap, ◌∙◌, subst, ◌⊎◌}
-use Rattle.std.proofs.lemmas.Bool.{and_parts, both_ways, not-true, or_cases}
+use Rattle.std.proofs.lemmas.Bool.{and_parts, both_ways, false_from_ne_true, not-true, or_cases}
 use Rattle.std.proofs.lemmas.List.Elements.{Contains-append_cases, Contains-append_left}
 use Rattle.std.proofs.lemmas.Option.{none-some, same_Some}
 use Rattle.owl_doc.specs.Entities.{declaration as declared_by, declarations as declared_by_all, declared_kind as kind_told, declared_over, entity_of as entity_in}
 use Rattle.owl_kind.specs.declared.kind.Kind.{Kind}
 use Rattle.owl_kind.specs.declared.kind.Kind.TheVariants as kind
 use Rattle.owl_kind.specs.Kinds.{Entity}
-use Rattle.owl_list.specs.AscendingLaws.{in_cases, in_head, in_none, in_tail}
-use Rattle.owl_list.specs.FilterLaws.{from_filter, in_filter}
+use Rattle.owl_list.specs.AscendingLaws.{in_head}
+use Rattle.owl_list.specs.FilterLaws.{from_filter, from_filter_map, in_filter, in_filter_map}
 use Rattle.owl_tree.specs.declared.atom.Atom.TheVariants as atom
 use Rattle.owl_tree.specs.declared.tag.Tag.{Tag}
 use Rattle.owl_tree.specs.declared.tag.Tag.TheVariants as tag
 use Rattle.owl_tree.specs.Ontologies.{Ontology}
-use Rattle.std.specs.Cmp.{unsigned_Decides}
 use Rattle.std.proofs.lemmas.List.{append-nil}
 use Rattle.owl_doc.specs.Entities.{kind_of}
-use Rattle.owl_tree.specs.OrderLaws.{same_number}
+use Rattle.owl_tree.specs.OrderLaws.{same_tag}
 use Rattle.owl_tree.specs.Rows.{is_tag}
 use Rattle.owl_tree.specs.Tags.{number_of}
 use Rattle.owl_tree.specs.TreeLaws.{list_of_kids_of}
@@ -52,41 +51,6 @@ use Rattle.rdf_faults.specs.MeantLaws.{triple_axiom}
 use Rattle.rdf_scans.specs.Outlines.{declaration, declarations, entity_of, kind_at}
 use Rattle.rdf_statements.specs.StatedLaws.{has_set}
 
--- lists
-
-pub record IsFrom {X : Type 0} (f : X → Option Entity) (xs : List X) (e : Entity) : Type 0 where
-  pub item : X
-  pub inside : Contains xs item
-  pub gives : f item ≡ Some e
-
-by_head : (o : Option Entity) (es : List Entity) (e : Entity) → Contains (cons_option o es) e → (o ≡ Some e) ⊎ Contains es e
-by_head None es e m = inr m
-by_head (Some d) es e m = elim (in_cases d es e m) [ inl f ↦ inl (ap (λ (x : Entity). Some x) f) | inr n ↦ inr n ]
-
-from_declared : {X : Type 0} (f : X → Option Entity) (xs : List X) (e : Entity) → Contains (filter_map f xs) e → IsFrom f xs e
-from_declared f [] e m = absurd (in_none e m)
-from_declared f (x ∷ xs) e m =
-    elim (by_head (f x) (filter_map f xs) e m) [
-      | inl n ↦ record { item = x; inside = in_head x xs; gives = n }
-      | inr n ↦ let r = from_declared f xs e n in record { item = r.item; inside = in_tail x xs r.item r.inside; gives = r.gives }
-    ]
-
-at_head : (o : Option Entity) (es : List Entity) (e : Entity) → o ≡ Some e → Contains (cons_option o es) e
-at_head None es e n = absurd (none-some e n)
-at_head (Some d) es e n = subst (λ z. Contains (d ∷ es) z) (same_Some d e n) (in_head d es)
-
-at_tail : (o : Option Entity) (es : List Entity) (e : Entity) → Contains es e → Contains (cons_option o es) e
-at_tail None es e m = m
-at_tail (Some d) es e m = in_tail d es e m
-
-to_declared : {X : Type 0} (f : X → Option Entity) (xs : List X) (x : X) (e : Entity) → Contains xs x → f x ≡ Some e → Contains (filter_map f xs) e
-to_declared f [] x e m n = absurd (in_none x m)
-to_declared f (y ∷ ys) x e m n =
-    elim (in_cases y ys x m) [
-      | inl same ↦ at_head (f y) (filter_map f ys) e (ap f same ∙ n)
-      | inr i ↦ at_tail (f y) (filter_map f ys) e (to_declared f ys x e i n)
-    ]
-
 -- the rows of declarations: by each word the tag of what is declared
 
 abbrev told : Site → Option Tag
@@ -117,10 +81,7 @@ unfolding axiom_rows number_of
 rows_declare_so = refl
 
 tag_told : (u t : Tag) → is_tag u t ≡ true → t ≡ u
-tag_told u t e = sym (same_number u t ((unsigned_Decides (number_of u) (number_of t)).0 e))
-
-itself_tag : (u : Tag) → is_tag u u ≡ true
-itself_tag u = (unsigned_Decides (number_of u) (number_of u)).1 refl
+tag_told u t e = sym ((same_tag u t).0 e)
 
 part_told : (u : Tag) (place : Place) (want : Want) → is_declared_at u place want ≡ true → (place ≡ Subject) × (want ≡ Declared u)
 part_told u Subject (Declared t) e = (refl, ap (λ (v : Tag). Declared v) (tag_told u t e))
@@ -256,10 +217,6 @@ carried w t e h = where_true (is_type w) (says_type (word_iri w) t) _ e h
 not_three : (a b c : Bool) → a ≡ false → b ≡ false → c ≡ false → not (a || b || c) ≡ true
 not_three a b c e f h = ap (λ x. not (x || b || c)) e ∙ ap (λ x. not (x || c)) f ∙ ap not h
 
-false_from : (b : Bool) → (b ≡ true → ⊥) → b ≡ false
-false_from true h = absurd (h refl)
-false_from false h = refl
-
 no_other_word : (w v : Word) (t : Triple) (declared : Kind) → kind_declared w ≡ Some declared → kind_declared v ≡ None → carries w t ≡ true → carries v t ≡ true → ⊥
 no_other_word w v t d e none h n = none-some d (sym none ∙ ap kind_declared (sym (one_word w v t h n)) ∙ e)
 
@@ -308,9 +265,9 @@ module _ (g : List Triple) (k : List Entity) (o : Ontology) (h : Says g k o) whe
       let c = carried w t (kind_is_type w d n) says.1 in
       in_filter (λ u. not (is_structural g u || is_header_triple h.states.header u || is_annotation_triple g k h.states.header u)) g t m
       (not_three (is_structural g t) (is_header_triple h.states.header t) (is_annotation_triple g k h.states.header t)
-      (false_from (is_structural g t) (nothing_below g t.subject (no_role t iri e) t m refl))
-      (false_from (is_header_triple h.states.header t) (no_header t w d n c))
-      (false_from (is_annotation_triple g k h.states.header t) (no_annotation t iri e says.0)))
+      (false_from_ne_true (is_structural g t) (nothing_below g t.subject (no_role t iri e) t m refl))
+      (false_from_ne_true (is_header_triple h.states.header t) (no_header t w d n c))
+      (false_from_ne_true (is_annotation_triple g k h.states.header t) (no_annotation t iri e says.0)))
 
   -- what stands at the one part of its row
 
@@ -363,7 +320,7 @@ module _ (g : List Triple) (k : List Entity) (o : Ontology) (h : Says g k o) whe
       let kind_is : kind_told u.0 ≡ Some told_of.kind = word_kind site.0 u.0 u.1 ∙ site.2 in
       let entity : entity_in (kind_told u.0) (atom.Iri its.iri) ≡ Some e =
       ap (λ q. entity_in q (atom.Iri its.iri)) kind_is ∙ ap (λ i. Some (record { kind = told_of.kind; iri = i })) same_iri ∙ ap (λ (x : Entity). Some x) told_of.entity in
-      to_declared declared_by axioms a e
+      in_filter_map declared_by axioms a e
       (Contains-append_left h.states.by_triples h.states.by_nodes a
       ((axioms_of_triples g k h.states.no_clash (main_triples g k h.states.header) h.states.by_triples h.states.are_axioms a).1 (record {
         triple = t;
@@ -384,7 +341,7 @@ module _ (g : List Triple) (k : List Entity) (o : Ontology) (h : Says g k o) whe
 
   -- the row of a declaration has a word for what is declared
   row_told : (q : Option Tag) (t : Tag) (ps : List Part) → declares_so q t ps ≡ true → t ≡ tag.Declaration → (u : Tag) × (q ≡ Some u) × HasSubject u ps
-  row_told None t ps n e = absurd (both_ways _ (not-true _ n) (ap (is_tag tag.Declaration) e ∙ itself_tag tag.Declaration))
+  row_told None t ps n e = absurd (both_ways _ (not-true _ n) (ap (is_tag tag.Declaration) e ∙ (same_tag tag.Declaration tag.Declaration).1 refl))
   row_told (Some u) t ps n e = (u, refl, parts_told u ps (and_parts (is_tag tag.Declaration t) (are_parts_of u ps) n).1)
 
   told_row : (row : Row) → Contains axiom_rows row → row.tag ≡ tag.Declaration → (u : Tag) × (told row.site ≡ Some u) × HasSubject u row.parts
@@ -408,7 +365,7 @@ module _ (g : List Triple) (k : List Entity) (o : Ontology) (h : Says g k o) whe
       sym ((λ i. declared_over (tag_is i) (is.axiom_of.annotations ∷ its.one i))) ∙ over in
       let kinds = word_kind site.0 row.0 (sym (ap told site.1) ∙ row.1) in
       let there : site_of t ≡ TypedBy site.0 = sym said.fits ∙ site.1 in
-      to_declared declaration g t e
+      in_filter_map declaration g t e
       (from_filter (λ u. not (is_structural g u || is_header_triple h.states.header u || is_annotation_triple g k h.states.header u)) g t is.inside).inside
       (ap (λ x. entity_of x (kind_at (site_of t))) its.subject ∙ ap (λ s. entity_of (Iri its.iri) (kind_at s)) there
       ∙ same_entities (kind_declared site.0) its.iri ∙ ap (λ q. entity_in q (atom.Iri its.iri)) (sym kinds) ∙ entity)
@@ -431,6 +388,6 @@ module _ (g : List Triple) (k : List Entity) (o : Ontology) (h : Says g k o) whe
   -- the graph declares exactly what the axioms do that it states
   pub declares_stated : (e : Entity) → Contains (declarations g) e ↔ Contains (declared_by_all axioms) e
   declares_stated e = (
-    λ m. let t = from_declared declaration g e m in declares_too t.item e t.inside t.gives,
-    λ m. let a = from_declared declared_by axioms e m in declared_of a.item e a.inside a.gives,
+    λ m. let t = from_filter_map declaration g e m in declares_too t.element e t.inside t.gives,
+    λ m. let a = from_filter_map declared_by axioms e m in declared_of a.element e a.inside a.gives,
   )
