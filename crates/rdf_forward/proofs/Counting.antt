@@ -1,7 +1,6 @@
 -- Labels that are counted, tree by tree.
-use Rattle.std.proofs.Common.{◌≡◌, ◌<◌, ◌≤◌, ℕ, suc, List, [], ◌∷◌, ◌++◌, None, refl, sym, ap, ◌∙◌, subst, arith}
-use Rattle.std.specs.Prelude.{max}
-use Rattle.std.specs.List.{AllByRecursion, flat_map}
+use Rattle.std.proofs.Common.{◌≡◌, ℕ, List, [], ◌∷◌, ◌++◌, None, refl, sym, ap, ◌∙◌, subst}
+use Rattle.std.specs.List.{flat_map}
 use Rattle.std.proofs.lemmas.Grind.{flat_map-append}
 use Rattle.owl_arena.specs.Held.{Held, tree_at, trees_at}
 use Rattle.owl_doc.specs.Documents.{Document, ontology_of}
@@ -9,21 +8,6 @@ use Rattle.owl_tree.specs.Trees.{Tree, Kids, leaf, node, no_kids, kid, atom_in, 
 use Rattle.blank_labels.specs.LabelNumbers.{Counts, LabelNumbers}
 use Rattle.blank_labels.specs.FreshLabelLaws.{counts_both, counts_none}
 use Rattle.rdf_mapping.specs.Graphs.{all_labels_in, labels_in, labels_of}
-
--- all of these numbers are below it
-abbrev pub above_all : List ℕ → ℕ
-above_all [] = 0
-above_all (i ∷ is) = max (suc i) (above_all is)
-
-pub above_kids : (ids : List ℕ) (id : ℕ) → AllByRecursion (λ k. k < id) ids → above_all ids ≤ id
-above_kids [] id h = omega arith
-above_kids (i ∷ ids) id h = let first = h.0 in let rest = above_kids ids id h.1 in grind (arith, first, rest)
-
-pub above_first : (i : ℕ) (is : List ℕ) → i < above_all (i ∷ is)
-above_first i is = grind arith
-
-pub above_rest : (i : ℕ) (is : List ℕ) → above_all is ≤ above_all (i ∷ is)
-above_rest i is = grind arith
 
 -- The labels so far lead on to those that are left.
 pub record CountsOn (trees : List Tree) (start now : LabelNumbers) (ids left : List ℕ) : Type 0 where

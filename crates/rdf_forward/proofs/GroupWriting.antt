@@ -46,7 +46,7 @@ module _ (trees : List Tree) where
   parted n ids = ap (trees_at trees) (sym (take-append-drop n ids)) ∙ map-append (tree_at trees) (take n ids) (drop n ids)
 
   -- the first of these groups, and the others
-  groups_split : (id n : ℕ) (ids : List ℕ) → AreOrdered (trees_at trees (id ∷ ids)) → IsGroup trees (id ∷ ids) (suc n) → groups_of (trees_at trees (id ∷ ids)) ≡ group_with (tree_at trees id) (sets_at trees (id ∷ take n ids)) ∷ groups_of (trees_at trees (drop n ids))
+  pub groups_split : (id n : ℕ) (ids : List ℕ) → AreOrdered (trees_at trees (id ∷ ids)) → IsGroup trees (id ∷ ids) (suc n) → groups_of (trees_at trees (id ∷ ids)) ≡ group_with (tree_at trees id) (sets_at trees (id ∷ take n ids)) ∷ groups_of (trees_at trees (drop n ids))
   groups_split id n ids ordered group =
       let x = tree_at trees id in
       let split = ap (λ (ts : List Tree). x ∷ ts) (parted n ids) in

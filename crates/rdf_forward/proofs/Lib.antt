@@ -12,4 +12,5 @@ pub mod Bare
 pub mod Grouping
 pub mod Sorting
 pub mod GroupWriting
+pub mod GroupCounting
 pub mod Whole

@@ -1,44 +1,23 @@
 -- The form of a node, by its row.
-use Rattle.std.proofs.Common.{◌≡◌, ◌<◌, ℕ, Bool, true, false, List, [], ◌∷◌, map, Option, Some, None, option_map, refl, sym, ap, ◌∙◌, arith}
-use Rattle.std.proofs.lemmas.Simd.{map-map}
+use Rattle.std.proofs.Common.{◌≡◌, ◌<◌, ℕ, true, false, List, ◌∷◌, map, Option, Some, None, option_map, refl, sym, ap, ◌∙◌, arith}
 use Rattle.owl_arena.specs.Held.{tree_at, trees_at}
 use Rattle.owl_arena.specs.HeldLaws.{below_later}
 use Rattle.owl_tree.specs.declared.tag.Tag.{Tag}
 use Rattle.owl_tree.specs.declared.tag.Tag.TheVariants as tag
-use Rattle.std.specs.Prelude.{nat_eq}
 use Rattle.owl_tree.specs.Rows.{is_tag}
-use Rattle.owl_tree.specs.Tags.{number_of}
-use Rattle.owl_tree.specs.Trees.{Tree, leaf, node, atom_in, kids_in, tag_of}
+use Rattle.owl_tree.specs.Trees.{Tree, atom_in, kids_in, tag_of}
 use Rattle.rdf_meaning.specs.declared.row.Part.{Part}
-use Rattle.rdf_meaning.specs.Rows.{Row, node_rows, row_seen}
+use Rattle.rdf_meaning.specs.Rows.{node_rows, row_seen}
 use Rattle.rdf_meaning.specs.declared.row.Row as held
 use Rattle.rdf_mapping.specs.Forms.{made, no_arcs}
-use Rattle.rdf_mapping.specs.Drawing.{Kid, arcs_of, facet_arcs, form_of, kid_of, node_form, placed, placed_at, placed_by, row_for, singles, tags_of}
+use Rattle.rdf_mapping.specs.Drawing.{Kid, arcs_of, facet_arcs, form_of, node_form, placed, placed_at, placed_by, row_for, singles, tags_of}
+use Rattle.rdf_counts.specs.ArenaLaws.{form_at, found_row}
 use Rattle.rdf_forward.specs.declared.drawn.Drawn.{Drawn}
 use Rattle.rdf_forward.specs.declared.drawn.Drawn.TheVariants as drawn
 use Rattle.rdf_mapping.specs.Arenas.{kids_at, tags_at}
 use Rattle.rdf_forward.specs.Walks.{IsDrawnBelow, Takes, drawn_form}
-use Rattle.rdf_mapping.specs.NodeDrawingLaws.{seen_each, row_form}
+use Rattle.rdf_mapping.specs.NodeDrawingLaws.{row_form}
 use Rattle.rdf_mapping.specs.TreeSortLaws.{facet_form}
-
-form_by_kids : (t : Tree) (ks : List Kid) → atom_in t ≡ None → map kid_of (kids_in t) ≡ ks → form_of t ≡ node_form (tag_of t) ks
-form_by_kids (leaf t a) ks e h = cc
-form_by_kids (node t us) ks e h = ap (node_form t) (seen_each us ∙ h)
-
-pub kids_are_at : (trees : List Tree) (id : ℕ) (ids : List ℕ) → trees_at trees ids ≡ kids_in (tree_at trees id) → map kid_of (kids_in (tree_at trees id)) ≡ kids_at trees ids
-kids_are_at trees id ids e = ap (map kid_of) (sym e) ∙ map-map kid_of (tree_at trees) ids
-
--- the form of a tree that is no leaf, by the numbers of its kids
-pub form_at : (trees : List Tree) (id : ℕ) (ids : List ℕ) → atom_in (tree_at trees id) ≡ None → trees_at trees ids ≡ kids_in (tree_at trees id) → form_of (tree_at trees id) ≡ node_form (tag_of (tree_at trees id)) (kids_at trees ids)
-form_at trees id ids h e = form_by_kids (tree_at trees id) (kids_at trees ids) h (kids_are_at trees id ids e)
-
-tag_seen : (t : Tree) → (kid_of t).tag ≡ tag_of t
-tag_seen (leaf t a) = refl
-tag_seen (node t ks) = refl
-
-pub tags_seen : (trees : List Tree) (ids : List ℕ) → tags_of (kids_at trees ids) ≡ tags_at trees ids
-tags_seen trees [] = refl
-tags_seen trees (id ∷ ids) = let e = tag_seen (tree_at trees id) in let f = tags_seen trees ids in cc
 
 pub no_row_form : (t : Tag) (ks : List Kid) → is_tag tag.FacetPair t ≡ false → row_for node_rows t (tags_of ks) ≡ None → node_form t ks ≡ made no_arcs
 no_row_form t ks e h = rw (e, h) refl
@@ -59,28 +38,17 @@ drawn_below above many (drawn.Keys objects others) h b = (below_later objects.no
 drawn_below above many (drawn.Class w) h b = tt
 drawn_below above many drawn.True h b = tt
 
--- a tag is asked for with the sides turned
-same_turned : (m n : ℕ) → nat_eq m n ≡ nat_eq n m
-same_turned m n = grind arith
-
-pub tag_told : (t : Tag) (b c : Bool) → b ≡ nat_eq (number_of t) (number_of tag.FacetPair) → b ≡ c → is_tag tag.FacetPair t ≡ c
-tag_told t b c e h = same_turned (number_of tag.FacetPair) (number_of t) ∙ sym e ∙ h
-
 -- the form of a tree by its row, over the numbers of its kids
 
 pub facet_at : (trees : List Tree) (id : ℕ) (ids : List ℕ) (t : Tag) → atom_in (tree_at trees id) ≡ None → trees_at trees ids ≡ kids_in (tree_at trees id) → t ≡ tag_of (tree_at trees id) → is_tag tag.FacetPair t ≡ true → form_of (tree_at trees id) ≡ made (facet_arcs (kids_at trees ids))
 facet_at trees id ids t h e u f = form_at trees id ids h e ∙ ap (λ (v : Tag). node_form v (kids_at trees ids)) (sym u) ∙ facet_form t (kids_at trees ids) f
 
-found_row : (trees : List Tree) (t : Tag) (ids : List ℕ) (found : Option held.Row) (rows : List held.Row) → map row_seen rows ≡ node_rows → option_map row_seen found ≡ row_for (map row_seen rows) t (tags_at trees ids) → row_for node_rows t (tags_of (kids_at trees ids)) ≡ option_map row_seen found
-found_row trees t ids found rows r e =
-    ap (λ (ts : List Tag). row_for node_rows t ts) (tags_seen trees ids) ∙ ap (λ (rs : List Row). row_for rs t (tags_at trees ids)) (sym r) ∙ sym e
-
 pub row_at : (trees : List Tree) (id : ℕ) (ids : List ℕ) (t : Tag) (row : held.Row) (rows : List held.Row) → atom_in (tree_at trees id) ≡ None → trees_at trees ids ≡ kids_in (tree_at trees id) → t ≡ tag_of (tree_at trees id) → is_tag tag.FacetPair t ≡ false → map row_seen rows ≡ node_rows → option_map row_seen (Some row) ≡ row_for (map row_seen rows) t (tags_at trees ids) → form_of (tree_at trees id) ≡ made (arcs_of (placed row.parts.now (kids_at trees ids)))
 row_at trees id ids t row rows h e u f r found =
     form_at trees id ids h e ∙ ap (λ (v : Tag). node_form v (kids_at trees ids)) (sym u)
-    ∙ row_form t (kids_at trees ids) (row_seen row) f (found_row trees t ids (Some row) rows r found)
+    ∙ row_form t (kids_at trees ids) (row_seen row) f (found_row trees t ids (Some row) rows node_rows r found)
 
 pub no_row_at : (trees : List Tree) (id : ℕ) (ids : List ℕ) (t : Tag) (found : Option held.Row) (rows : List held.Row) → atom_in (tree_at trees id) ≡ None → trees_at trees ids ≡ kids_in (tree_at trees id) → t ≡ tag_of (tree_at trees id) → is_tag tag.FacetPair t ≡ false → map row_seen rows ≡ node_rows → found ≡ None → option_map row_seen found ≡ row_for (map row_seen rows) t (tags_at trees ids) → form_of (tree_at trees id) ≡ made no_arcs
 no_row_at trees id ids t found rows h e u f r none is =
     form_at trees id ids h e ∙ ap (λ (v : Tag). node_form v (kids_at trees ids)) (sym u)
-    ∙ no_row_form t (kids_at trees ids) f (found_row trees t ids found rows r is ∙ ap (option_map row_seen) none)
+    ∙ no_row_form t (kids_at trees ids) f (found_row trees t ids found rows node_rows r is ∙ ap (option_map row_seen) none)

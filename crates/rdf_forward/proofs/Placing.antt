@@ -1,24 +1,21 @@
 -- What stands at parts, and what it says.
-use Rattle.std.proofs.Common.{◌≡◌, ◌≤◌, ◌<◌, ℕ, false, List, [], ◌∷◌, map, length, refl, sym, ap, ◌∙◌, subst, arith}
-use Rattle.std.proofs.lemmas.Simd.{map-map}
-use Rattle.owl_arena.specs.Held.{tree_at, trees_at}
+use Rattle.std.proofs.Common.{◌≡◌, ◌≤◌, ◌<◌, ℕ, false, List, [], ◌∷◌, length, refl, sym, ap, ◌∙◌, subst, arith}
 use Rattle.owl_tree.specs.declared.tag.Tag.{Tag}
-use Rattle.owl_tree.specs.Trees.{Tree, leaf, node, no_kids, kid, kids_in, list_of, tag_of}
+use Rattle.owl_tree.specs.Trees.{Tree}
 use Rattle.rdf_graph.specs.declared.term.Term.{Term}
 use Rattle.rdf_graph.specs.declared.term.Term.TheVariants.{Iri, Blank, Literal}
 use Rattle.rdf_meaning.specs.declared.row.Part.{Part}
 use Rattle.rdf_meaning.specs.declared.row.Site.TheVariants as site
 use Rattle.rdf_meaning.specs.Rows.{axiom_rows}
+use Rattle.rdf_counts.specs.ArenaLaws.{rows_seen}
 use Rattle.rdf_forward.specs.declared.writer.Writer.{Writer}
 use Rattle.rdf_mapping.specs.Forms.{Form, made, plain, term_of, twice}
-use Rattle.rdf_mapping.specs.Drawing.{Kid, Placed, Statement, by_kids, by_predicate, by_triple, is_pair, kid_of, placed, placed_by, row_for, singles, stated_by, statement_of, tags_of, unsaid}
+use Rattle.rdf_mapping.specs.Drawing.{Kid, Placed, Statement, by_kids, by_predicate, by_triple, is_pair, placed, placed_by, row_for, singles, stated_by, tags_of, unsaid}
 use Rattle.rdf_mapping.specs.Notes.{Notes}
 use Rattle.rdf_forward.specs.AxiomWalks.{WritesStatement}
 use Rattle.rdf_mapping.specs.Arenas.{kids_at, tags_at}
 use Rattle.rdf_forward.specs.Walks.{TakesNone}
 use Rattle.rdf_forward.proofs.Cells.{writes_nothing}
-use Rattle.rdf_forward.proofs.Nodes.{tags_seen}
-use Rattle.rdf_mapping.specs.NodeDrawingLaws.{seen_each}
 
 pub nothing_at : (parts : List Part) (ks : List Kid) → length parts < 1 → placed parts ks ≡ []
 unfolding placed
@@ -56,19 +53,6 @@ not_said w name p q r ps qs rs ss sets n t e f g h not is =
 
 -- an axiom by its kids
 
-statement_by_kids : (t n : Tree) (ts : List Tree) → n ∷ ts ≡ kids_in t → statement_of t ≡ by_kids (tag_of t) (map kid_of ts)
-statement_by_kids (leaf g a) n ts e = cc
-statement_by_kids (node g no_kids) n ts e = cc
-statement_by_kids (node g (kid m ms)) n ts e = let rest : list_of ms ≡ ts = cc in ap (by_kids g) (seen_each ms ∙ ap (map kid_of) rest)
-
-pub statement_at : (trees : List Tree) (id n : ℕ) (ids others : List ℕ) (t : Tag) → ids ≡ n ∷ others → trees_at trees ids ≡ kids_in (tree_at trees id) → t ≡ tag_of (tree_at trees id) → statement_of (tree_at trees id) ≡ by_kids t (kids_at trees others)
-statement_at trees id n ids others t e f g =
-    statement_by_kids (tree_at trees id) (tree_at trees n) (trees_at trees others) (sym (ap (trees_at trees) e) ∙ f)
-    ∙ ap (by_kids (tag_of (tree_at trees id))) (map-map kid_of (tree_at trees) others) ∙ ap (λ (u : Tag). by_kids u (kids_at trees others)) (sym g)
-
-rows_seen : (trees : List Tree) (t : Tag) (ids : List ℕ) → stated_by (row_for axiom_rows t (tags_of (kids_at trees ids))) (kids_at trees ids) ≡ stated_by (row_for axiom_rows t (tags_at trees ids)) (kids_at trees ids)
-rows_seen trees t ids = ap (λ (ts : List Tag). stated_by (row_for axiom_rows t ts) (kids_at trees ids)) (tags_seen trees ids)
-
 pub no_kids_by_row : (trees : List Tree) (t : Tag) (ids : List ℕ) → length ids < 1 → by_kids t (kids_at trees ids) ≡ stated_by (row_for axiom_rows t (tags_at trees ids)) (kids_at trees ids)
 no_kids_by_row trees t [] h = refl
 no_kids_by_row trees t (i ∷ ids) h = absurd (omega (arith, h))
@@ -79,8 +63,3 @@ one_kid_by_row trees t (i ∷ []) h k e =
     let one : by_kids t (kids_at trees (i ∷ [])) ≡ stated_by (row_for axiom_rows t (tags_of (kids_at trees (i ∷ [])))) (kids_at trees (i ∷ [])) = rw e refl in
     one ∙ rows_seen trees t (i ∷ [])
 one_kid_by_row trees t (i ∷ j ∷ ids) h k e = absurd (omega (arith, k))
-
-pub more_kids_by_row : (trees : List Tree) (t : Tag) (ids : List ℕ) → 2 ≤ length ids → by_kids t (kids_at trees ids) ≡ stated_by (row_for axiom_rows t (tags_at trees ids)) (kids_at trees ids)
-more_kids_by_row trees t [] h = absurd (omega (arith, h))
-more_kids_by_row trees t (i ∷ []) h = absurd (omega (arith, h))
-more_kids_by_row trees t (i ∷ j ∷ ids) h = rows_seen trees t (i ∷ j ∷ ids)

@@ -16,13 +16,6 @@ use Rattle.rdf_mapping.specs.Forms.{Form, list_form}
 use Rattle.rdf_mapping.specs.Drawing.{Kid, Placed, form_of, forms_of, kid_of, kids_seen, listed, placed_at, placed_by}
 use Rattle.rdf_mapping.specs.Arenas.{forms_at, kids_at}
 
--- a slice, by its first items and the others
-pub first_and : {X : Type 0} (xs : List X) (x : X) → 1 ≤ length xs → x ≡ get_or xs 0 x → xs ≡ x ∷ take (length xs - 1) (drop 1 xs)
-first_and {X} [] x h e = absurd (omega arith)
-first_and {X} (y ∷ ys) x h e =
-    let n : suc (length ys) - 1 ≡ length ys = omega arith in
-    ap (λ (z : X). z ∷ ys) (sym e) ∙ ap (λ (zs : List X). x ∷ zs) (sym (ap (λ (k : ℕ). take k ys) n ∙ take-length ys))
-
 pub first_at : {X : Type 0} (xs : List X) (d : X) → 1 ≤ length xs → xs ≡ get_or xs 0 d ∷ take (length xs - 1) (drop 1 xs)
 first_at {X} [] d h = absurd (omega arith)
 first_at {X} (y ∷ ys) d h = let n : suc (length ys) - 1 ≡ length ys = omega arith in ap (λ (zs : List X). y ∷ zs) (sym (ap (λ (k : ℕ). take k ys) n ∙ take-length ys))
@@ -44,10 +37,6 @@ only_three {X} (a ∷ []) x y z h k e f g = absurd (omega arith)
 only_three {X} (a ∷ b ∷ []) x y z h k e f g = absurd (omega arith)
 only_three {X} (a ∷ b ∷ c ∷ []) x y z h k e f g = ap (λ (v : X). v ∷ b ∷ c ∷ []) (sym e) ∙ ap (λ (v : X). x ∷ v ∷ c ∷ []) (sym f) ∙ ap (λ (v : X). x ∷ y ∷ v ∷ []) (sym g)
 only_three {X} (a ∷ b ∷ c ∷ d ∷ ys) x y z h k e f g = absurd (omega arith)
-
-pub none_left : {X : Type 0} (xs : List X) → length xs < 1 → xs ≡ []
-none_left {X} [] h = refl
-none_left {X} (x ∷ xs) h = absurd (omega arith)
 
 pub two_and : {X : Type 0} (xs : List X) (x y : X) → 2 ≤ length xs → x ≡ get_or xs 0 x → y ≡ get_or xs 1 y → xs ≡ x ∷ y ∷ take (length xs - 2) (drop 2 xs)
 two_and {X} [] x y h e f = absurd (omega arith)

@@ -8,6 +8,7 @@ ghost use Rattle.rdf_mapping.specs.GraphLaws.{triples_of};
 ghost use Rattle.rdf_mapping.specs.Graphs.{graph_of};
 ghost use Rattle.rdf_forward.specs.HeaderWalks.{WritesOntology};
 
+use crate::bounds::draws_too_many;
 use crate::labels::labels_beside;
 use crate::writer::Writer;
 use owl_characters::NoMemory;
@@ -23,6 +24,9 @@ pub fn forward(alloc: Global, doc: &Doc) -> Result<Graph, GraphFault>
     ensures too_many { IsErrOf result GraphFault.TooMany
         → most_triples < length (graph_of (ontology_of doc.now)) }
 {
+    if draws_too_many(alloc, doc)? {
+        return Err(GraphFault::TooMany);
+    }
     let triples = triples_of(alloc, doc)?;
     triples.finish_without_index()
 }

@@ -91,7 +91,7 @@ fn compare_any(arena: &Arena, a: ExprId, b: ExprId) -> Ordering
 
 /// The axioms in this order, where those that differ in their annotations alone
 /// stand as they stood.
-fn sorted(alloc: Global, arena: &Arena, axioms: &[ExprId]) -> Result<Vec<ExprId>, NoMemory>
+pub fn sorted(alloc: Global, arena: &Arena, axioms: &[ExprId]) -> Result<Vec<ExprId>, NoMemory>
     ensures { IfOk result (λ ids. AreSorted arena.now.trees axioms.now ids.items) }
 {
     let mut ids = axioms.to_vec(alloc)?;
@@ -110,7 +110,7 @@ fn same_but_for_notes(arena: &Arena, a: ExprId, b: ExprId) -> bool
 }
 
 /// How many of the axioms are the same as the first but for their annotations.
-fn group_len(arena: &Arena, axioms: &[ExprId]) -> usize
+pub fn group_len(arena: &Arena, axioms: &[ExprId]) -> usize
     requires held { AreHeld arena.now.trees axioms.now }
     requires some { 0 < length axioms.now }
     ensures { IsGroup arena.now.trees axioms.now result }

@@ -3,6 +3,7 @@
 #![tactic(auto)]
 
 mod axiom;
+mod bounds;
 mod drawn;
 mod expression;
 mod graph;

@@ -5,7 +5,7 @@ ghost use Rattle.std.specs.List.{AllByRecursion};
 ghost use Rattle.owl_arena.specs.Held.{AreHeld, tree_at};
 ghost use Rattle.rdf_meaning.specs.declared.row.Site.TheVariants as sites;
 ghost use Rattle.rdf_meaning.specs.Rows.{axiom_rows};
-ghost use Rattle.rdf_mapping.specs.Drawing.{by_kids, by_triple, form_of, is_pair, loop_by};
+ghost use Rattle.rdf_mapping.specs.Drawing.{by_kids, by_triple, form_of, loop_by};
 ghost use Rattle.rdf_mapping.specs.Drawing.{placed, row_for, stated, stated_by, statement_of};
 ghost use Rattle.rdf_forward.specs.AxiomWalks.{WritesStatement, by_two, predicate_iri, sets_at};
 ghost use Rattle.rdf_mapping.specs.Arenas.{kids_at, tags_at};
@@ -15,6 +15,7 @@ use crate::writer::Writer;
 use owl_arena::{Arena, ExprId};
 use owl_characters::NoMemory;
 use owl_tree::Tag;
+use rdf_counts::is_pair;
 use rdf_graph::Term;
 use rdf_mapping::{row_for, type_iri, word_iri};
 use rdf_meaning::{Part, Place, Row, Site, Word, axiom_rows};
@@ -27,22 +28,6 @@ pub enum Predicate {
     Type,
     /// The IRI of a word.
     Word(Word),
-}
-
-/// Whether the axiom is of a set of which two members make a triple.
-#[tactic(auto, unfolding(rdf_mapping::specs::Drawing::is_pair))]
-fn is_pair(tag: Tag) -> bool
-    ensures { result ≡ is_pair tag }
-{
-    tag == Tag::EquivalentClasses
-        || tag == Tag::DisjointClasses
-        || tag == Tag::EquivalentObjectProperties
-        || tag == Tag::DisjointObjectProperties
-        || tag == Tag::InverseObjectProperties
-        || tag == Tag::EquivalentDataProperties
-        || tag == Tag::DisjointDataProperties
-        || tag == Tag::SameIndividual
-        || tag == Tag::DifferentIndividuals
 }
 
 impl Writer {

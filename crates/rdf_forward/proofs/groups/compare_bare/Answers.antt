@@ -1,5 +1,5 @@
+use Rattle.rdf_counts.specs.ArenaLaws.{first_and}
 use Rattle.rdf_forward.proofs.Bare.{bare_parts}
-use Rattle.rdf_forward.proofs.Taking.{first_and}
 use Rattle.rdf_forward.proofs.groups.compare_bare.Goals as goal
 
 pub returns : goal.returns

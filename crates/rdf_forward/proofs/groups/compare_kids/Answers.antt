@@ -1,6 +1,6 @@
 use Rattle.std.proofs.Common.{sym, ◌∙◌, ◌<◌, length, rules}
+use Rattle.rdf_counts.specs.ArenaLaws.{none_left}
 use Rattle.rdf_forward.proofs.Bare.{fewer_kids}
-use Rattle.rdf_forward.proofs.Taking.{none_left}
 use Rattle.rdf_forward.proofs.groups.compare_kids.Goals as goal
 
 pub returns-else-is_empty : goal.returns-else-is_empty

@@ -3,8 +3,8 @@ use Rattle.std.specs.List.{AllByRecursion}
 use Rattle.std.proofs.lemmas.Result.{on_ok_weaker}
 use Rattle.owl_arena.specs.HeldLaws.{below_later}
 use Rattle.blank_labels.specs.LabelNumbers.{Counts}
-use Rattle.rdf_forward.proofs.Taking.{first_and, none_left}
-use Rattle.rdf_forward.proofs.Counting.{CountsOn, above_all, above_kids, above_rest, counts_end, counts_next, kids_counted}
+use Rattle.rdf_counts.specs.ArenaLaws.{above_all, above_kids, above_rest, first_and, none_left}
+use Rattle.rdf_forward.proofs.Counting.{CountsOn, counts_end, counts_next, kids_counted}
 use Rattle.rdf_forward.proofs.labels.+labels.Goals as goal
 
 pub count_tree-count_trees-requires : goal.count_tree-count_trees-requires

@@ -1,6 +1,7 @@
 use Rattle.std.proofs.Common.{◌*◌, ◌+◌, ◌≤◌, length}
 use Rattle.owl_arena.specs.Held.{AreHeld}
-use Rattle.rdf_forward.proofs.Counting.{CountsOn, above_all}
+use Rattle.rdf_counts.specs.ArenaLaws.{above_all}
+use Rattle.rdf_forward.proofs.Counting.{CountsOn}
 use Rattle.rdf_forward.proofs.labels.+labels.Given as goal
 
 abbrev pub decreases-count_tree : goal.decreases-count_tree

@@ -4,12 +4,13 @@ use Rattle.std.specs.List.{AllByRecursion}
 use Rattle.std.proofs.lemmas.Result.{on_ok_weaker}
 use Rattle.owl_arena.specs.HeldLaws.{below_later}
 use Rattle.rdf_mapping.specs.Arenas.{kids_at}
+use Rattle.rdf_counts.specs.ArenaLaws.{first_and, none_left, tag_told}
 use Rattle.rdf_forward.specs.Walks.{WritesArcs, WritesForm, names}
 use Rattle.rdf_mapping.specs.Drawing.{Placed, arcs_of, placed}
 use Rattle.rdf_mapping.specs.Forms.{blank}
 use Rattle.rdf_forward.proofs.Cells.{LeadsOn, leads_next, leads_end}
-use Rattle.rdf_forward.proofs.Nodes.{drawn_below, facet_at, no_row_at, row_at, tag_told}
-use Rattle.rdf_forward.proofs.Taking.{first_and, none_left, only_one, only_two}
+use Rattle.rdf_forward.proofs.Nodes.{drawn_below, facet_at, no_row_at, row_at}
+use Rattle.rdf_forward.proofs.Taking.{only_one, only_two}
 use Rattle.rdf_forward.proofs.Writing.{arcs_both, cell_written, ended, facet_written, goes_anyway, goes_if_more, joined_lists, listed_one, listed_other, below_two, made_written, node_alone, part_written, twice_written, writes_no_arcs}
 use Rattle.rdf_forward.proofs.writer.Writer.+expression.Goals as goal
 use Rattle.rdf_forward.proofs.writer.Writer.+expression.Goals.{write_cells-then-goes_on, write_cells-else-goes_on}

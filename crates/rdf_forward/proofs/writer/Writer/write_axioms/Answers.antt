@@ -1,7 +1,7 @@
 use Rattle.std.proofs.lemmas.Result.{on_ok_weaker}
+use Rattle.rdf_counts.specs.ArenaLaws.{first_and, statement_at}
 use Rattle.rdf_forward.specs.AxiomWalks.{sets_at}
-use Rattle.rdf_forward.proofs.Placing.{as_said, statement_at}
-use Rattle.rdf_forward.proofs.Taking.{first_and}
+use Rattle.rdf_forward.proofs.Placing.{as_said}
 use Rattle.rdf_forward.proofs.writer.Writer.write_axioms.Goals as goal
 
 pub returns-in-len1-up : goal.returns-in-len1-up

@@ -1,8 +1,8 @@
 use Rattle.std.proofs.Common.{ℕ, ◌<◌, length, List, subst}
 use Rattle.std.specs.List.{AllByRecursion}
 use Rattle.rdf_mapping.specs.Forms.{link}
+use Rattle.rdf_counts.specs.ArenaLaws.{first_and, none_left}
 use Rattle.rdf_forward.proofs.Axioms.{SetsOn, sets_end, sets_next}
-use Rattle.rdf_forward.proofs.Taking.{first_and, none_left}
 use Rattle.rdf_forward.proofs.writer.Writer.write_sets.Goals as goal
 
 pub loop-left-preserved : goal.loop-left-preserved
