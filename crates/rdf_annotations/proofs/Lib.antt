@@ -4,3 +4,5 @@ mod Placing
 mod Reifying
 mod Saying
 mod Setting
+mod Naming
+mod Ahead

@@ -17,19 +17,12 @@ use Rattle.rdf_graph.specs.declared.triple.Triple.{Triple}
 use Rattle.rdf_meaning.specs.declared.role.Role.TheVariants as role
 use Rattle.rdf_meaning.specs.Nodes.{is_blank, is_role, nodes_of, role_of, subjects_of}
 use Rattle.rdf_meaning.specs.Statements.{noters}
-use Rattle.rdf_roles.specs.Tables.{RoleTable, blank_nodes, labels_in, with_role}
+use Rattle.rdf_roles.specs.Tables.{RoleTable, blank_nodes, labels_in}
 use Rattle.rdf_annotations.specs.AnnotationLaws.{filter_twice}
 use Rattle.rdf_annotations.specs.Noters.{AnnotatesAt, AreNoters, AreNotersUpTo, AreNumbersOf, is_noter, numbers_at, numbers_of, shown, term_at, with_number}
 
 abbrev blanks : List (List ℕ) → List Term
 blanks = map (λ label. Blank label)
-
-keys_with_role : (g : List Triple) (all : List (List ℕ)) → keys_of (map (with_role g) all) ≡ all
-keys_with_role g [] = refl
-keys_with_role g (label ∷ all) = ap (λ more. label ∷ more) (keys_with_role g all)
-
-pub keys_are : (g : List Triple) (roles : RoleTable) → roles.nodes ≡ map (with_role g) (blank_nodes g) → keys_of roles.nodes ≡ blank_nodes g
-keys_are g roles is = ap keys_of is ∙ keys_with_role g (blank_nodes g)
 
 -- a test of nodes, and one of blank nodes alone
 of_blanks : (p q : Term → Bool) (xs : List Term) → filter (λ x. (is_blank x && q x) && p x) xs ≡ filter (λ x. q x && p x) (blanks (labels_in xs))

@@ -1,13 +1,11 @@
 -- The sets of annotations of the nodes that were passed.
 use Rattle.std.specs.Prelude.{◌≡◌, ◌<◌, ℕ, zero, suc, List, [], ◌∷◌, ◌++◌, Contains, Option, Some, length, slice_get, slice_set}
-use Rattle.std.specs.List.{range_with_len}
 use Rattle.std.specs.Map.{keys_of}
 use Rattle.std.proofs.Common.{arith, inl, inr, refl, sym, ap, ◌∙◌, subst}
 use Rattle.std.proofs.lemmas.Bool.Decides.{eqb_tells}
 use Rattle.std.proofs.lemmas.List.{length-map, length-set}
-use Rattle.std.proofs.lemmas.List.FromFn.{get_or-range_with_len, length-range_with_len}
 use Rattle.std.proofs.lemmas.List.Elements.{Contains-append_cases}
-use Rattle.std.proofs.lemmas.List.Sorted.{Contains-permutation, IsPermutation-sym}
+use Rattle.std.proofs.lemmas.List.Sorted.{Contains-permutation}
 use Rattle.std.proofs.lemmas.Option.{same_Some, slice_get_within}
 use Rattle.directed_graphs.specs.CycleLaws.{in_range}
 use Rattle.owl_kind.specs.Kinds.{Entity}
@@ -77,15 +75,3 @@ module _ {N : Type 0} (Stands : Tree → N → Type 0) (g : List Triple) (k : Li
               h.have number (subst (λ ns. Contains ns number) (sym all) (Contains-permutation _ roles.order number is.is_order.all (in_range (length is.edges) number (subst (λ n. number < n) as_many inside)))) label at note;
         };
       }
-
-from_range : (count number : ℕ) → Contains (range_with_len 0 count) number → number < count
-from_range count number m =
-    let within : m.0 < count = subst (λ n. m.0 < n) (length-range_with_len 0 count) m.1 in
-    subst (λ n. n < count) (omega (arith, sym (get_or-range_with_len 0 count m.0 number within) ∙ m.2)) within
-
--- a number of the order is that of a node
-pub is_of_node : (g : List Triple) (roles : RoleTable) → IsTableOf g roles → (number : ℕ) → Contains roles.order number → number < length roles.nodes
-is_of_node g roles table number m =
-    let is = table.order in
-    let as_many : length is.edges ≡ length roles.nodes = is.are.each ∙ sym (ap length table.nodes ∙ length-map (blank_nodes g) (with_role g)) in
-    subst (λ n. number < n) as_many (from_range (length is.edges) number (Contains-permutation roles.order _ number (IsPermutation-sym _ roles.order is.is_order.all) m))

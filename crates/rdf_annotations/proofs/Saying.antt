@@ -130,8 +130,8 @@ module _ {N : Type 0} (g : List Triple) (k : List Entity) (header : Term) where
       }
 
   -- an annotation that is too large is one that the graph says
-  pub annotation_fault : (Stands : Tree → N → Type 0) (t : Triple) (said : Said N) (h : IsSaid Stands g k t said) (s : Tree) → Contains h.variants.sets s →
-      Contains g t → IsTrue (is_annotation_triple g k header t) → (fault : TreeFault) →
+  pub annotation_fault : {H : Type 0} (Stands : Tree → N → Type 0) (t : Triple) (said : Said N) (h : IsSaid Stands g k t said) (s : Tree) → Contains h.variants.sets s →
+      Contains g t → IsTrue (is_annotation_triple g k header t) → (fault : TreeFault H) →
       IsTreeFault (node tag.Annotation (kids_of (s ∷ h.property.tree ∷ h.value.tree ∷ []))) fault → IsFaultOfSome (IsNotedTree g k header) fault
   annotation_fault Stands t said h s m inside is fault f =
       let tree = node tag.Annotation (kids_of (s ∷ h.property.tree ∷ h.value.tree ∷ [])) in
@@ -252,8 +252,8 @@ module _ {N : Type 0} (g : List Triple) (k : List Entity) (Old Now : Tree → N 
         (λ s stands. held s _ _ (stands, (h.adds.kept _ _ h.is.property.stands, (h.adds.kept _ _ h.is.value.stands, tt)))) kept;
   }
 
-  pub next_fault : (header : Term) (rest old now behind : List N) (variant : N) → IsHolding Old Now g k t said rest old now → rest ≡ variant ∷ behind →
-      Contains g t → IsTrue (is_annotation_triple g k header t) → (fault : TreeFault) →
+  pub next_fault : {H : Type 0} (header : Term) (rest old now behind : List N) (variant : N) → IsHolding Old Now g k t said rest old now → rest ≡ variant ∷ behind →
+      Contains g t → IsTrue (is_annotation_triple g k header t) → (fault : TreeFault H) →
       ((s p v : Tree) → StandFor Now (s ∷ p ∷ v ∷ []) (variant ∷ said.property ∷ said.value ∷ []) → IsTreeFault (node tag.Annotation (kids_of (s ∷ p ∷ v ∷ []))) fault) →
       IsFaultOfSome (IsNotedTree g k header) fault
   next_fault header rest old now behind variant h e inside is fault told =

@@ -1,11 +1,13 @@
 -- The sets of annotations of nodes, by their numbers.
-use Rattle.std.specs.Prelude.{◌≡◌, IfErr, IfOk, IsTrue, Result, ℕ, zero, suc, List, [], ◌∷◌, ◌++◌, Option, None, Some, map, option_map, slice_get, slice_set}
+use Rattle.std.specs.Prelude.{◌≡◌, IfErr, IfOk, IsTrue, Result, ℕ, zero, suc, List, [], ◌∷◌, ◌++◌, Contains, Option, None, Some, map, option_map, slice_get, slice_set}
+use Rattle.std.specs.List.{AllByRecursion}
 use Rattle.std.specs.Map.{keys_of}
 use Rattle.std.proofs.Common.{append-nil, append_assoc, inl, inr, refl, sym, ap, ◌∙◌, subst}
 use Rattle.std.proofs.lemmas.Option.{same_Some}
 use Rattle.std.specs.declared.result.Result.TheVariants.{Ok, Err}
 use Rattle.std.proofs.lemmas.Bool.Decides.{eqb_tells}
 use Rattle.owl_kind.specs.Kinds.{Entity}
+use Rattle.owl_list.specs.AscendingLaws.{in_head, in_tail}
 use Rattle.owl_tree.specs.Trees.{Tree}
 use Rattle.rdf_graph.specs.declared.term.Term.{Term}
 use Rattle.rdf_graph.specs.declared.term.Term.TheVariants.{Blank}
@@ -53,6 +55,18 @@ begin_with roles (x ∷ xs) n ns h =
 no_terms : (roles : RoleTable) (terms : List Term) → AreNumbersOf roles terms [] → terms ≡ []
 no_terms roles [] h = refl
 no_terms roles (x ∷ xs) h = cc
+
+-- what holds of the numbers of all terms holds of the numbers of these
+pub numbers_have : (roles : RoleTable) (P : ℕ → Type 0) (terms : List Term) (numbers : List ℕ) → AreNumbersOf roles terms numbers →
+    ((number : ℕ) (label : List ℕ) → slice_get (keys_of roles.nodes) number ≡ Some label → Contains terms (Blank label) → P number) → AllByRecursion P numbers
+numbers_have roles P terms [] named each = tt
+numbers_have roles P terms (n ∷ ns) named each =
+    let b = begin_with roles terms n ns named in
+    let l = is_label_at roles n b.first b.at in
+    let inside = λ (x : Term) (m : Contains (b.first ∷ b.rest) x). subst (λ (xs : List Term). Contains xs x) (sym b.split) m in (
+      each n l.label l.at (inside (Blank l.label) (subst (Contains (b.first ∷ b.rest)) l.is (in_head b.first b.rest))),
+      numbers_have roles P b.rest ns b.others (λ number label at m. each number label at (inside (Blank label) (in_tail b.first b.rest (Blank label) m))),
+    )
 
 module _ {N : Type 0} (Stands : Tree → N → Type 0) (g : List Triple) (k : List Entity) (roles : RoleTable) where
   no_sets_of : AreSetsOf Stands g k [] []
@@ -120,7 +134,7 @@ module _ {N : Type 0} (New : Tree → N → Type 0) (g : List Triple) (k : List 
   set_held (Ok n) h = record { trees = ts; annotates = annotates; stands = h }
   set_held (Err e) h = tt
 
-  pub set_refused : (r : Result N TreeFault) → IfErr r (IsTreeFault (notes ts)) → IfErr r (IsFaultOfSome (IsNotedTree g k header))
+  pub set_refused : {H : Type 0} (r : Result N (TreeFault H)) → IfErr r (IsTreeFault (notes ts)) → IfErr r (IsFaultOfSome (IsNotedTree g k header))
   set_refused (Ok n) h = tt
   set_refused (Err fault) h = fault_of_some (IsNotedTree g k header) (notes ts) (a_set x ts is annotates) fault h
 

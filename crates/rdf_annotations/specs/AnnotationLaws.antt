@@ -2,7 +2,7 @@
 use Rattle.std.specs.Prelude.{◌≡◌, ◌⊎◌, ℕ, Bool, true, false, not, ◌&&◌, ◌||◌, cond, nat_le, IsTrue, List, [], ◌∷◌, Contains, Option, length}
 use Rattle.std.specs.List.{filter, list_any}
 use Rattle.std.proofs.Common.{arith, inl, inr, refl, sym, ap, ◌∙◌, subst}
-use Rattle.std.proofs.lemmas.Bool.{cases_Bool, le-leb}
+use Rattle.std.proofs.lemmas.Bool.{and_parts, cases_Bool, le-leb}
 use Rattle.owl_kind.specs.declared.kind.Kind.TheVariants as kind
 use Rattle.owl_kind.specs.Kinds.{Entity}
 use Rattle.owl_list.specs.AscendingLaws.{all_in, in_cases, in_head, in_none, in_tail}
@@ -16,9 +16,9 @@ use Rattle.rdf_meaning.specs.declared.role.Role.TheVariants as role
 use Rattle.rdf_meaning.specs.declared.word.Word.TheVariants as word
 use Rattle.rdf_meaning.specs.Kinds.{has_kind}
 use Rattle.owl_list.specs.FilterLaws.{from_filter, in_filter}
-use Rattle.rdf_meaning.specs.Nodes.{carries, carries_some, first_role, is_mixed, is_same, is_structural, marked_roles, marks_role, of_subject, role_of, roles_of, subjects_of}
-use Rattle.rdf_meaning.specs.NodeLaws.{from_subject, marked_subject, same_term}
-use Rattle.rdf_meaning.specs.Statements.{header_notes, header_words, headers, is_annotation_triple, is_axiom_predicate, notes_of}
+use Rattle.rdf_meaning.specs.Nodes.{carries, carries_some, first_role, is_mixed, is_same, is_structural, marked_roles, marks_role, nodes_of, of_subject, role_of, roles_of, subjects_of}
+use Rattle.rdf_meaning.specs.NodeLaws.{from_subject, marked_subject, nodes_are, same_term}
+use Rattle.rdf_meaning.specs.Statements.{header_notes, header_words, headers, is_annotation_triple, is_axiom_predicate, noters, notes_of, reifies}
 use Rattle.rdf_roles.specs.Refusals.{AreNodesFormed, HaveOneRole}
 use Rattle.rdf_roles.specs.NodeLaws.{blank_nodes_are}
 use Rattle.rdf_roles.specs.Tables.{RoleTable, blank_nodes}
@@ -26,7 +26,7 @@ use Rattle.tree_stores.specs.declared.fault.TreeFault.{TreeFault}
 use Rattle.tree_stores.specs.declared.fault.TreeFault.TheVariants.{TooDeep, TooHeavy, Memory}
 use Rattle.tree_stores.specs.Stores.{IsTreeFault, Keeps}
 use Rattle.tree_stores.specs.StoreLaws.{stand_still}
-use Rattle.rdf_annotations.specs.Annotations.{AreAnnotations, AreSets, AreSomeSets, AreVariants, IsFaultOfSome, IsSetOf, annotations_at, is_noted}
+use Rattle.rdf_annotations.specs.Annotations.{AreAnnotations, AreSets, AreSomeSets, AreVariants, HaveSets, HaveSetsOf, IsFaultOfSome, IsSetOf, annotations_at, is_noted}
 
 module _ {X : Type 0} where
   kept_at : (test : X → Bool) (b : Bool) (x : X) (xs : List X) → test x ≡ b → filter test (x ∷ xs) ≡ cond b (x ∷ filter test xs) (filter test xs)
@@ -152,13 +152,23 @@ module _ {N : Type 0} (Old New : Tree → N → Type 0) (kept : Keeps Old New) (
   pub annotations_kept : (header x : Term) (ns : List N) → AreAnnotations Old g k header x ns → AreAnnotations New g k header x ns
   annotations_kept header x ns h = record { trees = h.trees; annotates = h.annotates; stand = stand_still Old New kept h.trees ns h.stand }
 
+-- a node by which a triple is annotated is a reification of it
+pub noter_is : (g : List Triple) (t : Triple) (s : Term) → Contains (noters g t) s → (role_of g s ≡ role.Note) × IsTrue (reifies g s t)
+unfolding noters
+noter_is g t s m =
+    let kept = from_filter _ (nodes_of g role.Note) s m in
+    ((nodes_are g role.Note s (λ e. let never : role.Note ≡ role.Individual = e in cc)).0 kept.inside, (and_parts (reifies g s t) _ kept.passes).0)
+
+pub all_have_sets : {N : Type 0} (g : List Triple) (roles : RoleTable) (of_nodes : List (Option N)) → HaveSets g roles of_nodes → (t : Triple) → HaveSetsOf g roles of_nodes t
+all_have_sets g roles of_nodes all t number label at m = all.each number label at (noter_is g t (Blank label) m).0
+
 -- what is wrong with some tree
-pub fault_of_some : (P : Tree → Type 0) (t : Tree) → P t → (fault : TreeFault) → IsTreeFault t fault → IsFaultOfSome P fault
+pub fault_of_some : {H : Type 0} (P : Tree → Type 0) (t : Tree) → P t → (fault : TreeFault H) → IsTreeFault t fault → IsFaultOfSome P fault
 fault_of_some P t p TooDeep f = (t, p, f)
-fault_of_some P t p TooHeavy f = (t, p, f)
+fault_of_some P t p (TooHeavy _) f = (t, p, f)
 fault_of_some P t p Memory f = tt
 
-pub fault_of_more : (P Q : Tree → Type 0) → ((t : Tree) → P t → Q t) → (fault : TreeFault) → IsFaultOfSome P fault → IsFaultOfSome Q fault
+pub fault_of_more : {H : Type 0} (P Q : Tree → Type 0) → ((t : Tree) → P t → Q t) → (fault : TreeFault H) → IsFaultOfSome P fault → IsFaultOfSome Q fault
 fault_of_more P Q more TooDeep f = (f.0, more f.0 f.1, f.2)
-fault_of_more P Q more TooHeavy f = (f.0, more f.0 f.1, f.2)
+fault_of_more P Q more (TooHeavy _) f = (f.0, more f.0 f.1, f.2)
 fault_of_more P Q more Memory f = tt

@@ -10,9 +10,9 @@ use Rattle.rdf_graph.specs.declared.triple.Triple.{Triple}
 use Rattle.rdf_meaning.specs.declared.role.Role.{Role}
 use Rattle.rdf_meaning.specs.declared.role.Role.TheVariants as role
 use Rattle.rdf_meaning.specs.Nodes.{is_role, of_subject, role_of}
-use Rattle.rdf_meaning.specs.Statements.{Annotates, IsNoteOf, Variants, is_annotation_triple, notes, notes_of}
+use Rattle.rdf_meaning.specs.Statements.{Annotates, IsNoteOf, Variants, is_annotation_triple, noters, notes, notes_of}
 use Rattle.rdf_roles.specs.Tables.{RoleTable}
-use Rattle.tree_stores.specs.Stores.{IsTreeFault, StandFor}
+use Rattle.tree_stores.specs.Stores.{IsDeep, IsHeavy, StandFor}
 use Rattle.tree_stores.specs.declared.fault.TreeFault.{TreeFault}
 use Rattle.tree_stores.specs.declared.fault.TreeFault.TheVariants.{TooDeep, TooHeavy, Memory}
 
@@ -32,9 +32,9 @@ pub data IsNotedTree (g : List Triple) (k : List Entity) (header : Term) : Tree 
       IsNotedTree g k header (notes ts)
 
 -- some tree of these is too deep or too heavy; want of memory is told of any
-abbrev pub IsFaultOfSome : (Tree → Type 0) → TreeFault → Type 0
-IsFaultOfSome P TooDeep = (t : Tree) × P t × IsTreeFault t TooDeep
-IsFaultOfSome P TooHeavy = (t : Tree) × P t × IsTreeFault t TooHeavy
+abbrev pub IsFaultOfSome : {H : Type 0} → (Tree → Type 0) → TreeFault H → Type 0
+IsFaultOfSome P TooDeep = (t : Tree) × P t × IsDeep t
+IsFaultOfSome P (TooHeavy h) = (t : Tree) × P t × IsHeavy t
 IsFaultOfSome P Memory = Unit {0}
 
 -- the numbers stand for the sets of annotations of the triple
@@ -61,11 +61,30 @@ pub record AreSomeSets {N : Type 0} (Stands : Tree → N → Type 0) (g : List T
       IsSetOf Stands g k (Blank label) n
   pub empty_set : Stands (notes []) empty
 
+-- a set stands at the number
+abbrev pub HasSet : {N : Type 0} → List (Option N) → ℕ → Type 0
+HasSet {N} of_nodes number = (n : N) × (slice_get of_nodes number ≡ Some (Some n))
+
 -- the node with the number has its set, where it is a reification
 abbrev pub HasItsSet : {N : Type 0} → List Triple → RoleTable → List (Option N) → ℕ → Type 0
-HasItsSet {N} g roles of_nodes number =
+HasItsSet g roles of_nodes number =
+    (label : List ℕ) → slice_get (keys_of roles.nodes) number ≡ Some label → role_of g (Blank label) ≡ role.Note → HasSet of_nodes number
+
+-- each node by which the triple is annotated has its set
+abbrev pub HaveSetsOf : {N : Type 0} → List Triple → RoleTable → List (Option N) → Triple → Type 0
+HaveSetsOf g roles of_nodes t =
+    (number : ℕ) (label : List ℕ) → slice_get (keys_of roles.nodes) number ≡ Some label → Contains (noters g t) (Blank label) → HasSet of_nodes number
+
+-- so has each by which an annotation of the term is
+abbrev pub HaveSetsAt : {N : Type 0} → List Triple → List Entity → Term → RoleTable → List (Option N) → Term → Type 0
+HaveSetsAt g k header roles of_nodes x =
+    (t : Triple) → Contains g t → t.subject ≡ x → IsTrue (is_annotation_triple g k header t) → HaveSetsOf g roles of_nodes t
+
+-- so it is of the node with the number, where that is a reification
+abbrev pub HaveSetsBelow : {N : Type 0} → List Triple → List Entity → Term → RoleTable → List (Option N) → ℕ → Type 0
+HaveSetsBelow g k header roles of_nodes number =
     (label : List ℕ) → slice_get (keys_of roles.nodes) number ≡ Some label → role_of g (Blank label) ≡ role.Note →
-    (n : N) × (slice_get of_nodes number ≡ Some (Some n))
+    HaveSetsAt g k header roles of_nodes (Blank label)
 
 -- so has each node
 pub record HaveSets {N : Type 0} (g : List Triple) (roles : RoleTable) (of_nodes : List (Option N)) : Type 0 where

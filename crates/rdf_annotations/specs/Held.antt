@@ -1,5 +1,5 @@
 -- What stands in a store while annotations are put there.
-use Rattle.std.specs.Prelude.{◌≡◌, List, ◌++◌, Some}
+use Rattle.std.specs.Prelude.{◌≡◌, IsTrue, List, ◌++◌, Contains, Some}
 use Rattle.owl_kind.specs.Kinds.{Entity}
 use Rattle.owl_tree.specs.declared.row.Sort.{Sort}
 use Rattle.owl_tree.specs.declared.row.Sort.TheVariants as sort
@@ -8,7 +8,8 @@ use Rattle.rdf_graph.specs.declared.term.Term.{Term}
 use Rattle.rdf_graph.specs.declared.term.Term.TheVariants.{Iri}
 use Rattle.rdf_graph.specs.declared.triple.Triple.{Triple}
 use Rattle.rdf_meaning.specs.Denotation.{simple}
-use Rattle.rdf_meaning.specs.Statements.{Annotates, AreSets as AreSetsIn}
+use Rattle.rdf_meaning.specs.Statements.{Annotates, AreSets as AreSetsIn, is_annotation_triple}
+use Rattle.rdf_faults.specs.Asked.{IsTypedNote}
 use Rattle.rdf_scans.specs.Sorts.{IsReading}
 use Rattle.tree_stores.specs.Stores.{StandFor}
 use Rattle.rdf_annotations.specs.declared.annotated.Annotated.{Annotated}
@@ -17,10 +18,15 @@ use Rattle.rdf_annotations.specs.declared.leaves.Leaf.{Leaf}
 use Rattle.rdf_annotations.specs.Annotations.{AreVariants}
 use Rattle.rdf_annotations.specs.Noters.{AreNoters}
 
--- the graph is read, and the numbers are those of the nodes by which its triples are annotated
+-- each annotation names what it may
+abbrev pub AreTypedNotes : List Triple → List Entity → Term → Type 0
+AreTypedNotes g k header = (t : Triple) → Contains g t → IsTrue (is_annotation_triple g k header t) → IsTypedNote g k t
+
+-- The graph is read, the numbers are those of the nodes by which its triples are annotated, and its annotations name what they may.
 pub record IsAnnotated (annotated : Annotated) : Type 0 where
   pub reading : IsReading annotated.reading
   pub noters : AreNoters annotated.reading.graph.now annotated.reading.roles.now annotated.noters.now
+  pub typed : AreTypedNotes annotated.reading.graph.now annotated.reading.kinds.now annotated.reading.header.now
 
 -- the term stands for the leaf where a tree of the sort stands
 abbrev pub IsLeafOf : List Triple → List Entity → Sort → Term → Leaf → Type 0

@@ -6,7 +6,8 @@ ghost use Rattle.owl_tree.specs.declared.tag.Tag.TheVariants as tag;
 ghost use Rattle.owl_tree.specs.Trees.{Tree, kids_of, node};
 ghost use Rattle.rdf_graph.specs.declared.triple.Triple.{Triple};
 ghost use Rattle.rdf_meaning.specs.Statements.{is_annotation_triple};
-ghost use Rattle.rdf_annotations.specs.Annotations.{AreAnnotations, AreSomeSets, IsFaultOfSome, IsNotedTree};
+ghost use Rattle.rdf_faults.specs.Asked.{IsTypedNote};
+ghost use Rattle.rdf_annotations.specs.Annotations.{AreAnnotations, AreSomeSets, HaveSetsAt, HaveSetsOf, IsFaultOfSome, IsNotedTree};
 ghost use Rattle.rdf_annotations.specs.Held.{AddsAnnotations, IsAnnotated, IsSaid};
 ghost use Rattle.tree_stores.specs.Stores.{AreStanding, IsTreeFault, Keeps, StandFor};
 
@@ -39,11 +40,14 @@ impl<'a> Annotated<'a> {
         store: &mut S,
         sets: &Sets<S::Number>,
         node: &Term,
-    ) -> Result<Vec<S::Number>, TreeFault>
+    ) -> Result<Vec<S::Number>, TreeFault<S::Heavy>>
         requires annotated { IsAnnotated self.now }
         requires sets { AreSomeSets (S.stands store.old) self.now.reading.graph.now
             self.now.reading.kinds.now self.now.reading.roles.now sets.now.of_nodes.items
             sets.now.empty }
+        requires known { HaveSetsAt self.now.reading.graph.now self.now.reading.kinds.now
+            self.now.reading.header.now self.now.reading.roles.now sets.now.of_nodes.items
+            node.now }
         ensures annotations { IfOk result (λ ns. AreAnnotations (S.stands store.new)
             self.now.reading.graph.now self.now.reading.kinds.now self.now.reading.header.now
             node.now ns.items) }
@@ -66,11 +70,16 @@ impl<'a> Annotated<'a> {
         sets: &Sets<S::Number>,
         place: usize,
         annotations: &mut Vec<S::Number>,
-    ) -> Result<(), TreeFault>
+    ) -> Result<(), TreeFault<S::Heavy>>
         requires annotated { IsAnnotated self.now }
         requires sets { AreSomeSets (S.stands store.old) self.now.reading.graph.now
             self.now.reading.kinds.now self.now.reading.roles.now sets.now.of_nodes.items
             sets.now.empty }
+        requires known { (t : Triple) → slice_get self.now.reading.graph.now place ≡ Some t
+            → IsTrue (is_annotation_triple self.now.reading.graph.now self.now.reading.kinds.now
+            self.now.reading.header.now t) →
+            HaveSetsOf self.now.reading.graph.now self.now.reading.roles.now
+            sets.now.of_nodes.items t }
         requires place { place < length self.now.reading.graph.now }
         ensures added { (t : Triple) → slice_get self.now.reading.graph.now place ≡ Some t →
             OnOk result (AddsAnnotations (S.stands store.old) (S.stands store.new)
@@ -100,6 +109,11 @@ impl<'a> Annotated<'a> {
         requires sets { AreSomeSets (S.stands store.old) self.now.reading.graph.now
             self.now.reading.kinds.now self.now.reading.roles.now sets.now.of_nodes.items
             sets.now.empty }
+        requires known { (t : Triple) → slice_get self.now.reading.graph.now place ≡ Some t →
+            HaveSetsOf self.now.reading.graph.now self.now.reading.roles.now
+            sets.now.of_nodes.items t }
+        requires typed { (t : Triple) → slice_get self.now.reading.graph.now place ≡ Some t →
+            IsTypedNote self.now.reading.graph.now self.now.reading.kinds.now t }
         requires place { place < length self.now.reading.graph.now }
         ensures said { (t : Triple) → slice_get self.now.reading.graph.now place ≡ Some t →
             IfOk result (IsSaid (S.stands store.new) self.now.reading.graph.now
@@ -124,7 +138,7 @@ impl<'a> Annotated<'a> {
         _triple: &Triple,
         said: &Said<S::Number>,
         annotations: &mut Vec<S::Number>,
-    ) -> Result<(), TreeFault>
+    ) -> Result<(), TreeFault<S::Heavy>>
         requires said { IsSaid (S.stands store.old) self.now.reading.graph.now
             self.now.reading.kinds.now _triple.now said.now }
         requires annotation { Contains self.now.reading.graph.now _triple.now
@@ -160,7 +174,7 @@ fn hold_annotation<S: TreeStore>(
     variant: S::Number,
     property: S::Number,
     value: S::Number,
-) -> Result<S::Number, TreeFault>
+) -> Result<S::Number, TreeFault<S::Heavy>>
     requires { AreStanding (S.stands store.old) (variant ∷ property ∷ value ∷ []) }
     ensures held { (s p v : Tree)
         → StandFor (S.stands store.old) (s ∷ p ∷ v ∷ []) (variant ∷ property ∷ value ∷ []) →

@@ -3,7 +3,7 @@
 ghost use Rattle.std.specs.Prelude.{◌<◌, ◌++◌, ◌∷◌, [], IfErr, IfOk, IsTrue, List, OnOk, ℕ, length};
 ghost use Rattle.rdf_meaning.specs.Nodes.{role_of};
 ghost use Rattle.rdf_meaning.specs.Statements.{notes};
-ghost use Rattle.rdf_annotations.specs.Annotations.{AreSets, AreSetsSoFar, AreSomeSets, IsFaultOfSome, IsNotedTree, IsSetOf, is_noted};
+ghost use Rattle.rdf_annotations.specs.Annotations.{AreSets, AreSetsSoFar, AreSomeSets, HaveSetsAt, HaveSetsBelow, IsFaultOfSome, IsNotedTree, IsSetOf, is_noted};
 ghost use Rattle.rdf_annotations.specs.Held.{IsAnnotated};
 ghost use Rattle.tree_stores.specs.Stores.{Keeps};
 
@@ -26,11 +26,14 @@ impl<'a> Annotated<'a> {
         store: &mut S,
         sets: &Sets<S::Number>,
         node: &Term,
-    ) -> Result<S::Number, TreeFault>
+    ) -> Result<S::Number, TreeFault<S::Heavy>>
         requires annotated { IsAnnotated self.now }
         requires sets { AreSomeSets (S.stands store.old) self.now.reading.graph.now
             self.now.reading.kinds.now self.now.reading.roles.now sets.now.of_nodes.items
             sets.now.empty }
+        requires known { HaveSetsAt self.now.reading.graph.now self.now.reading.kinds.now
+            self.now.reading.header.now self.now.reading.roles.now sets.now.of_nodes.items
+            node.now }
         requires noted { IsTrue (is_noted (role_of self.now.reading.graph.now node.now)) }
         ensures set { IfOk result (IsSetOf (S.stands store.new) self.now.reading.graph.now
             self.now.reading.kinds.now node.now) }
@@ -45,7 +48,10 @@ impl<'a> Annotated<'a> {
     /// The numbers of the sets of annotations of all reifications.
     ///
     /// `TooDeep` and `TooHeavy` where one of these, or an annotation in them, is.
-    pub fn hold_sets<S: TreeStore>(&self, store: &mut S) -> Result<Sets<S::Number>, TreeFault>
+    pub fn hold_sets<S: TreeStore>(
+        &self,
+        store: &mut S,
+    ) -> Result<Sets<S::Number>, TreeFault<S::Heavy>>
         requires { IsAnnotated self.now }
         ensures sets { IfOk result (λ sets. AreSets (S.stands store.new)
             self.now.reading.graph.now self.now.reading.kinds.now self.now.reading.roles.now
@@ -77,7 +83,7 @@ impl<'a> Annotated<'a> {
         &self,
         store: &mut S,
         sets: &mut Sets<S::Number>,
-    ) -> Result<(), TreeFault>
+    ) -> Result<(), TreeFault<S::Heavy>>
         requires annotated { IsAnnotated self.now }
         requires sets { AreSetsSoFar (S.stands store.old) self.now.reading.graph.now
             self.now.reading.kinds.now self.now.reading.roles.now [] sets.old.of_nodes.items
@@ -101,12 +107,15 @@ impl<'a> Annotated<'a> {
         store: &mut S,
         sets: &mut Sets<S::Number>,
         number: usize,
-    ) -> Result<(), TreeFault>
+    ) -> Result<(), TreeFault<S::Heavy>>
         requires annotated { IsAnnotated self.now }
         requires number { number < length self.now.reading.roles.now.nodes }
         requires sets { AreSetsSoFar (S.stands store.old) self.now.reading.graph.now
             self.now.reading.kinds.now self.now.reading.roles.now [] sets.old.of_nodes.items
             sets.old.empty }
+        requires known { HaveSetsBelow self.now.reading.graph.now self.now.reading.kinds.now
+            self.now.reading.header.now self.now.reading.roles.now sets.old.of_nodes.items
+            number }
         ensures sets { (passed : List ℕ) → AreSetsSoFar (S.stands store.old)
             self.now.reading.graph.now self.now.reading.kinds.now self.now.reading.roles.now
             passed sets.old.of_nodes.items sets.old.empty
@@ -137,6 +146,8 @@ fn hold_empty<S: TreeStore>(alloc: Global, store: &mut S) -> Result<S::Number, N
 {
     match store.hold_node(Tag::Notes, Vec::new(alloc)) {
         Ok(empty) => Ok(empty),
-        Err(_) => Err(NoMemory),
+        Err(TreeFault::TooDeep) => unreachable!(),
+        Err(TreeFault::TooHeavy(_)) => unreachable!(),
+        Err(TreeFault::Memory) => Err(NoMemory),
     }
 }

@@ -1,20 +1,17 @@
 //! The properties and values of annotations.
 
-ghost use Rattle.std.specs.Prelude.{◌≡◌, IfOk, Some};
+ghost use Rattle.std.specs.Prelude.{◌≡◌, IfOk, IsSome, Some};
 ghost use Rattle.owl_tree.specs.declared.row.Sort.TheVariants as sort;
 ghost use Rattle.owl_tree.specs.Trees.{leaf};
 ghost use Rattle.rdf_graph.specs.declared.term.Term.TheVariants as held;
 ghost use Rattle.rdf_meaning.specs.Denotation.{simple};
 ghost use Rattle.rdf_annotations.specs.Held.{IsHeldAs, IsLeafOf};
-ghost use Rattle.rdf_roles.specs.Tables.{IsTableOf};
 ghost use Rattle.tree_stores.specs.Stores.{Keeps};
 
 use crate::annotated::Annotated;
 use owl_characters::NoMemory;
-use owl_kind::Kind;
 use owl_tree::{Atom, Tag};
 use rdf_graph::Term;
-use rdf_meaning::Role;
 use rdf_terms::Iri;
 use tree_stores::TreeStore;
 
@@ -26,14 +23,14 @@ struct Leaf {
 }
 
 impl<'a> Annotated<'a> {
-    /// The number of the annotation property with this name. An IRI that is none
-    /// does not occur.
+    /// The number of the annotation property with this name.
     pub(crate) fn hold_property<S: TreeStore>(
         &self,
         store: &mut S,
         iri: &Iri,
     ) -> Result<S::Number, NoMemory>
-        requires { IsTableOf self.now.reading.graph.now self.now.reading.roles.now }
+        requires { IsSome (simple self.now.reading.graph.now self.now.reading.kinds.now
+            sort.AnnotationProperty (held.Iri iri.now)) }
         ensures held { IfOk result (IsHeldAs (S.stands store.new) self.now.reading.graph.now
             self.now.reading.kinds.now sort.AnnotationProperty (held.Iri iri.now)) }
         ensures kept { Keeps (S.stands store.old) (S.stands store.new) }
@@ -42,14 +39,14 @@ impl<'a> Annotated<'a> {
         store.hold_leaf(tag, atom)
     }
 
-    /// The number of the value of an annotation. A blank node that is no
-    /// individual does not occur.
+    /// The number of the value of an annotation.
     pub(crate) fn hold_value<S: TreeStore>(
         &self,
         store: &mut S,
         term: &Term,
     ) -> Result<S::Number, NoMemory>
-        requires { IsTableOf self.now.reading.graph.now self.now.reading.roles.now }
+        requires { IsSome (simple self.now.reading.graph.now self.now.reading.kinds.now
+            sort.AnnotationValue term.now) }
         ensures held { IfOk result (IsHeldAs (S.stands store.new) self.now.reading.graph.now
             self.now.reading.kinds.now sort.AnnotationValue term.now) }
         ensures kept { Keeps (S.stands store.old) (S.stands store.new) }
@@ -59,26 +56,24 @@ impl<'a> Annotated<'a> {
     }
 
     /// The annotation property with this name.
-    #[tactic(auto, unfolding(rdf_meaning::specs::Denotation::simple))]
     fn property(&self, iri: &Iri) -> Result<Leaf, NoMemory>
+        requires { IsSome (simple self.now.reading.graph.now self.now.reading.kinds.now
+            sort.AnnotationProperty (held.Iri iri.now)) }
         ensures { IfOk result (IsLeafOf self.now.reading.graph.now self.now.reading.kinds.now
             sort.AnnotationProperty (held.Iri iri.now)) }
     {
-        if self.reading.kinds.has(Kind::AnnotationProperty, iri) {
-            let atom = Atom::Iri(iri.copy(self.alloc)?);
-            Ok(Leaf {
-                tag: Tag::AnnotationProperty,
-                atom,
-            })
-        } else {
-            Err(NoMemory)
-        }
+        let atom = Atom::Iri(iri.copy(self.alloc)?);
+        Ok(Leaf {
+            tag: Tag::AnnotationProperty,
+            atom,
+        })
     }
 
     /// The value of an annotation.
     #[tactic(auto, unfolding(rdf_meaning::specs::Denotation::simple))]
     fn value(&self, term: &Term) -> Result<Leaf, NoMemory>
-        requires { IsTableOf self.now.reading.graph.now self.now.reading.roles.now }
+        requires { IsSome (simple self.now.reading.graph.now self.now.reading.kinds.now
+            sort.AnnotationValue term.now) }
         ensures { IfOk result (IsLeafOf self.now.reading.graph.now self.now.reading.kinds.now
             sort.AnnotationValue term.now) }
     {
@@ -90,7 +85,7 @@ impl<'a> Annotated<'a> {
                     atom,
                 })
             }
-            Term::Blank(label) if self.reading.roles.role(label) == Role::Individual => {
+            Term::Blank(label) => {
                 let atom = Atom::Label(label.copy(self.alloc)?);
                 Ok(Leaf {
                     tag: Tag::Anonymous,
@@ -104,7 +99,6 @@ impl<'a> Annotated<'a> {
                     atom,
                 })
             }
-            Term::Blank(_) => Err(NoMemory),
         }
     }
 }

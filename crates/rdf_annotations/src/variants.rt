@@ -1,10 +1,11 @@
 //! The sets of annotations of a triple.
 
-ghost use Rattle.std.specs.Prelude.{◌≡◌, ◌∷◌, [], IfOk, List, Some, slice_get};
+ghost use Rattle.std.specs.Prelude.{◌≡◌, ◌∷◌, ◌<◌, [], IfOk, List, Some, length, slice_get};
+ghost use Rattle.std.specs.List.{AllByRecursion};
 ghost use Rattle.owl_tree.specs.Trees.{Tree};
 ghost use Rattle.rdf_graph.specs.declared.term.Term.{Term};
 ghost use Rattle.rdf_graph.specs.declared.triple.Triple.{Triple};
-ghost use Rattle.rdf_annotations.specs.Annotations.{AreSomeSets, AreVariants};
+ghost use Rattle.rdf_annotations.specs.Annotations.{AreSomeSets, AreVariants, HasSet, HaveSetsOf};
 ghost use Rattle.rdf_annotations.specs.Held.{AreSetsOf, IsAnnotated};
 ghost use Rattle.rdf_annotations.specs.Noters.{AreNumbersOf};
 
@@ -28,6 +29,10 @@ impl<'a> Annotated<'a> {
         requires sets { AreSomeSets (S.stands store.now) self.now.reading.graph.now
             self.now.reading.kinds.now self.now.reading.roles.now sets.now.of_nodes.items
             sets.now.empty }
+        requires known { (t : Triple) → slice_get self.now.reading.graph.now place ≡ Some t →
+            HaveSetsOf self.now.reading.graph.now self.now.reading.roles.now
+            sets.now.of_nodes.items t }
+        requires place { place < length self.now.reading.graph.now }
         ensures { (t : Triple) → slice_get self.now.reading.graph.now place ≡ Some t →
             IfOk result (λ ns. AreVariants (S.stands store.now) self.now.reading.graph.now
             self.now.reading.kinds.now t ns.items) }
@@ -40,17 +45,17 @@ impl<'a> Annotated<'a> {
         }
     }
 
-    /// The numbers of the sets of annotations of the nodes with these numbers. A
-    /// node without a set does not occur.
+    /// The numbers of the sets of annotations of the nodes with these numbers.
     fn sets_of<S: TreeStore>(
         &self,
         _store: &S,
         sets: &Sets<S::Number>,
         numbers: &[usize],
     ) -> Result<Vec<S::Number>, NoMemory>
-        requires { AreSomeSets (S.stands _store.now) self.now.reading.graph.now
+        requires sets { AreSomeSets (S.stands _store.now) self.now.reading.graph.now
             self.now.reading.kinds.now self.now.reading.roles.now sets.now.of_nodes.items
             sets.now.empty }
+        requires known { AllByRecursion (HasSet sets.now.of_nodes.items) numbers.now }
         ensures { (terms : List Term)
             → AreNumbersOf self.now.reading.roles.now terms numbers.now →
             IfOk result (λ ns. AreSetsOf (S.stands _store.now) self.now.reading.graph.now
@@ -59,7 +64,7 @@ impl<'a> Annotated<'a> {
         let mut found = Vec::new(self.alloc);
         let mut rest = numbers;
         while let Some((number, behind)) = rest.split_first() {
-            let set = set_at(sets, *number)?;
+            let set = set_at(sets, *number);
             found.push(set).map_err(AllocError::from)?;
             rest = behind;
         }
@@ -77,11 +82,12 @@ fn only<N: Copy>(alloc: Global, number: N) -> Result<Vec<N>, NoMemory>
 }
 
 /// The number of the set of annotations of the node with this number.
-fn set_at<N: Copy>(sets: &Sets<N>, number: usize) -> Result<N, NoMemory>
-    ensures { IfOk result (λ n. slice_get sets.now.of_nodes.items number ≡ Some (Some n)) }
+fn set_at<N: Copy>(sets: &Sets<N>, number: usize) -> N
+    requires { HasSet sets.now.of_nodes.items number }
+    ensures { slice_get sets.now.of_nodes.items number ≡ Some (Some result) }
 {
-    match sets.of_nodes.get(number) {
-        Some(Some(set)) => Ok(*set),
-        Some(None) | None => Err(NoMemory),
-    }
+    let Some(Some(set)) = sets.of_nodes.get(number) else {
+        unreachable!();
+    };
+    *set
 }

@@ -1,7 +1,6 @@
 -- The operands of a form stand for what is below its node.
 use Rattle.std.specs.Prelude.{◌≡◌, ℕ, true, List, [], ◌∷◌, ◌++◌, Contains, Option, Some, slice_get}
 use Rattle.std.specs.List.{AllByRecursion, list_all}
-use Rattle.std.specs.Map.{keys_of}
 use Rattle.std.proofs.Common.{inl, sym, ap, ◌∙◌, subst}
 use Rattle.std.proofs.lemmas.Bool.{and_parts}
 use Rattle.std.proofs.lemmas.List.Elements.{Contains-append_left}
@@ -29,7 +28,8 @@ use Rattle.rdf_faults.specs.DenotedLaws.{row_leads}
 use Rattle.rdf_faults.specs.RowPairLaws.{own_place_at, rows_have_own_parts}
 use Rattle.rdf_faults.specs.RowPairs.{are_own_at, has_own_parts, is_own_place}
 use Rattle.rdf_asked.specs.ListedLaws.{all_more}
-use Rattle.rdf_nodes.specs.OrderLaws.{AreClosed, leads_to_front}
+use Rattle.rdf_roles.specs.NodeLaws.{keys_are}
+use Rattle.rdf_roles.specs.OrderLaws.{AreClosed, leads_to_front}
 use Rattle.rdf_roles.specs.Tables.{IsTableOf, LeadsTo, RoleTable, blank_nodes}
 use Rattle.rdf_roles.specs.WayLaws.{numbered_by_role}
 use Rattle.rdf_nodes.specs.declared.form.Form.{Form}
@@ -38,10 +38,9 @@ use Rattle.rdf_nodes.specs.declared.form.Operand.TheVariants as operand
 use Rattle.rdf_nodes.specs.ExpressionLaws.{expression_has_row}
 use Rattle.rdf_nodes.specs.Numbers.{AreKnownBelow, HasItsNumber, IsExpression, IsPassed}
 use Rattle.rdf_nodes.specs.Operands.{AreElements, no_cell, cell, AreOperands, no_parts, part, Gives, one, many, mark, is_true, IsForm, IsNodeOf, IsOperand, by_itself, by_node, IsTree, StandAt, labels, sort_of}
-use Rattle.rdf_nodes.proofs.Labelling.{keys_with_role}
 
 pub as_nodes : (g : List Triple) (roles : RoleTable) → IsTableOf g roles → labels roles ≡ blank_nodes g
-as_nodes g roles table = ap keys_of table.nodes ∙ keys_with_role g (blank_nodes g)
+as_nodes g roles table = keys_are g roles.nodes table.nodes
 
 -- what stands before a node in the order is what it leads to
 pub passed_below : (g : List Triple) (roles : RoleTable) → IsTableOf g roles → (passed : List ℕ) (number : ℕ) (rest : List ℕ) → roles.order ≡ passed ++ number ∷ rest → (label : List ℕ) →

@@ -50,9 +50,9 @@ module _ (g : List Triple) (k : List Entity) (roles : RoleTable) where
   own_tree_of : (x : Term) (form : Form) (ts : List Tree) → IsExpression g k roles x form → AllMean g k roles form.operands.items ts → DenotesOwn g k x (node form.tag (kids_of ts))
   own_tree_of x form ts is m = record { sort = is.sort; gives = is.gives; denotes = form_denotes g k roles x form is.sort ts is.form is.gives m }
 
-  fault_of : (x : Term) (t : Tree) (f : TreeFault) → DenotesOwn g k x t → IsTreeFault t f → IsNodeFault g k x f
+  fault_of : {H : Type 0} (x : Term) (t : Tree) (f : TreeFault H) → DenotesOwn g k x t → IsTreeFault t f → IsNodeFault g k x f
   fault_of x t TooDeep own h = (t, own, h)
-  fault_of x t TooHeavy own h = (t, own, h)
+  fault_of x t (TooHeavy _) own h = (t, own, h)
   fault_of x t Memory own h = tt
 
 module _ (g : List Triple) (k : List Entity) (roles : RoleTable) {N : Type 0} where
@@ -104,6 +104,6 @@ module _ (g : List Triple) (k : List Entity) (roles : RoleTable) {N : Type 0} wh
       IfOk r (Stands (node form.tag (kids_of ts))) → IfOk r (IsDenotedAs g k Stands x)
   tree_denoted x form ts Stands r is m h = ok_more (λ n held. record { tree = node form.tag (kids_of ts); own = own_tree_of g k roles x form ts is m; held = held }) r h
 
-  pub tree_refused : (x : Term) (form : Form) (ts : List Tree) (r : Result N TreeFault) → IsExpression g k roles x form → AllMean g k roles form.operands.items ts →
+  pub tree_refused : {H : Type 0} (x : Term) (form : Form) (ts : List Tree) (r : Result N (TreeFault H)) → IsExpression g k roles x form → AllMean g k roles form.operands.items ts →
       IfErr r (IsTreeFault (node form.tag (kids_of ts))) → IfErr r (IsNodeFault g k x)
   tree_refused x form ts r is m h = err_more (λ f t. fault_of g k roles x (node form.tag (kids_of ts)) f (own_tree_of g k roles x form ts is m) t) r h

@@ -1,6 +1,5 @@
 -- The tree of each expression is held, where each expression has a number.
 use Rattle.std.specs.Prelude.{◌≡◌, ◌+◌, ◌<◌, ℕ, false, List, Contains, Option, None, Some, is_some, length, slice_get}
-use Rattle.std.specs.Map.{keys_of}
 use Rattle.std.proofs.Common.{inl, inr, arith, refl, ap, sym, subst, ◌∙◌, true≢false}
 use Rattle.std.proofs.lemmas.List.{length-map}
 use Rattle.std.proofs.lemmas.Option.{none-some, same_Some, slice_get_within}
@@ -12,14 +11,14 @@ use Rattle.rdf_graph.specs.declared.triple.Triple.{Triple}
 use Rattle.rdf_meaning.specs.declared.role.Role.{Role}
 use Rattle.rdf_meaning.specs.Kinds.{HaveNoClash}
 use Rattle.rdf_meaning.specs.Nodes.{role_of}
-use Rattle.rdf_roles.specs.NodeLaws.{no_role_of_others}
+use Rattle.rdf_roles.specs.NodeLaws.{keys_are, no_role_of_others}
 use Rattle.rdf_roles.specs.Tables.{IsTableOf, RoleTable, blank_nodes}
 use Rattle.tree_stores.specs.StoreLaws.{shallow_tree}
 use Rattle.tree_stores.specs.Stores.{HasDepth, IsHeld}
 use Rattle.rdf_nodes.specs.ExpressionLaws.{own_same}
 use Rattle.rdf_nodes.specs.Numbers.{AreAllHeld, AreKnown, AreNumbered, AreShallow, DenotesOwn, IsKnown, IsNumbered}
 use Rattle.rdf_nodes.specs.Operands.{labels, sort_of}
-use Rattle.rdf_nodes.proofs.Labelling.{below_next, keys_with_role, look_up}
+use Rattle.rdf_nodes.proofs.Labelling.{below_next, look_up}
 
 some_not : {A : Type 0} (o : Option A) (a : A) → o ≡ Some a → is_some o ≡ false → ⊥
 some_not o a e none = true≢false (sym (ap is_some e) ∙ none)
@@ -66,7 +65,7 @@ module _ (g : List Triple) (k : List Entity) where
   pub all_held : (roles : RoleTable) {N : Type 0} (Stands : Tree → N → Type 0) (ns : List (Option N)) → IsTableOf g roles → AreNumbered g k roles Stands ns → AreKnown g roles ns → HaveNoClash k →
       AreAllHeld g k Stands
   all_held roles Stands ns is are known clean label t own =
-      let all : labels roles ≡ blank_nodes g = ap keys_of is.nodes ∙ keys_with_role g (blank_nodes g) in
+      let all : labels roles ≡ blank_nodes g = keys_are g roles.nodes is.nodes in
       elim (look_up (labels roles) label) [
         | inl s ↦
             let within = slice_get_within (labels roles) s.place label s.at in

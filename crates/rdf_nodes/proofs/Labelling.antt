@@ -1,6 +1,5 @@
 -- The table of labels with numbers, as it is filled node by node.
-use Rattle.std.specs.Prelude.{◌≡◌, ◌⊎◌, ◌+◌, ◌<◌, ℕ, suc, false, cond, List, [], ◌∷◌, Contains, IfSome, IsNone, Option, None, Some, is_some, length, map, nat_lt, slice_get}
-use Rattle.std.specs.Map.{keys_of}
+use Rattle.std.specs.Prelude.{◌≡◌, ◌⊎◌, ◌+◌, ◌<◌, ℕ, suc, false, cond, List, [], ◌∷◌, Contains, IfSome, IsNone, Option, None, Some, is_some, length, nat_lt, slice_get}
 use Rattle.std.proofs.Common.{inl, inr, arith, refl, ap, sym, subst, ◌∙◌, true≢false}
 use Rattle.std.proofs.lemmas.Bool.{cases_Bool, cond-false, cond-true, ltb-false, ltb-true}
 use Rattle.std.proofs.lemmas.List.{length-map}
@@ -14,16 +13,12 @@ use Rattle.rdf_graph.specs.declared.term.Term.TheVariants.{Blank}
 use Rattle.rdf_graph.specs.declared.triple.Triple.{Triple}
 use Rattle.rdf_meaning.specs.declared.role.Role.{Role}
 use Rattle.rdf_meaning.specs.Nodes.{role_of}
-use Rattle.rdf_roles.specs.NodeLaws.{no_role_of_others}
-use Rattle.rdf_roles.specs.Tables.{IsTableOf, RoleTable, blank_nodes, with_role}
+use Rattle.rdf_roles.specs.NodeLaws.{keys_are, no_role_of_others}
+use Rattle.rdf_roles.specs.Tables.{IsTableOf, RoleTable, blank_nodes}
 use Rattle.tree_stores.specs.Stores.{HasNumber}
 use Rattle.rdf_nodes.specs.Nodes.{HoldNumbers, HoldNumbersUpTo, NumberTable, entry_of}
 use Rattle.rdf_nodes.specs.Numbers.{AreNumbered, IsDenotedAs, IsNumbered}
 use Rattle.rdf_nodes.specs.Operands.{labels, sort_of}
-
-pub keys_with_role : (g : List Triple) (all : List (List ℕ)) → keys_of (map (with_role g) all) ≡ all
-keys_with_role g [] = refl
-keys_with_role g (label ∷ all) = ap (λ more. label ∷ more) (keys_with_role g all)
 
 -- the label stands somewhere
 pub record Stands (all : List (List ℕ)) (label : List ℕ) : Type 0 where
@@ -133,7 +128,7 @@ module _ (g : List Triple) (k : List Entity) (roles : RoleTable) (trees : List T
   no_sort : IsTableOf g roles → (entries : NumberTable) → HoldNumbersUpTo g k roles trees (length roles.nodes) entries → (label : List ℕ) → IsNone (entry_of entries label) →
       sort_of (role_of g (Blank label)) ≡ None
   no_sort is entries h label none =
-      let all : labels roles ≡ blank_nodes g = ap keys_of is.nodes ∙ keys_with_role g (blank_nodes g) in
+      let all : labels roles ≡ blank_nodes g = keys_are g roles.nodes is.nodes in
       elim (look_up (labels roles) label) [
         | inl s ↦
             let within = slice_get_within (labels roles) s.place label s.at in

@@ -19,7 +19,7 @@ use Rattle.rdf_asked.specs.ListedLaws.{IsWalked}
 use Rattle.rdf_roles.specs.Tables.{IsTableOf, RoleTable, blank_nodes, labels_in, with_role}
 use Rattle.rdf_roles.specs.WayLaws.{numbered_by_role}
 use Rattle.rdf_nodes.specs.Numbers.{IsPassed}
-use Rattle.rdf_nodes.specs.OrderLaws.{is_in_order, length_of_order}
+use Rattle.rdf_roles.specs.OrderLaws.{is_in_order, length_of_order}
 use Rattle.rdf_nodes.proofs.Below.{as_nodes, passed_below}
 
 -- a graph has no more nodes than triples

@@ -11,7 +11,7 @@ use Rattle.owl_tree.specs.Trees.{Tree}
 use Rattle.rdf_graph.specs.declared.term.Term.TheVariants.{Blank}
 use Rattle.rdf_graph.specs.declared.triple.Triple.{Triple}
 use Rattle.rdf_meaning.specs.Nodes.{role_of}
-use Rattle.rdf_nodes.specs.OrderLaws.{front_is_closed, is_in_order, is_of_node}
+use Rattle.rdf_roles.specs.OrderLaws.{front_is_closed, is_in_order, is_of_node}
 use Rattle.rdf_roles.specs.Tables.{IsTableOf, RoleTable}
 use Rattle.tree_stores.specs.declared.fault.TreeFault.{TreeFault}
 use Rattle.tree_stores.specs.declared.fault.TreeFault.TheVariants.{TooDeep, TooHeavy, Memory}
@@ -143,7 +143,7 @@ module _ (g : List Triple) (k : List Entity) (roles : RoleTable) {N : Type 0} wh
   one_more_numbered Old New ns at label found are kept is d =
       set_holds (IsNumbered g k roles New) ns at found (numbered_kept g k roles Old New ns kept are) (found_number New at label found is d)
 
-pub some_fault : (g : List Triple) (k : List Entity) (label : List ℕ) (f : TreeFault) → IsNodeFault g k (Blank label) f → IsSomeNodeFault g k f
+pub some_fault : {H : Type 0} (g : List Triple) (k : List Entity) (label : List ℕ) (f : TreeFault H) → IsNodeFault g k (Blank label) f → IsSomeNodeFault g k f
 some_fault g k label TooDeep h = (label, h)
-some_fault g k label TooHeavy h = (label, h)
+some_fault g k label (TooHeavy _) h = (label, h)
 some_fault g k label Memory h = tt

@@ -5,7 +5,6 @@ pub mod Numbers
 pub mod Large
 pub mod Nodes
 pub mod ExpressionLaws
-pub mod OrderLaws
 pub mod AmongLaws
 pub mod DenotedLaws
 pub mod NumberLaws

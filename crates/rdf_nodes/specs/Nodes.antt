@@ -10,11 +10,11 @@ use Rattle.rdf_meaning.specs.Nodes.{role_of}
 use Rattle.rdf_roles.specs.Tables.{RoleTable}
 use Rattle.tree_stores.specs.declared.fault.TreeFault.{TreeFault}
 use Rattle.tree_stores.specs.declared.fault.TreeFault.TheVariants as tree_fault
-use Rattle.tree_stores.specs.Stores.{HasNumber}
+use Rattle.tree_stores.specs.Stores.{HasNumber, IsDeep, IsHeavy}
 use Rattle.rdf_nodes.specs.declared.fault.DenoteFault.{DenoteFault}
 use Rattle.rdf_nodes.specs.declared.fault.DenoteFault.TheVariants.{NumberTooLarge, TooDeep, TooHeavy, Memory}
 use Rattle.rdf_nodes.specs.Large.{HasLargeNumber}
-use Rattle.rdf_nodes.specs.Numbers.{AreShallow, IsDenotedAs, IsSomeNodeFault}
+use Rattle.rdf_nodes.specs.Numbers.{AreShallow, HasNode, IsDenotedAs}
 use Rattle.rdf_nodes.specs.Operands.{labels, sort_of}
 
 -- labels with numbers
@@ -41,15 +41,15 @@ pub record AreDenoted (g : List Triple) (k : List Entity) (trees : List Tree) (e
   pub small : HasLargeNumber g → ⊥
   pub numbers : HoldNumbers g k trees entries
 
-abbrev pub fault_of : TreeFault → DenoteFault
+abbrev pub fault_of : {H : Type 0} → TreeFault H → DenoteFault
 fault_of tree_fault.TooDeep = TooDeep
-fault_of tree_fault.TooHeavy = TooHeavy
+fault_of (tree_fault.TooHeavy h) = TooHeavy
 fault_of tree_fault.Memory = Memory
 
 -- a cardinality is too large; or none is, and some node denotes a tree that is too deep; or none does, and some node denotes one that is
 -- too heavy
 abbrev pub IsDenoteFault : List Triple → List Entity → DenoteFault → Type 0
 IsDenoteFault g k NumberTooLarge = HasLargeNumber g
-IsDenoteFault g k TooDeep = (HasLargeNumber g → ⊥) × IsSomeNodeFault g k tree_fault.TooDeep
-IsDenoteFault g k TooHeavy = (HasLargeNumber g → ⊥) × AreShallow g k × IsSomeNodeFault g k tree_fault.TooHeavy
+IsDenoteFault g k TooDeep = (HasLargeNumber g → ⊥) × HasNode g k IsDeep
+IsDenoteFault g k TooHeavy = (HasLargeNumber g → ⊥) × AreShallow g k × HasNode g k IsHeavy
 IsDenoteFault g k Memory = Unit {0}

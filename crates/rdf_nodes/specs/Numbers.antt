@@ -9,11 +9,11 @@ use Rattle.rdf_graph.specs.declared.triple.Triple.{Triple}
 use Rattle.rdf_meaning.specs.declared.row.Want.TheVariants.{One}
 use Rattle.rdf_meaning.specs.Denotation.{Denotes}
 use Rattle.rdf_meaning.specs.Nodes.{role_of}
-use Rattle.rdf_nodes.specs.OrderLaws.{AreClosed}
+use Rattle.rdf_roles.specs.OrderLaws.{AreClosed}
 use Rattle.rdf_roles.specs.Tables.{IsNode, LeadsTo, RoleTable}
 use Rattle.tree_stores.specs.declared.fault.TreeFault.{TreeFault}
 use Rattle.tree_stores.specs.declared.fault.TreeFault.TheVariants.{TooDeep, TooHeavy, Memory}
-use Rattle.tree_stores.specs.Stores.{IsHeld, IsTreeFault, StandFor}
+use Rattle.tree_stores.specs.Stores.{IsDeep, IsHeavy, IsHeld, StandFor}
 use Rattle.rdf_nodes.specs.declared.form.Form.{Form}
 use Rattle.rdf_nodes.specs.declared.form.Operand.{Operand}
 use Rattle.rdf_nodes.specs.declared.form.Operand.TheVariants as operand
@@ -94,20 +94,24 @@ abbrev pub AreAllHeld : List Triple → List Entity → {N : Type 0} → (Tree �
 AreAllHeld g k Stands = (label : List ℕ) (t : Tree) → DenotesOwn g k (Blank label) t → IsHeld Stands t
 
 -- it denotes a tree that a store does not take; want of memory is told of any
-abbrev pub IsNodeFault : List Triple → List Entity → Term → TreeFault → Type 0
+abbrev pub IsNodeFault : {H : Type 0} → List Triple → List Entity → Term → TreeFault H → Type 0
 IsNodeFault g k x Memory = Unit {0}
-IsNodeFault g k x TooDeep = (t : Tree) × DenotesOwn g k x t × IsTreeFault t TooDeep
-IsNodeFault g k x TooHeavy = (t : Tree) × DenotesOwn g k x t × IsTreeFault t TooHeavy
+IsNodeFault g k x TooDeep = (t : Tree) × DenotesOwn g k x t × IsDeep t
+IsNodeFault g k x (TooHeavy h) = (t : Tree) × DenotesOwn g k x t × IsHeavy t
 
--- so of some node
-abbrev pub IsSomeNodeFault : List Triple → List Entity → TreeFault → Type 0
+-- some node denotes a tree of which the fact holds
+abbrev pub HasNode : List Triple → List Entity → (Tree → Type 0) → Type 0
+HasNode g k P = (label : List ℕ) × ((t : Tree) × DenotesOwn g k (Blank label) t × P t)
+
+-- some node denotes a tree that a store does not take
+abbrev pub IsSomeNodeFault : {H : Type 0} → List Triple → List Entity → TreeFault H → Type 0
 IsSomeNodeFault g k Memory = Unit {0}
-IsSomeNodeFault g k TooDeep = (label : List ℕ) × IsNodeFault g k (Blank label) TooDeep
-IsSomeNodeFault g k TooHeavy = (label : List ℕ) × IsNodeFault g k (Blank label) TooHeavy
+IsSomeNodeFault g k TooDeep = HasNode g k IsDeep
+IsSomeNodeFault g k (TooHeavy h) = HasNode g k IsHeavy
 
 -- no node denotes a tree that is too deep
 abbrev pub AreShallow : List Triple → List Entity → Type 0
-AreShallow g k = IsSomeNodeFault g k TooDeep → ⊥
+AreShallow g k = HasNode g k IsDeep → ⊥
 
 -- the node is an expression, and the form is its
 pub record IsExpression (g : List Triple) (k : List Entity) (roles : RoleTable) (x : Term) (what : Form) : Type 0 where

@@ -39,7 +39,9 @@ fn hold_facet<S: TreeStore>(
     kids.push(value).map_err(AllocError::from)?;
     match store.hold_node(Tag::FacetPair, kids) {
         Ok(number) => Ok(number),
-        Err(_) => Err(NoMemory),
+        Err(TreeFault::TooDeep) => unreachable!(),
+        Err(TreeFault::TooHeavy(_)) => unreachable!(),
+        Err(TreeFault::Memory) => Err(NoMemory),
     }
 }
 
@@ -108,7 +110,7 @@ impl<'a> Source<'a> {
         store: &mut S,
         ids: &[Option<S::Number>],
         form: &Form,
-    ) -> Result<S::Number, TreeFault>
+    ) -> Result<S::Number, TreeFault<S::Heavy>>
         requires numbered { AreNumbered self.now.graph.now self.now.kinds.now self.now.roles.now
             (S.stands store.old) ids.now }
         requires known { AllByRecursion (HasItsNumber ids.now) form.now.operands.items }
@@ -132,7 +134,7 @@ impl<'a> Source<'a> {
         store: &mut S,
         ids: &[Option<S::Number>],
         label: &Label,
-    ) -> Result<Option<S::Number>, TreeFault>
+    ) -> Result<Option<S::Number>, TreeFault<S::Heavy>>
         requires table { IsTableOf self.now.graph.now self.now.roles.now }
         requires trees { DenoteTrees self.now.graph.now self.now.kinds.now }
         requires numbered { AreNumbered self.now.graph.now self.now.kinds.now self.now.roles.now

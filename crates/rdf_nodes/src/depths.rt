@@ -3,8 +3,8 @@
 ghost use Rattle.std.specs.Prelude.{IfOk, IsFalse, IsTrue};
 ghost use Rattle.rdf_meaning.specs.Kinds.{HaveNoClash};
 ghost use Rattle.rdf_roles.specs.Tables.{IsTableOf};
-ghost use Rattle.rdf_nodes.specs.Numbers.{AreShallow, DenoteTrees, IsSomeNodeFault};
-ghost use Rattle.tree_stores.specs.declared.fault.TreeFault.TheVariants.{TooDeep};
+ghost use Rattle.rdf_nodes.specs.Numbers.{AreShallow, DenoteTrees, HasNode};
+ghost use Rattle.tree_stores.specs.Stores.{IsDeep};
 
 use crate::source::Source;
 use owl_characters::NoMemory;
@@ -19,12 +19,12 @@ impl<'a> Source<'a> {
         ensures shallow { IfOk result (λ shallow. IsTrue shallow →
             AreShallow self.now.graph.now self.now.kinds.now) }
         ensures deep { IfOk result (λ shallow. IsFalse shallow →
-            IsSomeNodeFault self.now.graph.now self.now.kinds.now TooDeep) }
+            HasNode self.now.graph.now self.now.kinds.now IsDeep) }
     {
         match self.numbers(&mut Depths) {
             Ok(_) => Ok(true),
             Err(TreeFault::TooDeep) => Ok(false),
-            Err(TreeFault::TooHeavy | TreeFault::Memory) => Err(NoMemory),
+            Err(TreeFault::Memory) => Err(NoMemory),
         }
     }
 }

@@ -25,13 +25,13 @@ pub enum DenoteFault {
     Memory,
 }
 
-impl From<TreeFault> for DenoteFault {
+impl From<TreeFault<()>> for DenoteFault {
     ghost from_gives = { λ fault e. e ≡ fault_of fault };
 
-    fn from(fault: TreeFault) -> DenoteFault {
+    fn from(fault: TreeFault<()>) -> DenoteFault {
         match fault {
             TreeFault::TooDeep => DenoteFault::TooDeep,
-            TreeFault::TooHeavy => DenoteFault::TooHeavy,
+            TreeFault::TooHeavy(()) => DenoteFault::TooHeavy,
             TreeFault::Memory => DenoteFault::Memory,
         }
     }

@@ -19,7 +19,10 @@ impl<'a> Source<'a> {
     /// `TooDeep` where some node denotes a tree of more than 128 levels; `TooHeavy`
     /// where one denotes a tree with more than 2^24 nodes and leaves. The store
     /// keeps the trees that it had, at their numbers, also where this refuses.
-    pub fn numbers<S: TreeStore>(&self, store: &mut S) -> Result<Vec<Option<S::Number>>, TreeFault>
+    pub fn numbers<S: TreeStore>(
+        &self,
+        store: &mut S,
+    ) -> Result<Vec<Option<S::Number>>, TreeFault<S::Heavy>>
         requires table { IsTableOf self.now.graph.now self.now.roles.now }
         requires trees { DenoteTrees self.now.graph.now self.now.kinds.now }
         ensures numbered { IfOk result (λ ids. AreNumbered self.now.graph.now self.now.kinds.now
@@ -49,7 +52,7 @@ impl<'a> Source<'a> {
         store: &mut S,
         ids: &mut Vec<Option<S::Number>>,
         number: usize,
-    ) -> Result<(), TreeFault>
+    ) -> Result<(), TreeFault<S::Heavy>>
         requires table { IsTableOf self.now.graph.now self.now.roles.now }
         requires trees { DenoteTrees self.now.graph.now self.now.kinds.now }
         requires numbered { AreNumbered self.now.graph.now self.now.kinds.now self.now.roles.now

@@ -12,13 +12,11 @@ use Rattle.owl_tree.specs.Trees.{Tree, depth, weight}
 use Rattle.rdf_graph.specs.declared.term.Term.{Term}
 use Rattle.rdf_graph.specs.declared.triple.Triple.{Triple}
 use Rattle.rdf_meaning.specs.Statements.{headers}
-use Rattle.rdf_annotations.specs.Annotations.{IsFaultOfSome}
 use Rattle.rdf_scans.specs.declared.reading.Reading.{Reading}
 use Rattle.rdf_statements.specs.GraphTrees.{IsHeldWithin, IsTreeOf}
 use Rattle.rdf_statements.specs.PartLaws.{part_depth, part_weight}
-use Rattle.tree_stores.specs.declared.fault.TreeFault.TheVariants as tree
 use Rattle.tree_stores.specs.StoreLaws.{shallow_tree}
-use Rattle.tree_stores.specs.Stores.{HasDepth, HasNumber, IsSmall, StandFor}
+use Rattle.tree_stores.specs.Stores.{HasDepth, HasNumber, IsDeep, IsSmall, StandFor}
 use Rattle.rdf_reverse.specs.declared.fault.ReverseFault.{ReverseFault}
 use Rattle.rdf_reverse.specs.declared.fault.ReverseFault.TheVariants.{TooDeep, TooHeavy}
 use Rattle.rdf_reverse.specs.Faults.{assemble_fault}
@@ -80,7 +78,7 @@ module _ (reading : Reading) where
     pub heavy_found : AreShallow reading → HasHeavyTree g k header → IsFoundBy g k limits TooHeavy
     heavy_found are heavy = inr (inr (λ f h. are.small h.1, inr (no_depths are, inl (header, one, refl, heavy))))
 
-    pub deep_tree_found : (HasLargeNumber g → ⊥) → IsFaultOfSome (IsTreeOf g k header) tree.TooDeep → IsFoundBy g k limits TooDeep
+    pub deep_tree_found : (HasLargeNumber g → ⊥) → ((t : Tree) × IsTreeOf g k header t × IsDeep t) → IsFoundBy g k limits TooDeep
     deep_tree_found small fault =
         inr (inr (λ f h. small h.1, inl (header, one, refl, record { tree = fault.0; of = fault.1; deep = fault.2 })))
 

@@ -1,5 +1,5 @@
 -- Graphs of which nothing that is asked before the limits is wrong say an ontology.
-use Rattle.std.specs.Prelude.{◌≡◌, ℕ, List, Contains}
+use Rattle.std.specs.Prelude.{◌≡◌, ℕ, IsTrue, List, Contains}
 use Rattle.std.proofs.Common.{sym, ◌∙◌, subst}
 use Rattle.owl_kind.specs.Kinds.{Entity}
 use Rattle.owl_list.specs.AscendingLaws.{all_in}
@@ -11,11 +11,14 @@ use Rattle.rdf_meaning.specs.Kinds.{HaveNoClash}
 use Rattle.owl_list.specs.FilterLaws.{from_filter}
 use Rattle.rdf_meaning.specs.Nodes.{role_of}
 use Rattle.rdf_meaning.specs.ListLaws.{same_only}
-use Rattle.rdf_meaning.specs.Statements.{HasAxiom, IsPartOfAxiom, Says, main_triples}
+use Rattle.rdf_meaning.specs.Statements.{HasAxiom, IsPartOfAxiom, Says, is_annotation_triple, main_triples}
+use Rattle.rdf_annotations.specs.Held.{AreTypedNotes}
+use Rattle.rdf_faults.specs.Asked.{IsTypedNote}
 use Rattle.rdf_faults.specs.ConverseLaws.{faultless_says}
 use Rattle.rdf_faults.specs.Faultless.{IsFaultless}
 use Rattle.rdf_faults.specs.Faults.{IsBadCell, IsBadHeader, IsBadNode, IsCyclic, IsMixed, IsOfNothing, IsOrphan, IsReservedTriple, IsUntypedPart, IsUntypedStatement, no_axiom, no_note}
 use Rattle.rdf_faults.specs.Firsts.{HoldsForNone}
+use Rattle.rdf_faults.specs.NoteLaws.{note_typed}
 use Rattle.rdf_faults.specs.MeantLaws.{node_axiom, node_meant, triple_axiom}
 use Rattle.rdf_nodes.specs.AmongLaws.{cell_among, cyclic_among, mixed_among, node_among, none_of, with_role}
 use Rattle.rdf_nodes.specs.ExpressionLaws.{expression_is_part, meant_denotes}
@@ -97,6 +100,12 @@ module _ (reading : Reading) (clear : IsClear reading) where
         triples = subst (λ x. (t : Triple) → Contains (main_triples g k x) t → HasAxiom g k t) (clear_header o says) (triple_axiom g k o says);
         nodes = node_axiom g k o says;
       }
+
+  pub clear_notes : AreTypedNotes g k header
+  clear_notes =
+      let o = clear_says.0 in
+      let says = clear_says.1 in
+      subst (λ x. (t : Triple) → Contains g t → IsTrue (is_annotation_triple g k x t) → IsTypedNote g k t) (clear_header o says) (note_typed g k o says)
 
   pub clear_denotes : (HasLargeNumber g → ⊥) → DenoteTrees g k
   clear_denotes small = record {

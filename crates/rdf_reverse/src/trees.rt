@@ -42,7 +42,7 @@ pub fn read_statements(
             Ok(said)
         }
         Err(TreeFault::TooDeep) => Err(ReverseFault::TooDeep),
-        Err(TreeFault::TooHeavy) => Err(fault_of_heavy(alloc, reading)),
+        Err(TreeFault::TooHeavy(())) => Err(fault_of_heavy(alloc, reading)),
         Err(TreeFault::Memory) => Err(ReverseFault::Memory),
     }
 }
@@ -73,6 +73,6 @@ fn fault_of_heavy(alloc: Global, reading: &Reading) -> ReverseFault
     match hold_statements(alloc, reading, &mut Depths) {
         Ok(_) => ReverseFault::TooHeavy,
         Err(TreeFault::TooDeep) => ReverseFault::TooDeep,
-        Err(TreeFault::TooHeavy | TreeFault::Memory) => ReverseFault::Memory,
+        Err(TreeFault::Memory) => ReverseFault::Memory,
     }
 }

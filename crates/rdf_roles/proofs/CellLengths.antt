@@ -1,12 +1,10 @@
 -- The lengths of lists, from cell to cell.
 use Rattle.std.specs.Prelude.{◌≡◌, ◌⊎◌, ◌<◌, ◌+◌, ℕ, true, false, ◌||◌, List, [], ◌∷◌, Contains, Option, None, Some, length, slice_get, slice_index, slice_set}
 use Rattle.std.specs.Option.{unwrap_or}
-use Rattle.std.specs.List.{range_with_len}
 use Rattle.std.proofs.Common.{inl, inr, sym, ap, ◌∙◌, subst, arith}
 use Rattle.std.proofs.lemmas.Bool.{or_left, or_right}
 use Rattle.std.proofs.lemmas.List.{get_or-set_same, get_or-set_other, length-set}
-use Rattle.std.proofs.lemmas.List.FromFn.{get_or-range_with_len, length-range_with_len}
-use Rattle.std.proofs.lemmas.List.Sorted.{Contains-permutation, IsPermutation-sym}
+use Rattle.std.proofs.lemmas.List.Sorted.{Contains-permutation}
 use Rattle.std.proofs.lemmas.Option.{same_Some, slice_get_within}
 use Rattle.directed_graphs.specs.Cycles.{StandBehind}
 use Rattle.directed_graphs.specs.CycleLaws.{in_range}
@@ -25,6 +23,7 @@ use Rattle.rdf_faults.specs.Formed.{HasLength, IsFormedAs, no_element, one_more}
 use Rattle.rdf_rows.specs.Chosen.{the_cell}
 use Rattle.rdf_rows.specs.NodeTripleLaws.{cell_is, chosen_is}
 use Rattle.rdf_roles.specs.Lengths.{AreKnownBelow, AreLengths, HasLengthAt, IsKnown, IsLength}
+use Rattle.rdf_roles.specs.OrderLaws.{is_node}
 use Rattle.rdf_roles.specs.Refusals.{HaveCells}
 use Rattle.rdf_roles.specs.Tables.{AreEdges, IsNodeOrder, LeadsBetween, blank_nodes}
 use Rattle.rdf_roles.specs.WayLaws.{numbered_by_role}
@@ -125,11 +124,6 @@ pub record ArePassed (g : List Triple) (lengths left : List ℕ) : Type 0 where
   pub all : (number : ℕ) → number < length (blank_nodes g) → Contains passed number ⊎ Contains left number
   pub known : (number : ℕ) → Contains passed number → HasLengthAt g number (slice_index lengths number)
 
-from_range : (count number : ℕ) → Contains (range_with_len 0 count) number → number < count
-from_range count number m =
-    let within : m.0 < count = subst (λ n. m.0 < n) (length-range_with_len 0 count) m.1 in
-    subst (λ n. n < count) (omega (arith, sym (get_or-range_with_len 0 count m.0 number within) ∙ m.2)) within
-
 pub none_passed : (g : List Triple) (lengths order : List ℕ) → IsNodeOrder g order → length lengths ≡ length (blank_nodes g) → ArePassed g lengths order
 none_passed g lengths order is size =
     let all = is.is_order.all in
@@ -139,9 +133,7 @@ none_passed g lengths order is size =
       are = is.are;
       behind = is.is_order.behind;
       size = size;
-      nodes = λ number m.
-          subst (λ n. number < n) is.are.each
-          (from_range (length is.edges) number (Contains-permutation order _ number (IsPermutation-sym _ order all) m));
+      nodes = is_node g order is;
       all = λ number h. inr (Contains-permutation _ order number all (in_range (length is.edges) number (subst (λ n. number < n) (sym is.are.each) h)));
       known = λ number m. absurd (in_none number m);
     }

@@ -1,7 +1,7 @@
 -- The laws of the blank nodes of a graph.
-use Rattle.std.specs.Prelude.{◌≡◌, ◌↔◌, ℕ, List, [], ◌∷◌, Contains, length, map, Some}
+use Rattle.std.specs.Prelude.{◌≡◌, ◌↔◌, ℕ, List, [], ◌∷◌, Contains, length, map, None, Some}
 use Rattle.std.specs.Option.{unwrap_or}
-use Rattle.std.specs.Map.{lookup}
+use Rattle.std.specs.Map.{keys_of, lookup}
 use Rattle.std.proofs.Common.{inl, inr, refl, sym, ap, ◌∙◌, subst}
 use Rattle.std.proofs.lemmas.Bool.{both_ways, cases_Bool, cond-false, cond-true}
 use Rattle.std.proofs.lemmas.List.{length-map}
@@ -15,7 +15,7 @@ use Rattle.rdf_meaning.specs.declared.role.Role.{Role}
 use Rattle.rdf_meaning.specs.declared.role.Role.TheVariants as role
 use Rattle.rdf_meaning.specs.Nodes.{first_role, role_of, roles_of, subjects_of}
 use Rattle.rdf_meaning.specs.NodeLaws.{marked_subject}
-use Rattle.rdf_roles.specs.Tables.{blank_nodes, labels_in, table_of, with_role}
+use Rattle.rdf_roles.specs.Tables.{HasNumber, blank_nodes, labels_in, table_of, with_role}
 
 pub same_label : (a b : List ℕ) → Blank a ≡ Blank b → a ≡ b
 same_label a b e = cc
@@ -53,6 +53,21 @@ individual g label none (r ∷ rs) e =
 
 pub no_role_of_others : (g : List Triple) (label : List ℕ) → (Contains (blank_nodes g) label → ⊥) → role_of g (Blank label) ≡ role.Individual
 no_role_of_others g label none = individual g label none (roles_of g (Blank label)) refl
+
+-- the labels of a table
+
+keys_with_role : (g : List Triple) (all : List (List ℕ)) → keys_of (map (with_role g) all) ≡ all
+keys_with_role g [] = refl
+keys_with_role g (label ∷ all) = ap (λ more. label ∷ more) (keys_with_role g all)
+
+pub keys_are : (g : List Triple) (entries : List (List ℕ × Role)) → entries ≡ map (with_role g) (blank_nodes g) → keys_of entries ≡ blank_nodes g
+keys_are g entries is = ap keys_of is ∙ keys_with_role g (blank_nodes g)
+
+-- a node with a role has a number
+pub has_number : (g : List Triple) (entries : List (List ℕ × Role)) → entries ≡ map (with_role g) (blank_nodes g) → (label : List ℕ) → (role_of g (Blank label) ≡ role.Individual → ⊥)
+    → HasNumber entries label None → ⊥
+has_number g entries is label has_role none =
+    has_role (no_role_of_others g label (λ m. none (subst (λ (ls : List (List ℕ)). Contains ls label) (sym (keys_are g entries is)) m)))
 
 -- what the table tells of a label is its role
 

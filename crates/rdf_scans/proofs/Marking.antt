@@ -1,6 +1,5 @@
 -- Marks by the numbers of nodes, and by what they are set.
-use Rattle.std.specs.Prelude.{◌≡◌, ◌↔◌, ◌⊎◌, ◌<◌, ◌≤◌, ◌+◌, ℕ, zero, suc, Bool, true, false, IsTrue, List, [], ◌∷◌, ◌++◌, Contains, None, Some, get_or, length, map, slice_get, slice_set, take}
-use Rattle.std.specs.Map.{keys_of}
+use Rattle.std.specs.Prelude.{◌≡◌, ◌↔◌, ◌⊎◌, ◌<◌, ◌≤◌, ◌+◌, ℕ, zero, suc, Bool, true, false, IsTrue, List, [], ◌∷◌, ◌++◌, Contains, Option, None, Some, get_or, length, map, slice_get, slice_set, take}
 use Rattle.std.proofs.Common.{inl, inr, refl, sym, ap, ◌∙◌, subst, arith}
 use Rattle.std.proofs.lemmas.Bool.{cases_eq}
 use Rattle.std.proofs.lemmas.List.{get_or-set_other, get_or-set_same, length-map, length-set, take_all, take_more}
@@ -14,9 +13,9 @@ use Rattle.rdf_graph.specs.declared.triple.Triple.{Triple}
 use Rattle.rdf_graph.specs.Terms.{term_cmp}
 use Rattle.rdf_graph.specs.TermLaws.{terms_total}
 use Rattle.rdf_meaning.specs.Nodes.{subjects_of}
-use Rattle.rdf_roles.specs.NodeLaws.{from_labels, same_label}
-use Rattle.rdf_roles.specs.Tables.{IsNode, IsTableOf, RoleTable, blank_nodes, labels_in, with_role}
-use Rattle.rdf_scans.specs.Reach.{AddsMarks, IsBySome, IsNodeWithRole, IsNumberWithRole, has_mark}
+use Rattle.rdf_roles.specs.NodeLaws.{from_labels, has_number, keys_are, same_label}
+use Rattle.rdf_roles.specs.Tables.{HasNumber, IsNode, IsTableOf, RoleTable, blank_nodes, labels_in, with_role}
+use Rattle.rdf_scans.specs.Reach.{AddsMarks, HasRole, IsBySome, IsNodeWithRole, IsNumberWithRole, has_mark}
 
 pub no_marks : (P : ℕ → Type 0) (marks : List Bool) → ((n : ℕ) → n < length marks → P n → ⊥) → AddsMarks P marks marks
 no_marks P marks none = record {
@@ -140,12 +139,12 @@ module _ (F : Triple → ℕ → Type 0) where
 
 -- the table of roles tells the nodes by their numbers
 module _ (g : List Triple) (table : RoleTable) (is : IsTableOf g table) where
-  keys_with_role : (all : List (List ℕ)) → keys_of (map (with_role g) all) ≡ all
-  keys_with_role [] = refl
-  keys_with_role (label ∷ all) = ap (λ more. label ∷ more) (keys_with_role all)
-
-  pub keys_are : keys_of table.nodes ≡ blank_nodes g
-  keys_are = ap keys_of is.nodes ∙ keys_with_role (blank_nodes g)
+  pub number_is : (label : List ℕ) → HasRole g (Blank label) → (found : Option ℕ) → HasNumber table.nodes label found → IsNumberWithRole g (Blank label) found
+  number_is label has_role None none = absurd (has_number g table.nodes is.nodes label has_role none)
+  number_is label has_role (Some number) at = record {
+    node = record { label = label; is = refl; at = subst (λ (ls : List (List ℕ)). slice_get ls number ≡ Some label) (keys_are g table.nodes is.nodes) at };
+    has_role = has_role;
+  }
 
   pub so_many : length table.nodes ≡ length (blank_nodes g)
   so_many = ap length is.nodes ∙ length-map (blank_nodes g) (with_role g)

@@ -4,7 +4,7 @@ use Rattle.std.specs.List.{range_with_len}
 use Rattle.std.proofs.Common.{inl, inr, refl, sym, ap, ◌∙◌, subst, arith}
 use Rattle.std.proofs.lemmas.Bool.{both_ways}
 use Rattle.std.proofs.lemmas.List.{get_or-replicate, length-replicate}
-use Rattle.std.proofs.lemmas.List.Elements.{Contains-append_cases}
+use Rattle.std.proofs.lemmas.List.Elements.{Contains-append_cases, Contains-append_left, Contains-append_right}
 use Rattle.std.proofs.lemmas.List.Sorted.{Contains-permutation}
 use Rattle.std.proofs.lemmas.Option.{same_Some, slice_get_within}
 use Rattle.directed_graphs.specs.Cycles.{StandBehind, successors}
@@ -18,6 +18,7 @@ use Rattle.rdf_meaning.specs.declared.role.Role.TheVariants as role
 use Rattle.rdf_meaning.specs.Nodes.{is_own, is_structural, of_subject, role_of}
 use Rattle.rdf_meaning.specs.NodeLaws.{from_subject, in_subject}
 use Rattle.rdf_meaning.specs.Statements.{InSteps, IsDirectlyBelow, at_root, below_axiom, below_root, is_object, is_subject, main_triples, one_more, one_step}
+use Rattle.rdf_roles.specs.OrderLaws.{is_node}
 use Rattle.rdf_roles.specs.Tables.{AreEdges, IsNode, IsNodeOrder, blank_nodes}
 use Rattle.rdf_roles.specs.WayLaws.{numbered_by_role, structural_node}
 use Rattle.rdf_scans.specs.declared.reading.Reading.{Reading}
@@ -179,6 +180,7 @@ module _ (reading : Reading) where
     pub reached : (number : ℕ) (label : List ℕ) → slice_get (blank_nodes graph) number ≡ Some label → HasRole graph (Blank label) → IsTrue (has_mark marks number) → IsReachedIn reading (Blank label)
     pub roots : (number : ℕ) (label : List ℕ) → slice_get (blank_nodes graph) number ≡ Some label → HasRole graph (Blank label) → IsRootIn reading (Blank label) → IsTrue (has_mark marks number)
     pub passed : (number : ℕ) → number < length (blank_nodes graph) → Contains left number ⊎ ((next : ℕ) → IsNext graph marks number next → IsTrue (has_mark marks next))
+    pub within : (number : ℕ) → Contains left number → number < length (blank_nodes graph)
     pub edges : List (List ℕ)
     pub are : AreEdges graph edges
     pub behind : StandBehind edges [] left
@@ -189,6 +191,7 @@ module _ (reading : Reading) where
     reached = λ number label at has_role m. at_root (Blank label) ((marked.told number label at has_role).0 m);
     roots = λ number label at has_role r. (marked.told number label at has_role).1 r;
     passed = λ number h. inl (Contains-permutation (range_with_len 0 (length is.edges)) order number is.is_order.all (in_range (length is.edges) number (subst (λ n. number < n) (sym is.are.each) h)));
+    within = is_node graph order is;
     edges = is.edges;
     are = is.are;
     behind = is.is_order.behind;
@@ -273,10 +276,15 @@ module _ (reading : Reading) (marks new : List Bool) (left before : List ℕ) (n
     reached = λ n label at has_role m. elim ((told n label at).0 m) [ inl old ↦ p.reached n label at has_role old | inr is ↦ next_reached n label at is ];
     roots = λ n label at has_role r. still_marked n label at (p.roots n label at has_role r);
     passed = passed_or_left;
+    within = λ n m. p.within n (subst (λ all. Contains all n) (sym split) (Contains-append_left before (number ∷ []) n m));
     edges = p.edges;
     are = p.are;
     behind = front_behind p.edges [] before (number ∷ []) order_behind;
   }
+
+pub last_within : (reading : Reading) (marks : List Bool) (left before : List ℕ) (number : ℕ) → AreReachedSoFar reading marks left → left ≡ before ++ number ∷ [] → number < length (blank_nodes (graph reading))
+last_within reading marks left before number p split =
+    p.within number (subst (λ all. Contains all number) (sym split) (Contains-append_right before (number ∷ []) number (in_head number [])))
 
 -- all nodes are passed
 module _ (reading : Reading) (marks : List Bool) (p : AreReachedSoFar reading marks []) where

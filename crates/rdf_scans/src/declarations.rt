@@ -13,9 +13,9 @@ use rdf_meaning::{Site, Word};
 use rdf_rows::site_of;
 use rdf_terms::Iri;
 
-/// Declares what each triple declares, besides what was declared before. At want
-/// of memory some may have been declared.
-pub fn declare_all(graph: &Graph, kinds: &mut Kinds) -> Result<(), NoMemory>
+/// Declares what each triple of the graph declares, besides what was declared
+/// before. At want of memory some may have been declared.
+pub fn declare_graph(graph: &Graph, kinds: &mut Kinds) -> Result<(), NoMemory>
     ensures ok { OnOk result (AddsAll kinds.old (declarations graph.now) kinds.new) }
     ensures err { OnErr result (AddsSome kinds.old (declarations graph.now) kinds.new) }
 {

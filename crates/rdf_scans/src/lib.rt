@@ -14,6 +14,7 @@ mod sorts;
 mod statements;
 mod untyped;
 
+pub use declarations::declare_graph;
 pub use fault::OutlineFault;
 pub use header::{head_of, only_header};
 pub use notes::first_of_nothing;

@@ -5,7 +5,7 @@ ghost use Rattle.owl_doc.specs.Entities.{AddsAll, AddsSome};
 ghost use Rattle.rdf_scans.specs.Outlines.{IsOutline, IsOutlineFault, declarations};
 ghost use Rattle.rdf_scans.specs.declared.fault.OutlineFault.TheVariants.{Memory};
 
-use crate::declarations::declare_all;
+use crate::declarations::declare_graph;
 use crate::fault::OutlineFault;
 use crate::header::{head_of, only_header};
 use owl_doc::Head;
@@ -29,7 +29,7 @@ pub fn outline(alloc: Global, graph: &Graph, kinds: &mut Kinds) -> Result<Head, 
     ensures unchanged { IfErr result (λ fault. fault ≢ Memory → kinds.new ≡ kinds.old) }
 {
     let head = graph_head(alloc, graph)?;
-    declare_all(graph, kinds)?;
+    declare_graph(graph, kinds)?;
     Ok(head)
 }
 

@@ -1,11 +1,9 @@
 //! The nodes that axioms reach.
 
-ghost use Rattle.std.specs.Prelude.{◌≡◌, ◌↔◌, IfOk, IsTrue, List, OnOk};
+ghost use Rattle.std.specs.Prelude.{◌≡◌, ◌↔◌, ◌<◌, IfOk, IsTrue, OnOk, length};
 ghost use Rattle.rdf_graph.specs.declared.term.Term.TheVariants.{Blank};
-ghost use Rattle.rdf_graph.specs.declared.triple.Triple.{Triple};
 ghost use Rattle.rdf_meaning.specs.declared.role.Role.TheVariants as held;
 ghost use Rattle.rdf_meaning.specs.Nodes.{of_subject};
-ghost use Rattle.rdf_roles.specs.Tables.{IsTableOf};
 ghost use Rattle.rdf_scans.specs.Reach.{AddsMarks, AreMarked, IsBySome, IsEndOf, IsNext, IsNodeWithRole, IsNumberWithRole, IsObjectOf, IsReachedIn, IsRootIn, has_mark, reaches_on};
 ghost use Rattle.rdf_scans.specs.Sorts.{IsReading};
 
@@ -14,7 +12,6 @@ use crate::sorts::{is_main, sort_of};
 use owl_characters::NoMemory;
 use rdf_graph::{Graph, Term, Triple};
 use rdf_meaning::Role;
-use rdf_roles::Roles;
 use rdf_rows::is_own;
 use rdf_terms::Label;
 use std::alloc::Global;
@@ -44,61 +41,58 @@ fn roots(alloc: Global, reading: &Reading) -> Result<Vec<bool>, NoMemory>
         AreMarked reading.now.graph.now (IsRootIn reading.now) marks.items) }
 {
     let mut marks: Vec<bool> = vec![in alloc; false; reading.roles.len()]?;
-    mark_ends(reading, &mut marks)?;
+    mark_ends(reading, &mut marks);
     Ok(marks)
 }
 
 /// Marks the nodes that are subjects and objects of axioms.
-fn mark_ends(reading: &Reading, marks: &mut Vec<bool>) -> Result<(), NoMemory>
+fn mark_ends(reading: &Reading, marks: &mut Vec<bool>)
     requires { IsReading reading.now }
-    ensures { OnOk result (AddsMarks (IsBySome (IsEndOf reading.now) reading.now.graph.now)
-        marks.old.items marks.new.items) }
+    ensures { AddsMarks (IsBySome (IsEndOf reading.now) reading.now.graph.now) marks.old.items
+        marks.new.items }
 {
     'triples: for triple in reading.graph.triples() {
         if is_main(sort_of(reading, triple)) {
-            mark(reading.roles, &triple.subject, marks)?;
-            mark(reading.roles, &triple.object, marks)?;
+            mark(reading, &triple.subject, marks);
+            mark(reading, &triple.object, marks);
         }
     }
-    Ok(())
 }
 
 /// Marks the term, where it is a node with a role.
-fn mark(roles: &Roles, term: &Term, marks: &mut Vec<bool>) -> Result<(), NoMemory>
-    ensures { OnOk result ((g : List Triple) → IsTableOf g roles.now →
-        AddsMarks (IsNodeWithRole g term.now) marks.old.items marks.new.items) }
+fn mark(reading: &Reading, term: &Term, marks: &mut Vec<bool>)
+    requires { IsReading reading.now }
+    ensures { AddsMarks (IsNodeWithRole reading.now.graph.now term.now) marks.old.items
+        marks.new.items }
 {
-    if let Some(number) = number_of(roles, term)? {
+    if let Some(number) = number_of(reading, term) {
         if number < marks.len() {
             marks[number] = true;
         }
     }
-    Ok(())
 }
 
 /// The number of the term, where it is a node with a role.
-fn number_of(roles: &Roles, term: &Term) -> Result<Option<usize>, NoMemory>
-    ensures { IfOk result (λ found. (g : List Triple) → IsTableOf g roles.now →
-        IsNumberWithRole g term.now found) }
+fn number_of(reading: &Reading, term: &Term) -> Option<usize>
+    requires { IsReading reading.now }
+    ensures { IsNumberWithRole reading.now.graph.now term.now result }
 {
     match term {
-        Term::Blank(label) => number_with_role(roles, label),
-        Term::Iri(_) | Term::Literal(_) => Ok(None),
+        Term::Blank(label) => number_with_role(reading, label),
+        Term::Iri(_) | Term::Literal(_) => None,
     }
 }
 
 /// The number of the node, where it has a role.
-fn number_with_role(roles: &Roles, label: &Label) -> Result<Option<usize>, NoMemory>
-    ensures { IfOk result (λ found. (g : List Triple) → IsTableOf g roles.now →
-        IsNumberWithRole g (Blank label.now) found) }
+fn number_with_role(reading: &Reading, label: &Label) -> Option<usize>
+    requires { IsReading reading.now }
+    ensures { IsNumberWithRole reading.now.graph.now (Blank label.now) result }
 {
-    if is_individual(roles.role(label)) {
-        return Ok(None);
+    if is_individual(reading.roles.role(label)) {
+        None
+    } else {
+        reading.roles.number(label)
     }
-    let Some(number) = roles.number(label) else {
-        return Err(NoMemory);
-    };
-    Ok(Some(number))
 }
 
 fn is_individual(role: Role) -> bool
@@ -133,17 +127,18 @@ fn mark_next(
     number: usize,
     marks: &mut Vec<bool>,
 ) -> Result<(), NoMemory>
-    requires { IsReading reading.now }
+    requires reading { IsReading reading.now }
+    requires node { number < length reading.now.roles.now.nodes }
     ensures { OnOk result (AddsMarks (IsNext reading.now.graph.now marks.old.items number)
         marks.old.items marks.new.items) }
 {
     let Some(label) = reading.roles.node(number) else {
-        return Err(NoMemory);
+        unreachable!();
     };
     let role = reading.roles.role(label);
     if reaches_on(role, has_mark(marks, number)) {
         let triples = about(alloc, reading.graph, label)?;
-        mark_objects(reading.roles, role, triples, marks)?;
+        mark_objects(reading, role, triples, marks);
     }
     Ok(())
 }
@@ -169,19 +164,14 @@ fn about<'a>(alloc: Global, graph: &'a Graph, label: &Label) -> Result<&'a [Trip
 }
 
 /// Marks the nodes that are objects of the own triples of a node of the role.
-fn mark_objects(
-    roles: &Roles,
-    role: Role,
-    triples: &[Triple],
-    marks: &mut Vec<bool>,
-) -> Result<(), NoMemory>
-    ensures { OnOk result ((g : List Triple) → IsTableOf g roles.now →
-        AddsMarks (IsBySome (IsObjectOf g role) triples.now) marks.old.items marks.new.items) }
+fn mark_objects(reading: &Reading, role: Role, triples: &[Triple], marks: &mut Vec<bool>)
+    requires { IsReading reading.now }
+    ensures { AddsMarks (IsBySome (IsObjectOf reading.now.graph.now role) triples.now)
+        marks.old.items marks.new.items }
 {
     'triples: for triple in triples {
         if is_own(role, triple) {
-            mark(roles, &triple.object, marks)?;
+            mark(reading, &triple.object, marks);
         }
     }
-    Ok(())
 }

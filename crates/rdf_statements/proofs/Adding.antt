@@ -20,7 +20,8 @@ use Rattle.owl_list.specs.FilterLaws.{in_filter}
 use Rattle.rdf_meaning.specs.ListLaws.{only_one}
 use Rattle.rdf_meaning.specs.Nodes.{is_blank, is_role, is_structural, nodes_of, role_of, subjects_of}
 use Rattle.rdf_meaning.specs.Statements.{AreAxioms, no_triple, triple, AreNodeAxioms, no_node, an_axiom, set, Annotates, IsAxiomOf, IsAxiomOfNode, Variants, bare, noted, axioms_of, is_annotation_triple, is_header_triple, main_triples, notes, notes_of}
-use Rattle.rdf_roles.specs.Tables.{IsTableOf, RoleTable, blank_nodes, labels_in, with_role}
+use Rattle.rdf_roles.specs.NodeLaws.{keys_are}
+use Rattle.rdf_roles.specs.Tables.{IsTableOf, RoleTable, blank_nodes, labels_in}
 use Rattle.rdf_scans.specs.Sorts.{is_main, sort_of}
 use Rattle.rdf_scans.specs.declared.sorts.TripleSort.{TripleSort}
 use Rattle.rdf_scans.specs.declared.sorts.TripleSort.TheVariants.{Structural, Header, Annotation, Main}
@@ -161,10 +162,10 @@ module _ (g : List Triple) (k : List Entity) (header : Term) where
   pub in_main : (t : Triple) (i : ℕ) → slice_get g i ≡ Some t → is_main_triple g k header t ≡ true → Contains (main_triples g k header) t
   in_main t i at e = subst (λ ts. Contains ts t) (sym main_are) (in_filter (is_main_triple g k header) g t (at_place g i t at) e)
 
-  pub axiom_fault : (t : Triple) → Contains (main_triples g k header) t → (f : TreeFault) → IsFaultOfSome (IsAxiomOf g k t) f → IsFaultOfSome (IsTreeOf g k header) f
+  pub axiom_fault : {H : Type 0} (t : Triple) → Contains (main_triples g k header) t → (f : TreeFault H) → IsFaultOfSome (IsAxiomOf g k t) f → IsFaultOfSome (IsTreeOf g k header) f
   axiom_fault t m f = fault_of_some (IsAxiomOf g k t) (IsTreeOf g k header) (λ a is. of_axiom t a m is) f
 
-  pub node_fault : (x : Term) → role_of g x ≡ role.Main → (f : TreeFault) → IsFaultOfSome (IsAxiomOfNode g k x) f → IsFaultOfSome (IsTreeOf g k header) f
+  pub node_fault : {H : Type 0} (x : Term) → role_of g x ≡ role.Main → (f : TreeFault H) → IsFaultOfSome (IsAxiomOfNode g k x) f → IsFaultOfSome (IsTreeOf g k header) f
   node_fault x r f = fault_of_some (IsAxiomOfNode g k x) (IsTreeOf g k header) (λ a is. of_axiom_node x a r is) f
 
   pub told : (u t : Triple) → u ≡ t → (s : TripleSort) (answer b : Bool) → s ≡ sort_of g k header u → answer ≡ is_main s → answer ≡ b → is_main_triple g k header t ≡ b
@@ -196,12 +197,8 @@ main_role role.Note e = cc
 main_role role.Header e = cc
 main_role role.Individual e = cc
 
-pub keys_with_role : (g : List Triple) (all : List (List ℕ)) → keys_of (map (with_role g) all) ≡ all
-keys_with_role g [] = refl
-keys_with_role g (label ∷ all) = ap (λ more. label ∷ more) (keys_with_role g all)
-
 pub labels_are : (g : List Triple) (roles : RoleTable) → IsTableOf g roles → keys_of roles.nodes ≡ blank_nodes g
-labels_are g roles table = ap keys_of table.nodes ∙ keys_with_role g (blank_nodes g)
+labels_are g roles table = keys_are g roles.nodes table.nodes
 
 pub as_many_nodes : (g : List Triple) (roles : RoleTable) → IsTableOf g roles → length roles.nodes ≡ length (blank_nodes g)
 as_many_nodes g roles table = sym (length-map roles.nodes (λ e. e.0)) ∙ ap length (labels_are g roles table)

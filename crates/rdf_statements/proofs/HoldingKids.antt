@@ -107,7 +107,7 @@ module _ (g : List Triple) (k : List Entity) (roles : RoleTable) where
       among = Contains-append_right h.trees (t ∷ ts) t (in_head t ts);
     }
 
-    pub kid_fault : (Now : Tree → N → Type 0) (numbers : List N) (x : Kid) (rest behind : List Kid) → AreKidsHeld Now numbers rest → rest ≡ x ∷ behind → HaveTrees g k roles all → (f : TreeFault) →
+    pub kid_fault : {H : Type 0} (Now : Tree → N → Type 0) (numbers : List N) (x : Kid) (rest behind : List Kid) → AreKidsHeld Now numbers rest → rest ≡ x ∷ behind → HaveTrees g k roles all → (f : TreeFault H) →
         IsFaultOfSome (KidMeans g k roles x) f → IsFaultOfSome (IsOfKids g k roles all) f
     kid_fault Now numbers x rest behind h first has f fault =
         let s =
@@ -163,11 +163,11 @@ module _ (g : List Triple) (k : List Entity) (roles : RoleTable) where
       let v = from_map (λ s. node form.tag (kids_of (s ∷ kids))) ss t m in
       record { kids = kids; mean = mean; annotations = v.element; inside = v.inside; whole = sym v.value }
 
-  pub form_fault : (form : AxiomForm) (ss kids : List Tree) → AllKidsMean g k roles form.kids.items kids → (f : TreeFault) → IsFaultOfOne (axioms_of form.tag kids ss) f →
+  pub form_fault : {H : Type 0} (form : AxiomForm) (ss kids : List Tree) → AllKidsMean g k roles form.kids.items kids → (f : TreeFault H) → IsFaultOfOne (axioms_of form.tag kids ss) f →
       IsFaultOfSome (IsOfForm g k roles form ss) f
   form_fault form ss kids mean f = fault_of_some (Contains (axioms_of form.tag kids ss)) (IsOfForm g k roles form ss) (of_form form ss kids mean) f
 
-  pub form_has_fault : (form : AxiomForm) (ss : List Tree) (s : Tree) → Contains ss s → (f : TreeFault) → IsFaultOfSome (IsOfKids g k roles form.kids.items) f →
+  pub form_has_fault : {H : Type 0} (form : AxiomForm) (ss : List Tree) (s : Tree) → Contains ss s → (f : TreeFault H) → IsFaultOfSome (IsOfKids g k roles form.kids.items) f →
       IsFaultOfSome (IsOfForm g k roles form ss) f
   form_has_fault form ss s m f =
       fault_by_some (IsOfKids g k roles form.kids.items) (IsOfForm g k roles form ss) f

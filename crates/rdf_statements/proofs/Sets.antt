@@ -86,7 +86,7 @@ module _ {N : Type 0} (Old : Tree → N → Type 0) where
           };
     }
 
-    pub next_fault : (fault : TreeFault) → ((s : Tree) (ts : List Tree) → Now s set → StandFor Now ts kids → IsTreeFault (axiom_of tag ts s) fault) →
+    pub next_fault : {H : Type 0} (fault : TreeFault H) → ((s : Tree) (ts : List Tree) → Now s set → StandFor Now ts kids → IsTreeFault (axiom_of tag ts s) fault) →
         (ss ts : List Tree) → StandFor Old ss sets → StandFor Old ts kids → IsFaultOfOne (axioms_of tag ts ss) fault
     next_fault fault is ss ts hs hk =
         let n = the_next Now tag ts ss axioms rest set behind (h.each ss ts hs hk) first in

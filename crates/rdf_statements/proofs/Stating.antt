@@ -24,12 +24,12 @@ use Rattle.rdf_statements.proofs.Faults.{fault_of_some}
 use Rattle.rdf_statements.proofs.Held.{all_held}
 
 module _ (g : List Triple) (k : List Entity) (header : Term) where
-  pub noted_fault : (f : TreeFault) → IsFaultOfSome (IsNotedTree g k header) f → IsFaultOfSome (IsTreeOf g k header) f
+  pub noted_fault : {H : Type 0} (f : TreeFault H) → IsFaultOfSome (IsNotedTree g k header) f → IsFaultOfSome (IsTreeOf g k header) f
   noted_fault f h = fault_of_some (IsNotedTree g k header) (IsTreeOf g k header) (λ t is. of_annotation t is) f h
 
-  pub node_fault : (f : TreeFault) → IsSomeNodeFault g k f → IsFaultOfSome (IsTreeOf g k header) f
+  pub node_fault : {H : Type 0} (f : TreeFault H) → IsSomeNodeFault g k f → IsFaultOfSome (IsTreeOf g k header) f
   node_fault TooDeep h = (h.1.0, of_node h.0 h.1.0 h.1.1, h.1.2)
-  node_fault TooHeavy h = (h.1.0, of_node h.0 h.1.0 h.1.1, h.1.2)
+  node_fault (TooHeavy _) h = (h.1.0, of_node h.0 h.1.0 h.1.1, h.1.2)
   node_fault Memory h = tt
 
   -- the axioms of triples, and then those of nodes

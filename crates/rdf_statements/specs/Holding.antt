@@ -22,7 +22,7 @@ use Rattle.rdf_statements.specs.GraphTrees.{AreStatements, IsHeldWithin, IsTreeO
 use Rattle.rdf_statements.specs.Forms.{AllKidsMean, KidMeans}
 
 -- one of these trees is too deep or too heavy
-abbrev pub IsFaultOfOne : List Tree → TreeFault → Type 0
+abbrev pub IsFaultOfOne : {H : Type 0} → List Tree → TreeFault H → Type 0
 IsFaultOfOne ts = IsFaultOfSome (Contains ts)
 
 module _ (g : List Triple) (k : List Entity) (roles : RoleTable) where

@@ -19,7 +19,7 @@ pub(crate) fn hold_axioms<S: TreeStore>(
     tag: Tag,
     sets: &[S::Number],
     kids: &[S::Number],
-) -> Result<Vec<S::Number>, TreeFault>
+) -> Result<Vec<S::Number>, TreeFault<S::Heavy>>
     requires sets { AreStanding (S.stands store.old) sets.now }
     requires kids { AreStanding (S.stands store.old) kids.now }
     ensures held { (ss ts : List Tree) → StandFor (S.stands store.old) ss sets.now
@@ -48,7 +48,7 @@ pub(crate) fn hold_axiom<S: TreeStore>(
     tag: Tag,
     set: S::Number,
     kids: &[S::Number],
-) -> Result<S::Number, TreeFault>
+) -> Result<S::Number, TreeFault<S::Heavy>>
     requires { AreStanding (S.stands store.old) (set ∷ kids.now) }
     ensures held { (s : Tree) (ts : List Tree) → S.stands store.old s set
         → StandFor (S.stands store.old) ts kids.now →

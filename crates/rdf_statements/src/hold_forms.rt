@@ -21,7 +21,7 @@ pub(crate) fn hold_form<S: TreeStore>(
     ids: &[Option<S::Number>],
     form: &AxiomForm,
     sets: &[S::Number],
-) -> Result<Vec<S::Number>, TreeFault>
+) -> Result<Vec<S::Number>, TreeFault<S::Heavy>>
     requires numbered { AreNumbered source.now.graph.now source.now.kinds.now source.now.roles.now
         (S.stands store.old) ids.now }
     requires known { AreKnown source.now.graph.now source.now.roles.now ids.now }
@@ -47,7 +47,7 @@ fn hold_kids<S: TreeStore>(
     store: &mut S,
     ids: &[Option<S::Number>],
     kids: &[Kid],
-) -> Result<Vec<S::Number>, TreeFault>
+) -> Result<Vec<S::Number>, TreeFault<S::Heavy>>
     requires numbered { AreNumbered source.now.graph.now source.now.kinds.now source.now.roles.now
         (S.stands store.old) ids.now }
     requires known { AreKnown source.now.graph.now source.now.roles.now ids.now }
@@ -75,7 +75,7 @@ fn hold_kid<S: TreeStore>(
     store: &mut S,
     ids: &[Option<S::Number>],
     kid: &Kid,
-) -> Result<S::Number, TreeFault>
+) -> Result<S::Number, TreeFault<S::Heavy>>
     requires numbered { AreNumbered source.now.graph.now source.now.kinds.now source.now.roles.now
         (S.stands store.old) ids.now }
     requires known { AreKnown source.now.graph.now source.now.roles.now ids.now }

@@ -27,7 +27,7 @@ pub(crate) fn add_nodes<S: TreeStore>(
     known: &Known<S::Number>,
     store: &mut S,
     axioms: &mut Vec<S::Number>,
-) -> Result<(), TreeFault>
+) -> Result<(), TreeFault<S::Heavy>>
     requires { IsKnown (S.stands store.old) known.now }
     ensures added { OnOk result (Adds (S.stands store.old) (S.stands store.new)
         (AreNodeAxioms known.now.annotated.reading.graph.now
@@ -50,7 +50,7 @@ fn add_node<S: TreeStore>(
     store: &mut S,
     number: usize,
     axioms: &mut Vec<S::Number>,
-) -> Result<(), TreeFault>
+) -> Result<(), TreeFault<S::Heavy>>
     requires known { IsKnown (S.stands store.old) known.now }
     requires number { number < length known.now.annotated.reading.roles.now.nodes }
     ensures added { (label : List ℕ)
@@ -81,7 +81,7 @@ fn hold_node<S: TreeStore>(
     known: &Known<S::Number>,
     store: &mut S,
     label: &Label,
-) -> Result<Vec<S::Number>, TreeFault>
+) -> Result<Vec<S::Number>, TreeFault<S::Heavy>>
     requires known { IsKnown (S.stands store.old) known.now }
     requires main { role_of known.now.annotated.reading.graph.now (held.Blank label.now)
         ≡ role.Main }
@@ -111,7 +111,7 @@ fn hold_only_set<S: TreeStore>(
     known: &Known<S::Number>,
     store: &mut S,
     label: &Label,
-) -> Result<Vec<S::Number>, TreeFault>
+) -> Result<Vec<S::Number>, TreeFault<S::Heavy>>
     requires known { IsKnown (S.stands store.old) known.now }
     requires main { role_of known.now.annotated.reading.graph.now (held.Blank label.now)
         ≡ role.Main }

@@ -3,7 +3,7 @@
 ghost use Rattle.std.specs.Prelude.{IfErr, IfOk, OnOk};
 ghost use Rattle.owl_tree.specs.Trees.{Tree};
 ghost use Rattle.rdf_annotations.specs.Annotations.{AreSets, IsFaultOfSome};
-ghost use Rattle.rdf_annotations.specs.Held.{IsAnnotated};
+ghost use Rattle.rdf_annotations.specs.Held.{AreTypedNotes, IsAnnotated};
 ghost use Rattle.rdf_meaning.specs.Kinds.{HaveNoClash};
 ghost use Rattle.rdf_nodes.specs.Numbers.{DenoteTrees};
 ghost use Rattle.rdf_scans.specs.Sorts.{IsReading};
@@ -39,10 +39,12 @@ pub fn hold_statements<S: TreeStore>(
     alloc: Global,
     reading: &Reading,
     store: &mut S,
-) -> Result<Statements<S::Number>, TreeFault>
+) -> Result<Statements<S::Number>, TreeFault<S::Heavy>>
     requires reading { IsReading reading.now }
     requires kinds { HaveNoClash reading.now.kinds.now }
     requires axioms { StatesAxioms reading.now.graph.now reading.now.kinds.now
+        reading.now.header.now }
+    requires notes { AreTypedNotes reading.now.graph.now reading.now.kinds.now
         reading.now.header.now }
     requires nodes { DenoteTrees reading.now.graph.now reading.now.kinds.now }
     ensures stated { IfOk result (λ said. AreStatements (S.stands store.new)
@@ -68,7 +70,7 @@ pub fn hold_statements<S: TreeStore>(
 fn hold_annotated<S: TreeStore>(
     annotated: &Annotated,
     store: &mut S,
-) -> Result<Statements<S::Number>, TreeFault>
+) -> Result<Statements<S::Number>, TreeFault<S::Heavy>>
     requires annotated { IsAnnotated annotated.now }
     requires kinds { HaveNoClash annotated.now.reading.kinds.now }
     requires axioms { StatesAxioms annotated.now.reading.graph.now
@@ -91,7 +93,7 @@ fn hold_noted<S: TreeStore>(
     annotated: &Annotated,
     sets: &Sets<S::Number>,
     store: &mut S,
-) -> Result<Statements<S::Number>, TreeFault>
+) -> Result<Statements<S::Number>, TreeFault<S::Heavy>>
     requires annotated { IsAnnotated annotated.now }
     requires kinds { HaveNoClash annotated.now.reading.kinds.now }
     requires axioms { StatesAxioms annotated.now.reading.graph.now
@@ -128,7 +130,7 @@ fn hold_noted<S: TreeStore>(
 fn hold_known<S: TreeStore>(
     known: &Known<S::Number>,
     store: &mut S,
-) -> Result<Statements<S::Number>, TreeFault>
+) -> Result<Statements<S::Number>, TreeFault<S::Heavy>>
     requires { IsKnown (S.stands store.old) known.now }
     ensures stated { IfOk result (λ said. AreStatements (S.stands store.new)
         known.now.annotated.reading.graph.now known.now.annotated.reading.kinds.now
@@ -151,7 +153,7 @@ fn hold_known<S: TreeStore>(
 fn hold_all_axioms<S: TreeStore>(
     known: &Known<S::Number>,
     store: &mut S,
-) -> Result<Vec<S::Number>, TreeFault>
+) -> Result<Vec<S::Number>, TreeFault<S::Heavy>>
     requires { IsKnown (S.stands store.old) known.now }
     ensures held { IfOk result (λ axioms. StandForAxioms (S.stands store.new)
         known.now.annotated.reading.graph.now known.now.annotated.reading.kinds.now

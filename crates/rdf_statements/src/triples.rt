@@ -21,7 +21,7 @@ pub(crate) fn add_triples<S: TreeStore>(
     known: &Known<S::Number>,
     store: &mut S,
     axioms: &mut Vec<S::Number>,
-) -> Result<(), TreeFault>
+) -> Result<(), TreeFault<S::Heavy>>
     requires { IsKnown (S.stands store.old) known.now }
     ensures added { OnOk result (Adds (S.stands store.old) (S.stands store.new)
         (AreAxioms known.now.annotated.reading.graph.now known.now.annotated.reading.kinds.now
@@ -44,7 +44,7 @@ fn add_triple<S: TreeStore>(
     store: &mut S,
     place: usize,
     axioms: &mut Vec<S::Number>,
-) -> Result<(), TreeFault>
+) -> Result<(), TreeFault<S::Heavy>>
     requires known { IsKnown (S.stands store.old) known.now }
     requires place { place < length known.now.annotated.reading.graph.now }
     ensures added { (t : Triple) → slice_get known.now.annotated.reading.graph.now place ≡ Some t →
@@ -71,7 +71,7 @@ fn hold_triple<S: TreeStore>(
     known: &Known<S::Number>,
     store: &mut S,
     place: usize,
-) -> Result<Vec<S::Number>, TreeFault>
+) -> Result<Vec<S::Number>, TreeFault<S::Heavy>>
     requires known { IsKnown (S.stands store.old) known.now }
     requires place { place < length known.now.annotated.reading.graph.now }
     requires main { (t : Triple) → slice_get known.now.annotated.reading.graph.now place ≡ Some t →

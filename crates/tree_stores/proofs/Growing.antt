@@ -10,8 +10,7 @@ use Rattle.owl_tree.specs.Canonical.{canonical}
 use Rattle.owl_tree.specs.CanonicalLaws.{canonical_depth, canonical_node}
 use Rattle.owl_tree.specs.declared.tag.Tag.{Tag}
 use Rattle.owl_tree.specs.Trees.{Tree, depth, kids_of, node, weight}
-use Rattle.tree_stores.specs.declared.fault.TreeFault.TheVariants.{TooDeep, TooHeavy}
-use Rattle.tree_stores.specs.Stores.{AreStanding, HasNumber, IsTreeFault, Keeps, StandFor}
+use Rattle.tree_stores.specs.Stores.{AreStanding, HasNumber, IsDeep, IsHeavy, Keeps, StandFor}
 
 get_more : (old more : List Tree) (id : ℕ) (t : Tree) → slice_get old id ≡ Some t → slice_get (old ++ more) id ≡ Some t
 get_more old more id t e =
@@ -48,8 +47,8 @@ depth_is : (trees ts : List Tree) (tag : Tag) (ids : List ℕ) → StandFor (Has
 depth_is trees ts tag ids h =
     sym (canonical_depth (node_over trees tag ids)) ∙ ap depth (node_is trees ts tag ids h) ∙ canonical_depth (node tag (kids_of ts))
 
-pub node_too_deep : (trees ts : List Tree) (tag : Tag) (ids : List ℕ) → StandFor (HasNumber trees) ts ids → IsTooDeep (node_over trees tag ids) → IsTreeFault (node tag (kids_of ts)) TooDeep
+pub node_too_deep : (trees ts : List Tree) (tag : Tag) (ids : List ℕ) → StandFor (HasNumber trees) ts ids → IsTooDeep (node_over trees tag ids) → IsDeep (node tag (kids_of ts))
 node_too_deep trees ts tag ids h d = subst (λ n. deepest < n) (depth_is trees ts tag ids h) d.deep
 
-pub node_too_heavy : (trees ts : List Tree) (tag : Tag) (ids : List ℕ) → StandFor (HasNumber trees) ts ids → IsTooHeavy (node_over trees tag ids) → IsTreeFault (node tag (kids_of ts)) TooHeavy
+pub node_too_heavy : (trees ts : List Tree) (tag : Tag) (ids : List ℕ) → StandFor (HasNumber trees) ts ids → IsTooHeavy (node_over trees tag ids) → IsHeavy (node tag (kids_of ts))
 node_too_heavy trees ts tag ids h d = subst (λ t. heaviest < weight t) (node_is trees ts tag ids h) d.heavy

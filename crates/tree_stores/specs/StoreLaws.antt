@@ -1,9 +1,12 @@
 -- Numbers that stand for trees, as a store takes more.
-use Rattle.std.specs.Prelude.{◌≤◌, ℕ, List, [], ◌∷◌, ◌++◌}
-use Rattle.std.proofs.Common.{sym, subst}
-use Rattle.owl_arena.specs.Shared.{deepest}
-use Rattle.owl_tree.specs.Trees.{Tree, depth}
-use Rattle.tree_stores.specs.Stores.{AreStanding, HasDepth, Keeps, StandFor}
+use Rattle.std.specs.Prelude.{◌≡◌, ◌≤◌, ℕ, List, [], ◌∷◌, ◌++◌}
+use Rattle.std.proofs.Common.{arith, refl, sym, subst}
+use Rattle.owl_arena.specs.Shared.{deepest, heaviest}
+use Rattle.owl_tree.specs.CanonicalLaws.{canonical_weight}
+use Rattle.owl_tree.specs.Trees.{Tree, depth, weight}
+use Rattle.tree_stores.specs.declared.fault.TreeFault.{TreeFault}
+use Rattle.tree_stores.specs.declared.fault.TreeFault.TheVariants.{TooDeep, TooHeavy, Memory}
+use Rattle.tree_stores.specs.Stores.{AreStanding, HasDepth, IsSmall, IsTreeFault, Keeps, StandFor}
 
 module _ {N : Type 0} where
   pub keeps_all : (Old : Tree → N → Type 0) → Keeps Old Old
@@ -38,3 +41,12 @@ module _ {N : Type 0} where
 -- what has a depth is not too deep
 pub shallow_tree : (t : Tree) (d : ℕ) → HasDepth t d → depth t ≤ deepest
 shallow_tree t d h = subst (λ n. n ≤ deepest) (sym h.is) h.shallow
+
+-- a tree of few levels, nodes and leaves is taken, unless memory is wanting
+pub few_are_small : (t : Tree) → depth t ≤ deepest → weight t ≤ heaviest → IsSmall t
+few_are_small t shallow light = record { shallow = shallow; light = let less = canonical_weight t in omega (arith, less, light) }
+
+pub only_memory : {H : Type 0} (t : Tree) → IsSmall t → (fault : TreeFault H) → IsTreeFault t fault → fault ≡ Memory
+only_memory t small TooDeep h = absurd (omega (arith, small.shallow, h))
+only_memory t small (TooHeavy _) h = absurd (omega (arith, small.light, h))
+only_memory t small Memory h = refl

@@ -46,8 +46,16 @@ pub record IsSmall (t : Tree) : Type 0 where
   pub shallow : depth t ≤ deepest
   pub light : weight (canonical t) ≤ heaviest
 
--- The tree is too deep, or its canonical form too heavy; want of memory is told of any.
-abbrev pub IsTreeFault : Tree → TreeFault → Type 0
-IsTreeFault t TooDeep = deepest < depth t
-IsTreeFault t TooHeavy = heaviest < weight (canonical t)
+-- it has more levels than a tree may have
+abbrev pub IsDeep : Tree → Type 0
+IsDeep t = deepest < depth t
+
+-- its canonical form has more nodes and leaves
+abbrev pub IsHeavy : Tree → Type 0
+IsHeavy t = heaviest < weight (canonical t)
+
+-- The tree is too deep or too heavy; want of memory is told of any.
+abbrev pub IsTreeFault : {H : Type 0} → Tree → TreeFault H → Type 0
+IsTreeFault t TooDeep = IsDeep t
+IsTreeFault t (TooHeavy h) = IsHeavy t
 IsTreeFault t Memory = Unit {0}

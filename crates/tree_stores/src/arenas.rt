@@ -13,13 +13,15 @@ use owl_tree::{Atom, Tag};
 impl TreeStore for Arena {
     type Number = ExprId;
 
+    type Heavy = ();
+
     ghost stands = { λ arena t id. HasNumber arena.trees t id };
 
     fn hold_leaf(&mut self, tag: Tag, atom: Atom) -> Result<ExprId, NoMemory> {
         self.leaf(tag, atom).map_err(|_| NoMemory)
     }
 
-    fn hold_node(&mut self, tag: Tag, kids: Vec<ExprId>) -> Result<ExprId, TreeFault>
+    fn hold_node(&mut self, tag: Tag, kids: Vec<ExprId>) -> Result<ExprId, TreeFault<()>>
         requires { AreStanding (HasNumber self.old.trees) kids.items }
         ensures held { (ts : List Tree) → StandFor (HasNumber self.old.trees) ts kids.items →
             IfOk result (HasNumber self.new.trees (node tag (kids_of ts))) }
@@ -30,7 +32,7 @@ impl TreeStore for Arena {
         match self.node(tag, kids) {
             Ok(id) => Ok(id),
             Err(Grow::TooDeep) => Err(TreeFault::TooDeep),
-            Err(Grow::TooHeavy) => Err(TreeFault::TooHeavy),
+            Err(Grow::TooHeavy) => Err(TreeFault::TooHeavy(())),
             Err(Grow::BadShape | Grow::TooMany | Grow::Memory) => Err(TreeFault::Memory),
         }
     }

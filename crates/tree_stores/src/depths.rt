@@ -9,6 +9,7 @@ use crate::store::TreeStore;
 use owl_arena::DEEPEST;
 use owl_characters::NoMemory;
 use owl_tree::{Atom, Tag};
+use std::convert::Infallible;
 
 /// A store whose numbers are the depths of trees, which holds nothing.
 #[derive(Clone, Copy, Debug)]
@@ -17,13 +18,15 @@ pub struct Depths;
 impl TreeStore for Depths {
     type Number = u32;
 
+    type Heavy = Infallible;
+
     ghost stands = { λ _ t d. HasDepth t d };
 
     fn hold_leaf(&mut self, _tag: Tag, _atom: Atom) -> Result<u32, NoMemory> {
         Ok(1)
     }
 
-    fn hold_node(&mut self, _tag: Tag, kids: Vec<u32>) -> Result<u32, TreeFault>
+    fn hold_node(&mut self, _tag: Tag, kids: Vec<u32>) -> Result<u32, TreeFault<Infallible>>
         requires { AreStanding HasDepth kids.items }
         ensures held { (ts : List Tree) → StandFor HasDepth ts kids.items →
             IfOk result (HasDepth (node _tag (kids_of ts))) }

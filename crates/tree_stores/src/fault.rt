@@ -7,32 +7,32 @@ use owl_characters::NoMemory;
 use std::alloc::AllocError;
 use thiserror::Error;
 
-/// Why a tree is not taken.
+/// Why a tree is not taken, by a store whose trees are too heavy by an `H`.
 #[derive(Clone, Copy, Debug, PartialEq, Eq, Error)]
-pub enum TreeFault {
+pub enum TreeFault<H> {
     /// The tree is more than 128 levels deep.
     #[error("the expression is too deep")]
     TooDeep,
     /// The tree has more than 2^24 nodes and leaves.
     #[error("the expression is too heavy")]
-    TooHeavy,
+    TooHeavy(H),
     /// Memory ran out.
     #[error("out of memory")]
     Memory,
 }
 
-impl From<NoMemory> for TreeFault {
+impl<H> From<NoMemory> for TreeFault<H> {
     ghost from_gives = { λ _ e. e ≡ Memory };
 
-    fn from(_e: NoMemory) -> TreeFault {
+    fn from(_e: NoMemory) -> TreeFault<H> {
         TreeFault::Memory
     }
 }
 
-impl From<AllocError> for TreeFault {
+impl<H> From<AllocError> for TreeFault<H> {
     ghost from_gives = { λ _ e. e ≡ Memory };
 
-    fn from(_e: AllocError) -> TreeFault {
+    fn from(_e: AllocError) -> TreeFault<H> {
         TreeFault::Memory
     }
 }

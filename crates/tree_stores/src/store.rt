@@ -12,6 +12,10 @@ use owl_tree::{Atom, Tag};
 pub trait TreeStore {
     type Number: Copy;
 
+    /// What is told beside `TooHeavy`: of a store that never tells it, a type of no
+    /// values.
+    type Heavy: Copy;
+
     /// The number is one that was given for the tree.
     ghost stands: { Self → Tree → Self.Number → Type 0 };
 
@@ -24,7 +28,11 @@ pub trait TreeStore {
     ///
     /// `TooDeep` where it is more than 128 levels deep, `TooHeavy` where it has
     /// more than 2^24 nodes and leaves.
-    fn hold_node(&mut self, tag: Tag, kids: Vec<Self::Number>) -> Result<Self::Number, TreeFault>
+    fn hold_node(
+        &mut self,
+        tag: Tag,
+        kids: Vec<Self::Number>,
+    ) -> Result<Self::Number, TreeFault<Self::Heavy>>
         requires { AreStanding (stands self.old) kids.items }
         ensures held { (ts : List Tree) → StandFor (stands self.old) ts kids.items →
             IfOk result (stands self.new (node tag (kids_of ts))) }

@@ -1,14 +1,17 @@
 use Rattle.std.proofs.Common.{inl, refl, subst, sym}
 use Rattle.rdf_annotations.specs.Annotations.{IsFaultOfSome}
 use Rattle.rdf_statements.specs.GraphTrees.{IsTreeOf}
-use Rattle.rdf_reverse.specs.Clear.{clear_denotes, clear_states}
+use Rattle.rdf_reverse.specs.Clear.{clear_denotes, clear_notes, clear_states}
 use Rattle.rdf_reverse.specs.Reverse.{IsFoundBy, limits}
 use Rattle.rdf_reverse.proofs.Limiting.{deep_tree_found, heavy_found, none_beyond}
 use Rattle.rdf_reverse.proofs.trees.fault_of_heavy.Goals as goal
-use Rattle.rdf_reverse.proofs.trees.fault_of_heavy.Goals.{in-Ok, in-Err-TooDeep, in-Err-TooHeavy}
+use Rattle.rdf_reverse.proofs.trees.fault_of_heavy.Goals.{in-Ok, in-Err-TooDeep, in-Err-Memory}
 
 pub hold_statements-requires-clause-axioms : goal.hold_statements-requires-clause-axioms
 hold_statements-requires-clause-axioms c = clear_states c.args.reading.now c.requires.clear
+
+pub hold_statements-requires-clause-notes : goal.hold_statements-requires-clause-notes
+hold_statements-requires-clause-notes c = clear_notes c.args.reading.now c.requires.clear
 
 pub hold_statements-requires-clause-nodes : goal.hold_statements-requires-clause-nodes
 hold_statements-requires-clause-nodes c = clear_denotes c.args.reading.now c.requires.clear c.requires.small
@@ -25,5 +28,5 @@ returns c =
           subst Found (sym w.result-is)
           (deep_tree_found reading c.requires.clear.is_reading.one_header c.requires.small
           (subst (IsFaultOfSome (IsTreeOf reading.graph.now reading.kinds.now reading.header.now)) w.in-Err-TooDeep.field-0-is w.in-Err-TooDeep.ensures.fault))
-      | in-Err-TooHeavy w ↦ subst Found (sym w.result-is) (inl refl)
+      | in-Err-Memory w ↦ subst Found (sym w.result-is) (inl refl)
     ]

@@ -1,13 +1,16 @@
 use Rattle.std.proofs.Common.{subst}
 use Rattle.rdf_annotations.specs.Annotations.{IsFaultOfSome}
 use Rattle.rdf_statements.specs.GraphTrees.{IsTreeOf}
-use Rattle.rdf_reverse.specs.Clear.{clear_denotes, clear_states}
+use Rattle.rdf_reverse.specs.Clear.{clear_denotes, clear_notes, clear_states}
 use Rattle.rdf_reverse.specs.Reverse.{of_tree}
 use Rattle.rdf_reverse.proofs.Limiting.{deep_tree_found, within_limits}
 use Rattle.rdf_reverse.proofs.trees.read_statements.Goals as goal
 
 pub hold_statements-requires-clause-axioms : goal.hold_statements-requires-clause-axioms
 hold_statements-requires-clause-axioms c = clear_states c.args.reading.now c.requires
+
+pub hold_statements-requires-clause-notes : goal.hold_statements-requires-clause-notes
+hold_statements-requires-clause-notes c = clear_notes c.args.reading.now c.requires
 
 pub hold_statements-requires-clause-nodes : goal.hold_statements-requires-clause-nodes
 hold_statements-requires-clause-nodes c =

@@ -1,7 +1,13 @@
 use Rattle.owl_characters.specs.ResultLaws.{passed}
+use Rattle.rdf_annotations.specs.AnnotationLaws.{all_have_sets}
 use Rattle.rdf_statements.proofs.Adding.{known_still}
 use Rattle.rdf_statements.proofs.Stating.{noted_fault, statements_are}
 use Rattle.rdf_statements.proofs.statements.hold_known.Goals as goal
+
+pub hold_annotations-requires-clause-known : goal.hold_annotations-requires-clause-known
+hold_annotations-requires-clause-known g c = λ t _ _ _.
+    let known = c.args.known.now in
+    all_have_sets known.annotated.reading.graph.now known.annotated.reading.roles.now known.sets.now.of_nodes.items c.requires.sets.all t
 
 pub returns-in_err-annotations-clause-fault : goal.returns-in_err-annotations-clause-fault
 returns-in_err-annotations-clause-fault g c =

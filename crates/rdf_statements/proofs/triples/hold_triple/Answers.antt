@@ -3,6 +3,7 @@ use Rattle.std.proofs.lemmas.Option.{same_Some}
 use Rattle.rdf_meaning.specs.Denotation.{of_triple}
 use Rattle.rdf_meaning.specs.Statements.{AreAxioms, IsAxiomOf}
 use Rattle.tree_stores.specs.Stores.{StandFor}
+use Rattle.rdf_annotations.specs.AnnotationLaws.{all_have_sets}
 use Rattle.rdf_annotations.specs.Annotations.{IsFaultOfSome}
 use Rattle.rdf_statements.specs.Forms.{IsAxiomForm}
 use Rattle.rdf_statements.specs.Holding.{IsOfForm, StandForSome}
@@ -11,6 +12,11 @@ use Rattle.rdf_statements.proofs.Faults.{fault_of_some}
 use Rattle.rdf_statements.proofs.HoldingKids.{err_more, ok_more}
 use Rattle.rdf_statements.proofs.Standing.{form_has}
 use Rattle.rdf_statements.proofs.triples.hold_triple.Goals as goal
+
+pub variants-requires-clause-known : goal.variants-requires-clause-known
+variants-requires-clause-known g c = λ t _.
+    let known = c.args.known.now in
+    all_have_sets known.annotated.reading.graph.now known.annotated.reading.roles.now known.sets.now.of_nodes.items c.requires.known.sets.all t
 
 pub unreachable-requires : goal.unreachable-requires
 unreachable-requires g c =

@@ -2,6 +2,12 @@ use Rattle.tree_stores.specs.StoreLaws.{keeps_more}
 use Rattle.rdf_annotations.specs.AnnotationLaws.{some_sets_kept}
 use Rattle.rdf_annotations.proofs.annotated.Annotated.said.Goals as goal
 
+pub hold_property-requires : goal.hold_property-requires
+hold_property-requires g c = (c.requires.typed c.at-triple.result.now c.at-triple.ensures.at).property
+
+pub hold_value-requires : goal.hold_value-requires
+hold_value-requires g c = (c.requires.typed c.at-triple.result.now c.at-triple.ensures.at).value
+
 pub variants-requires-clause-sets : goal.variants-requires-clause-sets
 variants-requires-clause-sets g c =
     let r = c.args.self.now.reading in

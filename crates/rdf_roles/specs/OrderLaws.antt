@@ -17,13 +17,15 @@ from_range count number m =
     let within : m.0 < count = subst (λ n. m.0 < n) (length-range_with_len 0 count) m.1 in
     subst (λ n. n < count) (omega (arith, sym (get_or-range_with_len 0 count m.0 number within) ∙ m.2)) within
 
--- each node has a number of the table, and stands in its order
+-- a number of the order is that of a node of the table, and each of these stands in it
+
+pub is_node : (g : List Triple) (order : List ℕ) → IsNodeOrder g order → (number : ℕ) → Contains order number → number < length (blank_nodes g)
+is_node g order is number m =
+    subst (λ n. number < n) is.are.each (from_range (length is.edges) number (Contains-permutation order _ number (IsPermutation-sym _ order is.is_order.all) m))
 
 pub is_of_node : (g : List Triple) (roles : RoleTable) → IsTableOf g roles → (number : ℕ) → Contains roles.order number → number < length roles.nodes
 is_of_node g roles table number m =
-    let is = table.order in
-    let as_many : length is.edges ≡ length roles.nodes = is.are.each ∙ sym (ap length table.nodes ∙ length-map (blank_nodes g) (with_role g)) in
-    subst (λ n. number < n) as_many (from_range (length is.edges) number (Contains-permutation roles.order _ number (IsPermutation-sym _ roles.order is.is_order.all) m))
+    subst (λ n. number < n) (sym (ap length table.nodes ∙ length-map (blank_nodes g) (with_role g))) (is_node g roles.order table.order number m)
 
 pub is_in_order : (g : List Triple) (roles : RoleTable) → IsTableOf g roles → (number : ℕ) → number < length roles.nodes → Contains roles.order number
 is_in_order g roles table number inside =

@@ -5,7 +5,7 @@ use Rattle.owl_doc.specs.Entities.{AddsAll, AddsSome}
 use Rattle.rdf_graph.specs.declared.triple.Triple.{Triple}
 use Rattle.rdf_scans.specs.Outlines.{declarations}
 use Rattle.rdf_scans.proofs.Declaring.{more_declared, on_err, one_more_declared}
-use Rattle.rdf_scans.proofs.declarations.declare_all.Goals as goal
+use Rattle.rdf_scans.proofs.declarations.declare_graph.Goals as goal
 
 pub returns-in_err-declare-clause-err : goal.returns-in_err-declare-clause-err
 returns-in_err-declare-clause-err c =
