@@ -1,9 +1,8 @@
 -- Documents that are filled.
-use Rattle.std.proofs.Common.{◌≡◌, ◌↔◌, ◌<◌, ◌≤◌, ◌+◌, inl, inr, ℕ, Bool, true, false, IsTrue, List, [], ◌∷◌, ◌++◌, length, take, drop, get_or, Contains, Result, Ok, Err, IsErrOf, nat_eq, refl, sym, ap, ◌∙◌, subst, arith}
+use Rattle.std.proofs.Common.{◌≡◌, ◌↔◌, ◌<◌, ◌≤◌, ◌+◌, inl, inr, ℕ, Bool, true, false, IsTrue, List, [], ◌∷◌, ◌++◌, length, take, drop, get_or, Contains, nat_eq, refl, sym, ap, ◌∙◌, subst, arith}
 use Rattle.std.specs.Prelude.{map}
 use Rattle.std.specs.Cmp.{nat_eq_equiv}
-use Rattle.std.specs.List.{list_any, sum_by}
-use Rattle.std.specs.Result.{IsErrAnd}
+use Rattle.std.specs.List.{AllByRecursion, list_any, sum_by}
 use Rattle.std.proofs.lemmas.Bool.{eqb-true, false≢true}
 use Rattle.std.proofs.lemmas.List.{take-append-drop, take_more}
 use Rattle.std.proofs.lemmas.List.Elements.{Contains-append_cases, Contains-append_left, Contains-append_right}
@@ -12,23 +11,21 @@ use Rattle.std.proofs.lemmas.Map.Views.{Contains-from_any, list_any-from_Contain
 use Rattle.owl_arena.specs.Held.{AreHeld, tree_at, trees_at}
 use Rattle.owl_arena.specs.Shared.{AreShared, heaviest}
 use Rattle.owl_assembly.specs.Assembled.{assembled}
-use Rattle.owl_assembly.specs.declared.fault.AssembleFault.{AssembleFault}
-use Rattle.owl_assembly.specs.declared.fault.AssembleFault.TheVariants.{TooHeavy}
-use Rattle.owl_assembly.specs.Filling.{HasAxioms, HasNotes, IsFilled, fault_of, with_axioms, with_imports, with_notes}
+use Rattle.owl_assembly.specs.Filling.{AreAnnotations, AreAxioms, HasAxioms, HasNotes, IsFilled, with_axioms, with_imports, with_notes}
 use Rattle.owl_assembly.proofs.Weighing.{part_weighs}
-use Rattle.owl_doc.specs.declared.fault.AddFault.{AddFault}
-use Rattle.owl_doc.specs.declared.fault.AddFault.TheVariants as add
 use Rattle.owl_doc.specs.declared.head.Head as held
-use Rattle.owl_doc.specs.Documents.{Document, IsBegun, IsDocument, PassesWeight, nothing_yet, ontology_of, weight_at, with_axiom, with_name, with_note}
+use Rattle.owl_doc.specs.Documents.{Document, IsAnnotationAt, IsAxiomAt, IsBegun, IsDocument, PassesWeight, nothing_yet, ontology_of, weight_at, with_axiom, with_name, with_note}
 use Rattle.owl_doc.specs.Heads.{name_of}
 use Rattle.owl_list.specs.Ascending.{AreApart, HoldSame}
-use Rattle.owl_list.specs.AscendingLaws.{ascending_same, in_cases, in_none, same_map}
+use Rattle.owl_list.specs.AscendingLaws.{all_in, ascending_same, in_cases, in_map, in_none, same_map}
 use Rattle.owl_tree.specs.Canonical.{canonical}
 use Rattle.owl_tree.specs.Ontologies.{Ontology, canonical_list, canonical_ontology, list_weight, ontology_weight}
 use Rattle.owl_tree.specs.OntologyLaws.{canonical_same_ontology, same_ontology_weight}
 use Rattle.owl_tree.specs.Order.{tree_cmp}
 use Rattle.owl_tree.specs.OrderLaws.{only_equal_trees_tie, trees_total}
-use Rattle.owl_tree.specs.Trees.{Tree, weight}
+use Rattle.owl_tree.specs.declared.tag.Tag.TheVariants as tag
+use Rattle.owl_tree.specs.Tags.{is_axiom}
+use Rattle.owl_tree.specs.Trees.{Tree, tag_of, weight}
 
 -- a number that is not new is there
 is_there : (ids : List ℕ) (id : ℕ) → (IsTrue false ↔ (Contains ids id → ⊥)) → Contains ids id
@@ -151,9 +148,13 @@ module _ (d : Document) (head : held.Head) (notes axioms : List ℕ) (first note
 pub light : (d : Document) (o : Ontology) → IsDocument d → ontology_of d ≡ canonical_ontology o → ontology_weight o ≤ heaviest
 light d o h e = subst (λ (n : ℕ). n ≤ heaviest) (ap ontology_weight e ∙ sym (same_ontology_weight o (canonical_ontology o) (canonical_same_ontology o))) h.weight
 
--- a fault that becomes `TooHeavy` was
-pub was_heavy : {S T : Type 0} (r : Result T AssembleFault) (fault : AddFault) → IsErrAnd r (λ e. e ≡ fault_of fault) → IsErrOf r TooHeavy → IsErrOf {T = S} (Err fault) add.TooHeavy
-was_heavy (Ok x) fault g h = cc
-was_heavy (Err e) add.TooHeavy g h = refl
-was_heavy (Err e) add.Memory g h = cc
-was_heavy (Err e) add.WrongTag g h = cc
+-- what is added is an annotation, or an axiom
+module _ (d now : Document) (ids : List ℕ) (i id : ℕ) (n : IsNext ids i id) where
+  holds_at : (P : Tree → Type 0) → AllByRecursion P (trees_at d.arena.trees ids) → P (tree_at d.arena.trees id)
+  holds_at P all = all_in P (trees_at d.arena.trees ids) (tree_at d.arena.trees id) all (in_map (tree_at d.arena.trees) ids id (i, n.inside, sym n.number))
+
+  pub is_annotation : HasNotes d (take i ids) now → AreAnnotations (trees_at d.arena.trees ids) → IsAnnotationAt now id
+  is_annotation h all = subst (λ (e : Document). IsAnnotationAt e id) (sym h.rest) (holds_at (λ t. tag_of t ≡ tag.Annotation) all)
+
+  pub is_axiom_there : HasAxioms d (take i ids) now → AreAxioms (trees_at d.arena.trees ids) → IsAxiomAt now id
+  is_axiom_there h all = subst (λ (e : Document). IsAxiomAt e id) (sym h.rest) (holds_at (λ t. IsTrue (is_axiom (tag_of t))) all)

@@ -1,18 +1,18 @@
 -- Documents that are filled.
-use Rattle.std.specs.Prelude.{◌≡◌, ℕ, List}
-use Rattle.owl_assembly.specs.declared.fault.AssembleFault.{AssembleFault}
-use Rattle.owl_assembly.specs.declared.fault.AssembleFault.TheVariants.{Memory, TooHeavy}
-use Rattle.owl_doc.specs.declared.fault.AddFault.{AddFault}
-use Rattle.owl_doc.specs.declared.fault.AddFault.TheVariants as add
+use Rattle.std.specs.Prelude.{◌≡◌, ℕ, IsTrue, List}
+use Rattle.std.specs.List.{AllByRecursion}
 use Rattle.owl_doc.specs.Documents.{Document, ontology_of, with_head}
 use Rattle.owl_list.specs.Ascending.{HoldSame}
+use Rattle.owl_tree.specs.declared.tag.Tag.TheVariants as tag
 use Rattle.owl_tree.specs.Ontologies.{Ontology, canonical_ontology}
+use Rattle.owl_tree.specs.Tags.{is_axiom}
+use Rattle.owl_tree.specs.Trees.{Tree, tag_of}
 
--- a part that is not added
-abbrev pub fault_of : AddFault → AssembleFault
-fault_of add.TooHeavy = TooHeavy
-fault_of add.Memory = Memory
-fault_of add.WrongTag = Memory
+abbrev pub AreAnnotations : List Tree → Type 0
+AreAnnotations = AllByRecursion (λ t. tag_of t ≡ tag.Annotation)
+
+abbrev pub AreAxioms : List Tree → Type 0
+AreAxioms = AllByRecursion (λ t. IsTrue (is_axiom (tag_of t)))
 
 -- with these in place of those that there were
 abbrev pub with_imports : List (List ℕ) → Document → Document

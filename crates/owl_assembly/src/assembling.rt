@@ -1,10 +1,10 @@
 //! Documents from a head and from the numbers of their annotations and axioms.
 
 ghost use Rattle.std.specs.Prelude.{◌≡◌, ◌<◌, ◌≤◌, [], IfErr, IfOk, IsErrOf, OnOk};
-ghost use Rattle.owl_arena.specs.Held.{AreHeld};
+ghost use Rattle.owl_arena.specs.Held.{AreHeld, trees_at};
 ghost use Rattle.owl_arena.specs.Shared.{heaviest};
 ghost use Rattle.owl_assembly.specs.Assembled.{assembled};
-ghost use Rattle.owl_assembly.specs.Filling.{HasAxioms, HasNotes, IsFilled, with_axioms, with_imports, with_notes};
+ghost use Rattle.owl_assembly.specs.Filling.{AreAnnotations, AreAxioms, HasAxioms, HasNotes, IsFilled, with_axioms, with_imports, with_notes};
 ghost use Rattle.owl_assembly.specs.declared.fault.AssembleFault.{AssembleFault};
 ghost use Rattle.owl_doc.specs.Documents.{nothing_yet, ontology_of};
 ghost use Rattle.owl_doc.specs.Heads.{StandsBeside};
@@ -13,7 +13,7 @@ ghost use Rattle.owl_tree.specs.Ontologies.{canonical_ontology, ontology_weight}
 use crate::fault::AssembleFault;
 use owl_arena::{Arena, ExprId};
 use owl_atom::{Iri, Prefixes};
-use owl_doc::{Builder, Doc, Head};
+use owl_doc::{AddFault, Builder, Doc, Head};
 use std::alloc::Global;
 
 /// The document with these prefixes, this head, and the annotations and axioms
@@ -31,6 +31,8 @@ pub fn assemble(
 ) -> Result<Doc, AssembleFault>
     requires annotations { AreHeld arena.trees annotations.now }
     requires axioms { AreHeld arena.trees axioms.now }
+    requires are_annotations { AreAnnotations (trees_at arena.trees annotations.now) }
+    requires are_axioms { AreAxioms (trees_at arena.trees axioms.now) }
     requires head { StandsBeside head.version head.iri }
     ensures ontology { IfOk result (λ doc. ontology_of doc
         ≡ canonical_ontology (assembled head arena.trees annotations.now axioms.now)) }
@@ -58,6 +60,9 @@ fn fill(
 ) -> Result<(), AssembleFault>
     requires annotations { AreHeld builder.old.arena.trees annotations.now }
     requires axioms { AreHeld builder.old.arena.trees axioms.now }
+    requires are_annotations { AreAnnotations
+        (trees_at builder.old.arena.trees annotations.now) }
+    requires are_axioms { AreAxioms (trees_at builder.old.arena.trees axioms.now) }
     requires head { StandsBeside head.version head.iri }
     requires empty { builder.old ≡ nothing_yet builder.old.prefixes builder.old.arena }
     ensures filled { OnOk result (IsFilled builder.old
@@ -86,6 +91,7 @@ fn import_all(builder: &mut Builder, iris: Vec<Iri>) -> Result<(), AssembleFault
 /// Adds these annotations, each once.
 fn annotate_all(builder: &mut Builder, ids: &[ExprId]) -> Result<(), AssembleFault>
     requires held { AreHeld builder.old.arena.trees ids.now }
+    requires are_annotations { AreAnnotations (trees_at builder.old.arena.trees ids.now) }
     requires empty { builder.old.notes ≡ [] }
     ensures added { OnOk result (HasNotes builder.old ids.now builder.new) }
     ensures heavy { IsErrOf result AssembleFault.TooHeavy
@@ -94,7 +100,12 @@ fn annotate_all(builder: &mut Builder, ids: &[ExprId]) -> Result<(), AssembleFau
     'ids: for id in ids {
         // Equal trees have one number.
         let _trees = builder.arena().distinct();
-        builder.annotate(*id)?;
+        match builder.annotate(*id) {
+            Ok(_new) => {}
+            Err(AddFault::TooHeavy) => return Err(AssembleFault::TooHeavy),
+            Err(AddFault::Memory) => return Err(AssembleFault::Memory),
+            Err(AddFault::WrongTag) => unreachable!(),
+        }
     }
     Ok(())
 }
@@ -102,6 +113,7 @@ fn annotate_all(builder: &mut Builder, ids: &[ExprId]) -> Result<(), AssembleFau
 /// Adds these axioms, each once.
 fn add_all(builder: &mut Builder, ids: &[ExprId]) -> Result<(), AssembleFault>
     requires held { AreHeld builder.old.arena.trees ids.now }
+    requires are_axioms { AreAxioms (trees_at builder.old.arena.trees ids.now) }
     requires empty { builder.old.axioms ≡ [] }
     ensures added { OnOk result (HasAxioms builder.old ids.now builder.new) }
     ensures heavy { IsErrOf result AssembleFault.TooHeavy
@@ -110,7 +122,12 @@ fn add_all(builder: &mut Builder, ids: &[ExprId]) -> Result<(), AssembleFault>
     'ids: for id in ids {
         // Equal trees have one number.
         let _trees = builder.arena().distinct();
-        builder.add(*id)?;
+        match builder.add(*id) {
+            Ok(_new) => {}
+            Err(AddFault::TooHeavy) => return Err(AssembleFault::TooHeavy),
+            Err(AddFault::Memory) => return Err(AssembleFault::Memory),
+            Err(AddFault::WrongTag) => unreachable!(),
+        }
     }
     Ok(())
 }

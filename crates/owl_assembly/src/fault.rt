@@ -1,11 +1,9 @@
 //! Why parts make no document.
 
 ghost use Rattle.std.specs.Prelude.{◌≡◌};
-ghost use Rattle.owl_assembly.specs.Filling.{fault_of};
 ghost use Rattle.owl_assembly.specs.declared.fault.AssembleFault.TheVariants.{Memory};
 
 use owl_characters::NoMemory;
-use owl_doc::AddFault;
 use thiserror::Error;
 
 /// Why parts make no document.
@@ -24,18 +22,5 @@ impl From<NoMemory> for AssembleFault {
 
     fn from(_e: NoMemory) -> AssembleFault {
         AssembleFault::Memory
-    }
-}
-
-impl From<AddFault> for AssembleFault {
-    ghost from_gives = { λ fault e. e ≡ fault_of fault };
-
-    fn from(fault: AddFault) -> AssembleFault {
-        match fault {
-            AddFault::TooHeavy => AssembleFault::TooHeavy,
-            AddFault::Memory => AssembleFault::Memory,
-            // No part has another tag.
-            AddFault::WrongTag => AssembleFault::Memory,
-        }
     }
 }

@@ -1,3 +1,4 @@
 mod Assembling
 mod Finding
 mod Limiting
+mod Tagging
