@@ -2,12 +2,14 @@
 use Rattle.std.proofs.Common.{◌≡◌, ◌<◌, ◌≤◌, ◌+◌, arith, ℕ, zero, suc, Bool, true, List, [], ◌∷◌, length, take, get_or, Contains, IsTrue, Result, Ok, Err, IsErrOf, refl, sym, ap, ◌∙◌, subst, inl, inr}
 use Rattle.std.specs.Prelude.{◌↔◌}
 use Rattle.std.proofs.lemmas.List.Sums.{sum_by-cons}
+use Rattle.std.specs.List.{AllByRecursion}
 use Rattle.std.specs.Result.{IsErrAnd}
 use Rattle.owl_arena.specs.Held.{tree_at, trees_at}
 use Rattle.owl_arena.specs.Shared.{heaviest}
-use Rattle.owl_doc.specs.Documents.{Document, total_weight, weight_at, with_axiom, with_import, with_note}
+use Rattle.owl_doc.specs.Documents.{Document, IsAnnotationAt, IsAxiomAt, total_weight, weight_at, with_axiom, with_import, with_note}
 use Rattle.owl_list.specs.Ascending.{AreApart}
-use Rattle.owl_list.specs.AscendingLaws.{in_cases, in_none}
+use Rattle.owl_list.specs.AscendingLaws.{all_in, in_cases, in_map, in_none}
+use Rattle.owl_tree.specs.Ontologies.{IsAnnotation, IsAxiom}
 use Rattle.owl_tree.specs.Trees.{Tree, weight}
 use Rattle.rdf_normal.specs.Building.{with_axioms, with_imports, with_notes}
 use Rattle.rdf_normal.proofs.Extending.{one_further}
@@ -74,6 +76,17 @@ axioms_too_heavy b now ids i id e l at heavy =
     let here = subst (λ (d : Document). heaviest < total_weight d + weight (tree_at d.arena.trees id)) e heavy in
     let part = part_weighs b.arena.trees ids i id l at in
     omega arith
+
+-- what is added is an annotation, or an axiom
+module _ (b now : Document) (ids : List ℕ) (i id : ℕ) (l : i < length ids) (at : id ≡ get_or ids i id) where
+  holds_at : (P : Tree → Type 0) → AllByRecursion P (trees_at b.arena.trees ids) → P (tree_at b.arena.trees id)
+  holds_at P all = all_in P (trees_at b.arena.trees ids) (tree_at b.arena.trees id) all (in_map (tree_at b.arena.trees) ids id (at_later ids i id l at))
+
+  pub is_note : now ≡ with_notes (take i ids) b → AllByRecursion IsAnnotation (trees_at b.arena.trees ids) → IsAnnotationAt now id
+  is_note e all = subst (λ (d : Document). IsAnnotationAt d id) (sym e) (holds_at IsAnnotation all).tag
+
+  pub is_axiom_there : now ≡ with_axioms (take i ids) b → AllByRecursion IsAxiom (trees_at b.arena.trees ids) → IsAxiomAt now id
+  is_axiom_there e all = subst (λ (d : Document). IsAxiomAt d id) (sym e) (holds_at IsAxiom all).tag
 
 pub err_of : {T E : Type 0} (r : Result T E) (e : E) → r ≡ Err e → IsErrOf r e
 err_of {T} {E} r e h = subst (λ (q : Result T E). IsErrOf q e) (sym h) refl

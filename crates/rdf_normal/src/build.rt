@@ -1,11 +1,12 @@
 //! The document of a normal form.
 
 ghost use Rattle.std.specs.Prelude.{◌≡◌, ◌<◌, ◌+◌, ◌++◌, ◌↔◌, [], IfErr, IfOk, IsErrOf, OnOk, length};
-ghost use Rattle.owl_arena.specs.Held.{AreHeld};
+ghost use Rattle.std.specs.List.{AllByRecursion};
+ghost use Rattle.owl_arena.specs.Held.{AreHeld, trees_at};
 ghost use Rattle.owl_arena.specs.Shared.{heaviest};
 ghost use Rattle.owl_doc.specs.Documents.{ontology_of, total_weight, weight_at, with_head};
 ghost use Rattle.owl_list.specs.Ascending.{AreApart};
-ghost use Rattle.owl_tree.specs.Ontologies.{canonical_ontology};
+ghost use Rattle.owl_tree.specs.Ontologies.{IsAnnotation, IsAxiom, canonical_ontology};
 ghost use Rattle.rdf_normal.specs.Building.{document_with, with_axioms, with_imports, with_notes};
 ghost use Rattle.rdf_normal.specs.declared.fault.NormFault.{NormFault};
 
@@ -26,6 +27,8 @@ pub fn build(
 ) -> Result<Doc, NormFault>
     requires notes { AreHeld arena.trees notes.now × AreApart notes.now }
     requires axioms { AreHeld arena.trees axioms.now × AreApart axioms.now }
+    requires are_notes { AllByRecursion IsAnnotation (trees_at arena.trees notes.now) }
+    requires are_axioms { AllByRecursion IsAxiom (trees_at arena.trees axioms.now) }
     ensures ontology { IfOk result (λ made. ontology_of made
         ≡ canonical_ontology (ontology_of (document_with doc.now arena notes.now axioms.now))) }
     ensures prefixes { IfOk result (λ made. made.prefixes ≡ doc.now.prefixes) }
@@ -50,6 +53,8 @@ fn fill(
 ) -> Result<(), NormFault>
     requires notes { AreHeld builder.old.arena.trees notes.now × AreApart notes.now }
     requires axioms { AreHeld builder.old.arena.trees axioms.now × AreApart axioms.now }
+    requires are_notes { AllByRecursion IsAnnotation (trees_at builder.old.arena.trees notes.now) }
+    requires are_axioms { AllByRecursion IsAxiom (trees_at builder.old.arena.trees axioms.now) }
     requires empty { (builder.old.notes ≡ []) × (builder.old.axioms ≡ []) }
     requires no_imports { builder.old.head.imports ≡ [] }
     ensures filled { OnOk result (builder.new
@@ -90,6 +95,7 @@ fn add_imports(alloc: Global, builder: &mut Builder, iris: &[Iri]) -> Result<(),
 /// Adds these annotations.
 fn add_notes(builder: &mut Builder, ids: &[ExprId]) -> Result<(), NormFault>
     requires held { AreHeld builder.old.arena.trees ids.now }
+    requires are_notes { AllByRecursion IsAnnotation (trees_at builder.old.arena.trees ids.now) }
     requires apart { AreApart ids.now }
     requires empty { builder.old.notes ≡ [] }
     ensures added { OnOk result (builder.new ≡ with_notes ids.now builder.old) }
@@ -101,7 +107,7 @@ fn add_notes(builder: &mut Builder, ids: &[ExprId]) -> Result<(), NormFault>
             Ok(_new) => {}
             Err(AddFault::TooHeavy) => return Err(NormFault::TooHeavy),
             Err(AddFault::Memory) => return Err(NormFault::Memory),
-            Err(AddFault::WrongTag) => return Err(NormFault::Memory),
+            Err(AddFault::WrongTag) => unreachable!(),
         }
     }
     Ok(())
@@ -110,6 +116,7 @@ fn add_notes(builder: &mut Builder, ids: &[ExprId]) -> Result<(), NormFault>
 /// Adds these axioms.
 fn add_axioms(builder: &mut Builder, ids: &[ExprId]) -> Result<(), NormFault>
     requires held { AreHeld builder.old.arena.trees ids.now }
+    requires are_axioms { AllByRecursion IsAxiom (trees_at builder.old.arena.trees ids.now) }
     requires apart { AreApart ids.now }
     requires empty { builder.old.axioms ≡ [] }
     ensures added { OnOk result (builder.new ≡ with_axioms ids.now builder.old) }
@@ -121,7 +128,7 @@ fn add_axioms(builder: &mut Builder, ids: &[ExprId]) -> Result<(), NormFault>
             Ok(_new) => {}
             Err(AddFault::TooHeavy) => return Err(NormFault::TooHeavy),
             Err(AddFault::Memory) => return Err(NormFault::Memory),
-            Err(AddFault::WrongTag) => return Err(NormFault::Memory),
+            Err(AddFault::WrongTag) => unreachable!(),
         }
     }
     Ok(())

@@ -4,6 +4,7 @@ ghost use Rattle.std.specs.Prelude.{◌≡◌, ◌∷◌, [], ◌++◌, IfErr, I
 ghost use Rattle.owl_arena.specs.Growth.{Adds};
 ghost use Rattle.owl_arena.specs.Held.{AreHeld, node_over};
 ghost use Rattle.owl_tree.specs.Canonical.{canonical};
+ghost use Rattle.owl_tree.specs.Shape.{IsShaped};
 ghost use Rattle.owl_tree.specs.Trees.{leaf};
 ghost use Rattle.rdf_normal.specs.Makings.{IsMade};
 ghost use Rattle.rdf_normal.specs.declared.fault.NormFault.{NormFault};
@@ -34,6 +35,7 @@ pub fn make(arena: &mut Arena, tag: Tag, kids: Vec<ExprId>) -> Result<ExprId, No
 
 /// Adds the leaf, unless it is there.
 pub fn add_leaf(arena: &mut Arena, tag: Tag, atom: Atom) -> Result<(), NormFault>
+    requires { IsShaped (leaf tag atom) }
     ensures added { OnOk result (Adds arena.old.trees arena.new.trees (leaf tag atom)) }
     ensures memory { IfErr result (λ fault. fault ≡ NormFault.Memory) }
 {
@@ -41,9 +43,9 @@ pub fn add_leaf(arena: &mut Arena, tag: Tag, atom: Atom) -> Result<(), NormFault
         Ok(_id) => Ok(()),
         Err(Grow::Memory) => Err(NormFault::Memory),
         Err(Grow::TooMany) => Err(NormFault::Memory),
-        Err(Grow::BadShape) => Err(NormFault::Memory),
-        Err(Grow::TooDeep) => Err(NormFault::Memory),
-        Err(Grow::TooHeavy) => Err(NormFault::Memory),
+        Err(Grow::BadShape) => unreachable!(),
+        Err(Grow::TooDeep) => unreachable!(),
+        Err(Grow::TooHeavy) => unreachable!(),
     }
 }
 

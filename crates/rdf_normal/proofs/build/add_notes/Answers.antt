@@ -1,13 +1,18 @@
 use Rattle.std.proofs.Common.{Err, ap, ◌∙◌}
 use Rattle.owl_doc.specs.declared.fault.AddFault.{AddFault}
-use Rattle.owl_doc.specs.declared.fault.AddFault.TheVariants.{TooHeavy}
-use Rattle.rdf_normal.proofs.Filling.{err_of, note_added, notes_too_heavy}
+use Rattle.owl_doc.specs.declared.fault.AddFault.TheVariants.{TooHeavy, WrongTag}
+use Rattle.rdf_normal.proofs.Filling.{err_of, is_note, note_added, notes_too_heavy}
 use Rattle.rdf_normal.proofs.build.add_notes.Goals as goal
 
 pub returns-in-Err-TooHeavy-clause-too_heavy : goal.returns-in-Err-TooHeavy-clause-too_heavy
 returns-in-Err-TooHeavy-clause-too_heavy c = λ _.
     notes_too_heavy c.args.builder.now c.ids.builder c.args.ids.now c.ids.id-index c.id-item.result c.ids.invariant c.ids-test.true c.id-item.is
     (c.annotate.ensures.too_heavy.0 (err_of c.annotate.result TooHeavy (c.in-Err-TooHeavy.is ∙ ap (λ (e : AddFault). Err e) c.in-Err-TooHeavy.field-0-is))).1.heavy
+
+pub unreachable-requires : goal.unreachable-requires
+unreachable-requires c =
+    c.annotate.ensures.wrong_tag.0 (err_of c.annotate.result WrongTag (c.in-Err-WrongTag.is ∙ ap (λ (e : AddFault). Err e) c.in-Err-WrongTag.field-0-is))
+    (is_note c.args.builder.now c.ids.builder c.args.ids.now c.ids.id-index c.id-item.result c.ids-test.true c.id-item.is c.ids.invariant c.requires.are_notes)
 
 pub ids-preserved : goal.ids-preserved
 ids-preserved c =

@@ -1,12 +1,14 @@
 use Rattle.std.proofs.Common.{◌<◌, ◌+◌, ℕ, List, ap, sym, ◌∙◌, subst}
-use Rattle.owl_arena.specs.Held.{AreHeld}
+use Rattle.std.specs.List.{AllByRecursion}
+use Rattle.owl_arena.specs.Held.{AreHeld, trees_at}
 use Rattle.owl_arena.specs.Shared.{heaviest}
 use Rattle.owl_doc.specs.Documents.{ontology_of, weight_at}
 use Rattle.owl_list.specs.Ascending.{AreApart}
-use Rattle.owl_tree.specs.Ontologies.{canonical_ontology}
+use Rattle.owl_tree.specs.Ontologies.{IsAnnotation, IsAxiom, canonical_ontology}
 use Rattle.rdf_normal.specs.Building.{document_with}
 use Rattle.rdf_normal.specs.NormalForms.{unsettled_annotations, unsettled_axioms}
 use Rattle.rdf_normal.specs.declared.fault.NormFault.TheVariants.{TooHeavy}
+use Rattle.rdf_normal.specs.ShapedLaws.{normal_is_ontology}
 use Rattle.rdf_normal.proofs.Filling.{passed_on}
 use Rattle.rdf_normal.proofs.SettleTrees.{form_is, settled_apart, weight_is}
 use Rattle.rdf_normal.proofs.steps.normal.Goals as goal
@@ -20,6 +22,20 @@ pub build-requires-clause-axioms : goal.build-requires-clause-axioms
 build-requires-clause-axioms c =
     subst (λ (ns : List ℕ). AreHeld c.settle_all.new.arena.trees ns × AreApart ns) (sym c.deref-2.ensures.value)
     (settled_apart c.in_ok-arena.arena.trees c.settle_all.new.arena.trees c.in_ok-settled.settled.axioms.items (unsettled_axioms (ontology_of c.args.doc.now)) c.in_ok-settled.ensures.settled.axioms)
+
+pub build-requires-clause-are_notes : goal.build-requires-clause-are_notes
+build-requires-clause-are_notes c =
+    let us = c.settle_all.new.arena.trees in
+    let all = (normal_is_ontology (ontology_of c.args.doc.now) c.axioms-document.ensures.document.ontology).annotations in
+    subst (λ (ns : List ℕ). AllByRecursion IsAnnotation (trees_at us ns)) (sym c.deref.ensures.value)
+    (subst (AllByRecursion IsAnnotation) (sym c.in_ok-settled.ensures.settled.notes.trees) all)
+
+pub build-requires-clause-are_axioms : goal.build-requires-clause-are_axioms
+build-requires-clause-are_axioms c =
+    let us = c.settle_all.new.arena.trees in
+    let all = (normal_is_ontology (ontology_of c.args.doc.now) c.axioms-document.ensures.document.ontology).axioms in
+    subst (λ (ns : List ℕ). AllByRecursion IsAxiom (trees_at us ns)) (sym c.deref-2.ensures.value)
+    (subst (AllByRecursion IsAxiom) (sym c.in_ok-settled.ensures.settled.axioms.trees) all)
 
 pub returns-in_err-made-clause-too_heavy : goal.returns-in_err-made-clause-too_heavy
 returns-in_err-made-clause-too_heavy c = λ h.
