@@ -21,11 +21,11 @@ Fit cs = AllAre is_iri_character cs
 abbrev MayFit : Option (List ℕ) → Type 0
 MayFit part = IfSome part Fit
 
-all_front : (p : ℕ → Bool) (xs ys : List ℕ) → AllAre p (xs ++ ys) → AllAre p xs
+pub all_front : (p : ℕ → Bool) (xs ys : List ℕ) → AllAre p (xs ++ ys) → AllAre p xs
 all_front p [] ys h = tt
 all_front p (x ∷ xs) ys h = (h.0, all_front p xs ys h.1)
 
-all_take : (p : ℕ → Bool) (n : ℕ) (cs : List ℕ) → AllAre p cs → AllAre p (take n cs)
+pub all_take : (p : ℕ → Bool) (n : ℕ) (cs : List ℕ) → AllAre p cs → AllAre p (take n cs)
 all_take p n cs h = all_front p (take n cs) (drop n cs) (subst (AllAre p) (sym (take-append-drop n cs)) h)
 
 all_drop : (p : ℕ → Bool) (n : ℕ) (cs : List ℕ) → AllAre p cs → AllAre p (drop n cs)

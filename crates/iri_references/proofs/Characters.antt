@@ -1,11 +1,12 @@
 -- What tests of a text tell of its characters.
-use Rattle.std.proofs.Common.{◌≡◌, ℕ, ◌<◌, ◌+◌, Bool, true, false, ◌≤◌, List, [], None, ◌∷◌, ◌++◌, refl, sym, ap, ◌∙◌, subst, take, drop, length, length-drop, take-append-drop, arith, Some}
-use Rattle.std.specs.Prelude.{◌==◌}
+use Rattle.std.proofs.Common.{◌≡◌, ℕ, ◌<◌, ◌+◌, ◌-◌, Option, Bool, true, false, ◌≤◌, List, [], None, ◌∷◌, ◌++◌, refl, sym, ap, ◌∙◌, subst, take, drop, length, length-drop, take-append-drop, arith, Some}
+use Rattle.std.specs.Prelude.{◌==◌, IfSome}
+use Rattle.std.specs.Option.{MatchOption}
 use Rattle.std.specs.Bool.{MatchBool}
 use Rattle.std.specs.Char.{encode_utf8, len_utf8}
 use Rattle.std.specs.List.{list_all}
 use Rattle.std.specs.Str.{IsUtf8, NoCharPasses, IsCharBoundary, NonePass, bytes_eq, chars, encode_utf8_all}
-use Rattle.std.specs.Str.Pattern.{FindsChar, FindsCharPrefix, HasCharAt, HasPrefixMatch, MatchBeginsAt, RFindsChar}
+use Rattle.std.specs.Str.Pattern.{FindsChar, FindsCharPrefix, FindsTextPrefix, FindsTextSuffix, HasCharAt, HasPrefixMatch, MatchBeginsAt, RFindsChar, StripsPrefix, StripsSuffix}
 use denote.Ref.{Bor}
 use Rattle.std.proofs.lemmas.Bool.{eq-eqb, ne_eqb, not_from_false}
 use Rattle.std.proofs.lemmas.List.{take_more}
@@ -133,3 +134,14 @@ pub begins_is : (c : ℕ) (bs : List ℕ) (r : Bool) → IsUtf8 bs → MatchBool
 begins_is c bs true u h =
     sym (ap (begins_with (λ d. d == c)) (chars_past_char bs (drop h.0 bs) c u h.1.split) ∙ eq-eqb c c refl)
 begins_is c bs false u h = sym (begins_not c (chars bs) bs (encodes-chars bs u) h)
+
+-- what `strip_prefix` and `strip_suffix` tell of them
+pub stripped_front : (front bs : List ℕ) (r : Option (Bor (List ℕ))) → IsUtf8 front → MatchOption r (FindsTextPrefix front bs None) (λ x. StripsPrefix (FindsTextPrefix front) bs x.now) → IfSome r (λ rest. chars bs ≡ chars front ++ chars rest.now)
+stripped_front front bs None u h = tt
+stripped_front front bs (Some rest) u h = ap chars (h.1.1 ∙ ap (λ x. front ++ x) (sym h.2)) ∙ chars-append front rest.now u
+
+pub stripped_end : (end bs : List ℕ) (r : Option (Bor (List ℕ))) → IsUtf8 bs → MatchOption r (FindsTextSuffix end bs None) (λ x. StripsSuffix (FindsTextSuffix end) bs x.now) → IfSome r (λ front. chars bs ≡ chars front.now ++ chars end)
+stripped_end end bs None u h = tt
+stripped_end end bs (Some front) u h =
+    let utf8 : IsUtf8 front.now = subst IsUtf8 (sym (h.2 ∙ ap (λ n. take (length bs - n) bs) h.1.0)) (IsUtf8-take bs (length bs - length end) u h.1.2) in
+    ap chars (h.1.1 ∙ ap (λ x. x ++ end) (sym h.2)) ∙ chars-append front.now end utf8

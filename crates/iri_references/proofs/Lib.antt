@@ -6,3 +6,4 @@ pub mod Allowed
 pub mod Authorities
 pub mod Outputs
 pub mod Rules
+pub mod Fronts

@@ -1,6 +1,6 @@
 -- Paths, segment by segment.
 use Rattle.std.proofs.Common.{◌≡◌, ℕ, ◌+◌, ◌<◌, arith, length, length-append, Bool, true, false, List, [], ◌∷◌, ◌++◌, Option, Some, None, cond, refl, sym, ap, ◌∙◌}
-use Rattle.std.specs.Prelude.{◌==◌, is_none}
+use Rattle.std.specs.Prelude.{◌==◌, ◌||◌, is_none}
 use Rattle.std.proofs.lemmas.Option.{none-some, same_Some}
 use Rattle.std.specs.List.{before_last, list_any}
 use Rattle.iri_references.specs.References.{before, behind, is_empty, slash}
@@ -48,7 +48,7 @@ unfolding without_dot_segments
 output_cut cs = ap output_of (segments_cut cs)
 
 -- a dot segment in front of any slash, and any other
-front_by : (segment : List ℕ) (others : List (List ℕ)) (b : Bool) → is_dot_segment segment ≡ b → output_of (segment ∷ others) ≡ cond b (output_of others) (with_segments segment others)
+pub front_by : (segment : List ℕ) (others : List (List ℕ)) (b : Bool) → is_dot_segment segment ≡ b → output_of (segment ∷ others) ≡ cond b (output_of others) (with_segments segment others)
 front_by segment others b h = ap (λ b. cond b (output_of others) (with_segments segment others)) h
 
 pub front_dots : (cs : List ℕ) (others : Option (List ℕ)) → is_dot_segment (before slash cs) ≡ true → others ≡ behind slash cs → without_dot_segments cs ≡ output_of (segments_behind others)
@@ -101,3 +101,9 @@ next_front cs others h e = sym (front_dots cs (Some others) h e ∙ output_of_so
 
 pub no_front : (cs : List ℕ) → is_dot_segment (before slash cs) ≡ true → None ≡ behind slash cs → without_dot_segments [] ≡ without_dot_segments cs
 no_front cs h e = empty_path ∙ sym (front_dots cs None h e)
+
+-- dot segments, one segment after the other
+pub dots_behind : (text segment : List ℕ) (others : Option (List ℕ)) → segment ≡ before slash text → others ≡ behind slash text → is_dot_segment segment ≡ false → list_any is_dot_segment (segments_behind others) ≡ list_any is_dot_segment (segments_behind (Some text))
+dots_behind text segment others s b other =
+    ap (λ o. list_any is_dot_segment (segments_behind o)) b
+    ∙ sym (ap (list_any is_dot_segment) (segments_cut text) ∙ ap (λ d. d || list_any is_dot_segment (segments_behind (behind slash text))) (ap is_dot_segment (sym s) ∙ other))

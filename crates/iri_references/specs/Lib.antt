@@ -4,3 +4,4 @@ pub mod DotSegmentRules
 pub mod Resolution
 pub mod Views
 pub mod WorkedCases
+pub mod Bases

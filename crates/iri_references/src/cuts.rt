@@ -1,6 +1,6 @@
 //! Texts that are cut at a mark.
 
-ghost use Rattle.std.specs.Prelude.{◌≡◌, ◌<◌};
+ghost use Rattle.std.specs.Prelude.{◌≡◌, ◌++◌, ◌<◌, IfSome};
 ghost use Rattle.std.specs.Str.{chars};
 ghost use Rattle.iri_references.specs.References.{authority_of, before, behind, from_mark, path_of, slash};
 ghost use Rattle.iri_references.specs.Resolution.{through_last_slash};
@@ -52,4 +52,18 @@ pub fn through_last_slash(path: &str) -> &str
         Some(place) => &path[..=place],
         None => "",
     }
+}
+
+/// What stands behind this front of a text, where it is one.
+pub fn behind_front<'a>(text: &'a str, front: &str) -> Option<&'a str>
+    ensures { IfSome result (λ rest. chars text.now ≡ chars front.now ++ chars rest.now) }
+{
+    text.strip_prefix(front)
+}
+
+/// What stands before this end of a text, where it is one.
+pub fn before_end<'a>(text: &'a str, end: &str) -> Option<&'a str>
+    ensures { IfSome result (λ front. chars text.now ≡ chars front.now ++ chars end.now) }
+{
+    text.strip_suffix(end)
 }

@@ -2,8 +2,9 @@
 
 ghost use Rattle.std.specs.Prelude.{◌≡◌, ◌++◌, IfOk, OnOk, false, string_bytes};
 ghost use Rattle.std.specs.Str.{chars};
+ghost use Rattle.std.specs.List.{list_any};
 ghost use Rattle.iri_references.specs.References.{before, slash};
-ghost use Rattle.iri_references.specs.DotSegments.{is_dot_segment, is_double_dot, is_single_dot, last_slash, with_segment, with_segments, without_dot_segments, without_last_segment};
+ghost use Rattle.iri_references.specs.DotSegments.{is_dot_segment, is_double_dot, is_single_dot, last_slash, segments_of, with_segment, with_segments, without_dot_segments, without_last_segment};
 ghost use Rattle.iri_references.specs.Views.{seen, segments_behind};
 
 use crate::cuts::cut;
@@ -85,6 +86,21 @@ fn remove_last_segment(output: &mut String)
 {
     let end = output.as_str().rfind('/').unwrap_or(0);
     output.truncate(end);
+}
+
+/// Whether a segment of the path is a dot segment.
+pub fn has_dot_segment(path: &str) -> bool
+    ensures { result ≡ list_any is_dot_segment (segments_of (chars path.now)) }
+{
+    let mut rest = Some(path);
+    while let Some(text) = rest {
+        let (segment, others) = cut(text, '/');
+        if is_dot_segment(segment) {
+            return true;
+        }
+        rest = others;
+    }
+    false
 }
 
 fn is_dot_segment(segment: &str) -> bool

@@ -1,34 +1,18 @@
 //! What a reference stands for, against a base (RFC 3986, section 5.2).
 
-ghost use Rattle.std.specs.Prelude.{◌≡◌, ◌↔◌, ◌++◌, false, IfOk, IsErrOf, OnOk, string_bytes};
+ghost use Rattle.std.specs.Prelude.{◌≡◌, ◌++◌, false, IfOk, OnOk, string_bytes};
 ghost use Rattle.std.specs.Str.{chars};
 ghost use Rattle.owl_characters.specs.Iri.{AllAre, is_iri_character};
-ghost use Rattle.iri_references.specs.Resolution.{absolute, front_of, marked, merged, recomposed, resolved, resolved_without_scheme, target};
+ghost use Rattle.iri_references.specs.Resolution.{absolute, front_of, marked, merged, recomposed, resolved_without_scheme, target};
 ghost use Rattle.iri_references.specs.Views.{keeps_path, parts_seen, seen};
-ghost use Rattle.rdf_terms.specs.declared.fault.IriFault.{IriFault};
 
 use crate::cuts::{cut, through_last_slash};
 use crate::dot_segments::without_dot_segments;
 use crate::parts::Parts;
-use crate::scan::{are_iri_characters, has_scheme, is_empty};
+use crate::scan::{has_scheme, is_empty};
 use owl_characters::{NoMemory, Text};
-use rdf_terms::{Iri, IriFault};
+use rdf_terms::Iri;
 use std::alloc::Global;
-
-/// The IRI that a reference stands for, against a base (RFC 3986, section 5.2).
-///
-/// A reference with a scheme is taken as it is written: its dot segments stay.
-/// `BadIri` exactly where the reference has a character that no IRI has.
-pub fn resolve(alloc: Global, base: &Iri, reference: &str) -> Result<Iri, IriFault>
-    ensures ok { IfOk result (λ iri. iri ≡ resolved base.now (chars reference.now)) }
-    ensures bad { IsErrOf result IriFault.BadIri
-        ↔ (AllAre is_iri_character (chars reference.now) → ⊥) }
-{
-    if !are_iri_characters(reference) {
-        return Err(IriFault::BadIri);
-    }
-    Ok(resolved(alloc, base, reference)?)
-}
 
 /// The IRI that a reference is without a base: it has to have a scheme. Its
 /// characters are such as an IRI may have.
@@ -43,20 +27,8 @@ pub fn absolute(alloc: Global, reference: &str) -> Result<Option<Iri>, NoMemory>
     }
 }
 
-/// The IRI that a reference with the characters of IRIs alone stands for.
-fn resolved(alloc: Global, base: &Iri, reference: &str) -> Result<Iri, NoMemory>
-    requires { AllAre is_iri_character (chars reference.now) }
-    ensures { IfOk result (λ iri. iri ≡ resolved base.now (chars reference.now)) }
-{
-    if has_scheme(reference) {
-        return Iri::known(alloc, reference);
-    }
-    let text = resolved_without_scheme(alloc, base.text(), reference)?;
-    Iri::known(alloc, text.as_str())
-}
-
 /// The characters that a reference without a scheme stands for.
-fn resolved_without_scheme(alloc: Global, base: &str, reference: &str) -> Result<Text, NoMemory>
+pub fn resolved_without_scheme(alloc: Global, base: &str, reference: &str) -> Result<Text, NoMemory>
     ensures { IfOk result (λ text.
         text ≡ resolved_without_scheme (chars base.now) (chars reference.now)) }
 {
