@@ -12,7 +12,7 @@ ghost use Rattle.ttl_read.specs.Computing.{Computes, TurnsTo};
 ghost use Rattle.ttl_read.specs.NameTables.{AreNames};
 
 use crate::refusals::{of_expanding, of_resolving};
-use iri_references::{absolute, are_iri_characters, resolve};
+use iri_references::{Base, absolute, are_iri_characters};
 use owl_atom::{Iri, Prefixes};
 use owl_characters::Text;
 use owl_reader::{Reason, TokenFault};
@@ -24,7 +24,7 @@ use ttl_tokens::Token;
 /// prefixes, and the prefix that is being declared.
 #[derive(Debug, Drop)]
 pub struct Names {
-    base: Option<Iri>,
+    base: Option<Base>,
     prefixes: Prefixes,
     declaring: Text,
 }
@@ -128,9 +128,59 @@ impl Names {
         ensures { (names : stated.Names) → AreNames self.old names →
             TurnsTo AreNames result self.new (with_base names (iri_of names next.now)) }
     {
+        if let Some(reference) = reference_in(next) {
+            return self.move_base(alloc, reference);
+        }
         let iri = self.iri_of(alloc, next)?;
-        self.base = Some(iri);
+        self.base = Some(Base::of(alloc, &iri)?);
         Ok(())
+    }
+
+    /// Declares what a reference stands for as the base IRI.
+    fn move_base(&mut self, alloc: Global, reference: &str) -> Result<(), TokenFault>
+        ensures { (names : stated.Names) → AreNames self.old names →
+            TurnsTo AreNames result self.new
+            (with_base names (known_iri names.base (chars reference.now))) }
+    {
+        let base = moved(alloc, self.base.take(), reference)?;
+        self.base = Some(base);
+        Ok(())
+    }
+}
+
+/// The reference in a token.
+fn reference_in(next: &Option<Token>) -> Option<&str>
+    ensures { IfSome result (λ reference. (names : stated.Names)
+        → iri_of names next.now ≡ known_iri names.base (chars reference.now)) }
+{
+    match next {
+        Some(Token::Iri(Some(reference))) => Some(reference.as_str()),
+        _ => None,
+    }
+}
+
+/// The base that a reference stands for.
+fn moved(alloc: Global, base: Option<Base>, reference: &str) -> Result<Base, TokenFault>
+    ensures { Computes result (known_iri base (chars reference.now)) }
+{
+    if are_iri_characters(reference) {
+        moved_against(alloc, base, reference)
+    } else {
+        Err(TokenFault::Defect(Reason::BadIri))
+    }
+}
+
+/// The base that a reference of characters that an IRI may have stands for.
+fn moved_against(alloc: Global, base: Option<Base>, reference: &str) -> Result<Base, TokenFault>
+    requires { AllAre is_iri_character (chars reference.now) }
+    ensures { Computes result (against base (chars reference.now)) }
+{
+    match base {
+        Some(base) => base.moved(alloc, reference).map_err(of_resolving),
+        None => {
+            let iri = alone(alloc, reference)?;
+            Ok(Base::of(alloc, &iri)?)
+        }
     }
 }
 
@@ -147,7 +197,7 @@ fn prefix_in(next: &Option<Token>) -> Option<&Text>
 }
 
 /// The IRI of a reference.
-fn known_iri(alloc: Global, base: &Option<Iri>, reference: &str) -> Result<Iri, TokenFault>
+fn known_iri(alloc: Global, base: &Option<Base>, reference: &str) -> Result<Iri, TokenFault>
     ensures { Computes result (known_iri base.now (chars reference.now)) }
 {
     if are_iri_characters(reference) {
@@ -158,12 +208,12 @@ fn known_iri(alloc: Global, base: &Option<Iri>, reference: &str) -> Result<Iri, 
 }
 
 /// The IRI of a reference of characters that an IRI may have.
-fn against(alloc: Global, base: &Option<Iri>, reference: &str) -> Result<Iri, TokenFault>
+fn against(alloc: Global, base: &Option<Base>, reference: &str) -> Result<Iri, TokenFault>
     requires { AllAre is_iri_character (chars reference.now) }
     ensures { Computes result (against base.now (chars reference.now)) }
 {
     match base {
-        Some(base) => resolve(alloc, base, reference).map_err(of_resolving),
+        Some(base) => base.resolve(alloc, reference).map_err(of_resolving),
         None => alone(alloc, reference),
     }
 }
