@@ -80,6 +80,7 @@ pub fn reached(alloc: Global, docs: &[Document]) -> Result<Vec<usize>, NoMemory>
     let heads = heads(alloc, docs)?;
     match closure(alloc, &heads, true) {
         Ok(places) => Ok(places),
-        Err(CloseFault::MissingImport { .. } | CloseFault::Memory) => Err(NoMemory),
+        Err(CloseFault::MissingImport { .. }) => unreachable!(),
+        Err(CloseFault::Memory) => Err(NoMemory),
     }
 }

@@ -3,16 +3,14 @@
 ghost use Rattle.std.specs.Prelude.{◌<◌, [], IfOk, OnOk, length, map};
 ghost use Rattle.owl_documents.specs.Documents.{parsed_of};
 ghost use Rattle.owl_close.specs.Imports.{AreReached};
-ghost use Rattle.owl_doc.specs.Entities.{AddsAll};
-ghost use Rattle.rdf_scans.specs.Outlines.{declarations};
 ghost use Rattle.owl_answer.specs.KindsAt.{AddsAt, AddsOf, AreClosureKinds, AreDeclaredAt, AreOwnKinds};
 ghost use Rattle.owl_answer.specs.Outcome.{heads_in};
 
 use owl_characters::NoMemory;
 use owl_doc::declared;
-use owl_documents::{Document, GraphDocument};
+use owl_documents::Document;
 use owl_tree::Kinds;
-use rdf_reverse::outline;
+use rdf_scans::declare_graph;
 use std::alloc::Global;
 
 /// The kinds that the documents at these places declare, which are those that
@@ -23,7 +21,7 @@ pub fn closure_kinds(alloc: Global, docs: &[Document], places: &[usize]) -> Resu
     ensures { IfOk result (AreClosureKinds (map parsed_of docs.now)) }
 {
     let mut kinds = Kinds::new(alloc);
-    declare_all(alloc, docs, places, &mut kinds)?;
+    declare_all(docs, places, &mut kinds)?;
     // What is declared stands in order.
     kinds.is_empty();
     Ok(kinds)
@@ -34,60 +32,40 @@ pub fn own_kinds(alloc: Global, doc: &Document) -> Result<Kinds, NoMemory>
     ensures { IfOk result (AreOwnKinds (parsed_of doc.now)) }
 {
     let mut kinds = Kinds::new(alloc);
-    declare(alloc, doc, &mut kinds)?;
+    declare(doc, &mut kinds)?;
     // What is declared stands in order.
     kinds.is_empty();
     Ok(kinds)
 }
 
 /// Declares what the documents at these places declare.
-fn declare_all(
-    alloc: Global,
-    docs: &[Document],
-    places: &[usize],
-    kinds: &mut Kinds,
-) -> Result<(), NoMemory>
+fn declare_all(docs: &[Document], places: &[usize], kinds: &mut Kinds) -> Result<(), NoMemory>
     requires { AreDeclaredAt (map parsed_of docs.now) [] kinds.old }
     ensures { OnOk result (AreDeclaredAt (map parsed_of docs.now) places.now kinds.new) }
 {
     for place in places {
-        declare_at(alloc, docs, *place, kinds)?;
+        declare_at(docs, *place, kinds)?;
     }
     Ok(())
 }
 
 /// Declares what the document at this place declares, besides what is declared.
 /// A place where none stands declares nothing.
-fn declare_at(
-    alloc: Global,
-    docs: &[Document],
-    place: usize,
-    kinds: &mut Kinds,
-) -> Result<(), NoMemory>
+fn declare_at(docs: &[Document], place: usize, kinds: &mut Kinds) -> Result<(), NoMemory>
     ensures { OnOk result (AddsAt (map parsed_of docs.now) place kinds.old kinds.new) }
 {
     match docs.get(place) {
-        Some(doc) => declare(alloc, doc, kinds),
+        Some(doc) => declare(doc, kinds),
         None => Ok(()),
     }
 }
 
 /// Declares what the document declares, besides what is declared.
-fn declare(alloc: Global, doc: &Document, kinds: &mut Kinds) -> Result<(), NoMemory>
+fn declare(doc: &Document, kinds: &mut Kinds) -> Result<(), NoMemory>
     ensures { OnOk result (AddsOf (parsed_of doc.now) kinds.old kinds.new) }
 {
     match doc {
         Document::Ontology(doc) => declared(doc, kinds),
-        Document::Graph(graph) => declare_graph(alloc, graph, kinds),
-    }
-}
-
-/// Declares what the graph declares, which has a head.
-fn declare_graph(alloc: Global, doc: &GraphDocument, kinds: &mut Kinds) -> Result<(), NoMemory>
-    ensures { OnOk result (AddsAll kinds.old (declarations doc.now.graph) kinds.new) }
-{
-    match outline(alloc, &doc.graph, kinds) {
-        Ok(_) => Ok(()),
-        Err(_) => Err(NoMemory),
+        Document::Graph(document) => declare_graph(&document.graph, kinds),
     }
 }

@@ -12,6 +12,7 @@ ghost use Rattle.owl_writing.specs.Tables.{declared_prefixes};
 ghost use Rattle.owl_answer.specs.Answers.{IsInTurtle, IsToldOfMain, IsTranslated, outcome_of};
 ghost use Rattle.owl_answer.specs.Outcome.{IsLimited, IsSuccess, shown, translation};
 ghost use Rattle.owl_answer.specs.TurtleOutcome.{IsFunctionalTranslation};
+ghost use Rattle.owl_answer.specs.UnderKinds.{IsOfMain};
 
 use crate::answer::{Answer, done_line, told, too_long_output};
 use crate::refusals::typing_refusal;
@@ -33,14 +34,14 @@ pub fn tell_main(
     kinds: &Kinds,
     main: &Doc,
 ) -> Result<Answer, NoMemory>
+    requires { IsOfMain (request_of command.now) }
     ensures { IfOk result (λ answer. IsToldOfMain (request_of command.now)
         (parsed_of document.now) kinds.now (said_of main.now) (outcome_of answer)) }
 {
     match command {
         Command::Translate { target, .. } => translate(alloc, *target, document, kinds, main),
         Command::Show { .. } => show(alloc, main),
-        // Two documents have no main one.
-        Command::Same { .. } => Err(NoMemory),
+        Command::Same { .. } => unreachable!(),
     }
 }
 

@@ -20,6 +20,9 @@ name-requires c =
     let found : IsFirstFault (map parsed_of c.args.docs.now) c.args.kinds.now c.others.result.now c.in-Some.unsaid = c.in-Some.ensures in
     within_names c.args.docs.now (length (names_of (request_of c.args.command.now))) c.in-Some.unsaid.document found.fault.0 found.fault.1 c.requires.each
 
+pub tell_main-requires : goal.tell_main-requires
+tell_main-requires c = c.requires.closure.of_main
+
 pub returns-in-Some : goal.returns-in-Some
 returns-in-Some c =
     let request = request_of c.args.command.now in
