@@ -16,7 +16,7 @@ ghost use Rattle.fss_grammar.specs.Ready.{ComesFor};
 ghost use Rattle.fss_grammar.specs.Making.{Comes};
 ghost use Rattle.fss_acts.specs.Assembling.{IsComing, IsUnknown, Stands};
 
-use owl_atom::{ExpandFault, Iri, Label, Prefixes};
+use owl_atom::{ExpandFault, Iri, Label, LabelFault, Prefixes};
 use owl_characters::{NoMemory, Text};
 use owl_reader::{Reason, TokenFault};
 use owl_tokens::Token;
@@ -27,10 +27,7 @@ fn iri_of(alloc: Global, text: &Text) -> Result<Iri, NoMemory>
     requires { IsIri text.now }
     ensures { IfOk result (λ iri. iri ≡ text.now) }
 {
-    match Iri::of(alloc, text.as_str()) {
-        Ok(iri) => Ok(iri),
-        Err(_) => Err(NoMemory),
-    }
+    Iri::known(alloc, text.as_str())
 }
 
 /// The label with these characters.
@@ -40,7 +37,8 @@ pub fn label_of(alloc: Global, text: &Text) -> Result<Label, NoMemory>
 {
     match Label::of(alloc, text.as_str()) {
         Ok(label) => Ok(label),
-        Err(_) => Err(NoMemory),
+        Err(LabelFault::BadLabel) => unreachable!(),
+        Err(LabelFault::Memory) => Err(NoMemory),
     }
 }
 
