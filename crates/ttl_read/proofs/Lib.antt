@@ -6,6 +6,8 @@ pub mod Tables
 pub mod Turns
 pub mod Finished
 pub mod Gathering
+pub mod Within
 pub mod Repeats
 pub mod SameFacts
+pub mod Distinct
 pub mod Closing

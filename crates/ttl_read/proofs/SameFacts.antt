@@ -1,78 +1,85 @@
 -- Facts that are held with each triple once.
-use Rattle.std.proofs.Common.{◌≡◌, ◌∙◌, ◌+◌, ◌∷◌, ◌++◌, [], ℕ, List, Option, None, Some, Result, Ok, Err, Bool, true, false, ap, refl, subst, sym}
+use Rattle.std.proofs.Common.{◌≡◌, ◌∙◌, ◌≤◌, ◌+◌, ◌∷◌, ◌++◌, [], ℕ, List, Option, None, Some, Result, Ok, Err, Bool, true, false, ap, refl, subst, sym, arith}
 use Rattle.std.specs.Prelude.{length, nat_le, unwrap_or, if◌then◌else◌}
 use Rattle.std.specs.Option.{option_or}
-use Rattle.std.proofs.lemmas.List.{append-nil}
-use Rattle.indexmap.specs.IndexSet.{insert_key}
-use Rattle.owl_list.specs.Ascending.{HoldSame}
-use Rattle.owl_list.specs.AscendingLaws.{hold_same, same_trans}
+use Rattle.owl_list.specs.Ascending.{AreApart}
 use Rattle.owl_reader.specs.declared.fault.TokenFault.{TokenFault}
 use Rattle.owl_reader.specs.declared.fault.TokenFault.TheVariants.{TooDeep}
 use Rattle.ttl_grammar.specs.States.{Facts, bracket_opened, cell_added, closed, collection_closed, collection_opened, element_added, first_iri, most_nests, nil_iri, no_nest, node_term, rest_iri, stated, with_object, with_predicate, with_subject, with_triple}
-use Rattle.ttl_grammar.specs.contracts.node.NodeTriplePartialEq.TheImpl as equal_triples
 use Rattle.ttl_grammar.specs.declared.node.Nest.{Nest}
 use Rattle.ttl_grammar.specs.declared.node.Node.{Node}
 use Rattle.ttl_grammar.specs.declared.node.Object.{Object}
 use Rattle.ttl_grammar.specs.declared.node.Node.TheVariants as node
 use Rattle.ttl_grammar.specs.declared.node.NodeTriple.{NodeTriple}
-use Rattle.ttl_read.specs.Showing.{AreSame}
-use Rattle.ttl_read.proofs.Repeats.{inserted, same_appended}
+use Rattle.ttl_read.specs.Keeping.{AreHeld, AreSame}
+use Rattle.ttl_read.proofs.Repeats.{all_held, held_after}
 
-pub same_facts : (f : Facts) → AreSame f f
-same_facts f = record { others = refl; triples = hold_same f.triples }
+pub same_from : (held facts : Facts) → AreApart held.triples → held ≡ facts → AreSame held facts
+same_from held facts once e = subst (AreSame held) e (record { others = refl; triples = all_held held.triples once })
 
-pub same_from : (held facts : Facts) → held ≡ facts → AreSame held facts
-same_from held facts e = subst (AreSame held) e (same_facts held)
-
-pub same_after : (a b c : Facts) → AreSame a b → AreSame b c → AreSame a c
-same_after a b c h k = record {
-  others = h.others ∙ ap (λ (f : Facts). record f { triples = a.triples }) k.others;
-  triples = same_trans a.triples b.triples c.triples h.triples k.triples;
-}
-
--- A turn adds triples that don't depend on those that stand there, and nor does what it makes of the rest.
+-- A turn adds triples that don't depend on those that stand there, one at most, and nor does what it makes of the rest.
 pub record IsTurn (turn : Facts → Facts) : Type 0 where
   pub adds : Facts → List NodeTriple
   pub is : (f : Facts) (ts : List NodeTriple) → turn (record f { triples = ts }) ≡ record (turn f) { triples = ts ++ adds f }
+  pub few : (f : Facts) → length (adds f) ≤ 1
 
-pub same_turn : (turn : Facts → Facts) → IsTurn turn → (a b : Facts) → AreSame a b → AreSame (turn a) (turn b)
-same_turn turn t a b h =
+-- a turn that adds none
+abbrev pub IsPlain : (Facts → Facts) → Type 0
+IsPlain turn = (f : Facts) (ts : List NodeTriple) → turn (record f { triples = ts }) ≡ record (turn f) { triples = ts }
+
+-- what is held behind a turn of what was held is held behind that of what was stated
+pub turned_after : (turn : Facts → Facts) → IsTurn turn → (new a b : Facts) → AreSame new (turn a) → AreSame a b → AreSame new (turn b)
+turned_after turn t new a b k h =
     let made : turn a ≡ record (turn b) { triples = a.triples ++ t.adds b } = ap turn h.others ∙ t.is b a.triples in
     let own : (turn b).triples ≡ b.triples ++ t.adds b = ap (λ (f : Facts). f.triples) (t.is b b.triples) in
     let now : (turn a).triples ≡ a.triples ++ t.adds b = ap (λ (f : Facts). f.triples) made in
     record {
-      others = made ∙ ap (λ (ts : List NodeTriple). record (turn b) { triples = ts }) (sym now);
-      triples =
-          subst (λ (ts : List NodeTriple). HoldSame ts (turn b).triples) (sym now)
-          (subst (HoldSame (a.triples ++ t.adds b)) (sym own) (same_appended a.triples b.triples (t.adds b) h.triples));
+      others = k.others ∙ ap (λ (f : Facts). record f { triples = new.triples }) made;
+      triples = subst (AreHeld new.triples) (sym own) (held_after new.triples a.triples b.triples (t.adds b) (subst (AreHeld new.triples) now k.triples) h.triples);
     }
 
-pub adds_none : (turn : Facts → Facts) → ((f : Facts) (ts : List NodeTriple) → turn (record f { triples = ts }) ≡ record (turn f) { triples = ts }) → IsTurn turn
-adds_none turn is = record {
-  adds = λ f. [];
-  is = λ f ts. is f ts ∙ ap (λ (us : List NodeTriple). record (turn f) { triples = us }) (sym (append-nil ts));
-}
+pub same_plain : (turn : Facts → Facts) → IsPlain turn → (a b : Facts) → AreSame a b → AreSame (turn a) (turn b)
+same_plain turn p a b h =
+    let made : turn a ≡ record (turn b) { triples = a.triples } = ap turn h.others ∙ p b a.triples in
+    let own : (turn b).triples ≡ b.triples = ap (λ (f : Facts). f.triples) (p b b.triples) in
+    let now : (turn a).triples ≡ a.triples = ap (λ (f : Facts). f.triples) made in
+    record {
+      others = made ∙ ap (λ (ts : List NodeTriple). record (turn b) { triples = ts }) (sym now);
+      triples = subst (λ (ts : List NodeTriple). AreHeld ts (turn b).triples) (sym now) (subst (AreHeld a.triples) (sym own) h.triples);
+    }
 
-pub subject_turn : IsTurn with_subject
-subject_turn = adds_none with_subject (λ f ts. refl)
+pub subject_plain : IsPlain with_subject
+subject_plain f ts = refl
 
-pub predicate_turn : IsTurn with_predicate
-predicate_turn = adds_none with_predicate (λ f ts. refl)
+pub predicate_plain : IsPlain with_predicate
+predicate_plain f ts = refl
 
-pub bracket_turn : IsTurn (λ f. closed f.nest.whole f)
-bracket_turn = adds_none (λ f. closed f.nest.whole f) (λ f ts. refl)
+pub bracket_plain : IsPlain (λ f. closed f.nest.whole f)
+bracket_plain f ts = refl
+
+one_stated : (s : Option Node) (p : Option (List ℕ)) (o : Option Object) → length (stated s p o) ≤ 1
+one_stated (Some s) (Some p) (Some o) = omega arith
+one_stated _ _ _ = omega arith
 
 pub object_turn : IsTurn with_object
-object_turn = record { adds = λ f. stated f.nest.subject f.nest.predicate f.term; is = λ f ts. refl }
+object_turn = record { adds = λ f. stated f.nest.subject f.nest.predicate f.term; is = λ f ts. refl; few = λ f. one_stated f.nest.subject f.nest.predicate f.term }
 
 pub cell_turn : IsTurn cell_added
-cell_turn = record { adds = λ f. stated f.nest.subject (Some rest_iri) (node_term (Some (node.Unlabelled f.unlabelled))); is = λ f ts. refl }
+cell_turn = record {
+  adds = λ f. stated f.nest.subject (Some rest_iri) (node_term (Some (node.Unlabelled f.unlabelled)));
+  is = λ f ts. refl;
+  few = λ f. one_stated f.nest.subject (Some rest_iri) (node_term (Some (node.Unlabelled f.unlabelled)));
+}
 
 pub element_turn : IsTurn element_added
-element_turn = record { adds = λ f. stated f.nest.subject (Some first_iri) f.term; is = λ f ts. refl }
+element_turn = record { adds = λ f. stated f.nest.subject (Some first_iri) f.term; is = λ f ts. refl; few = λ f. one_stated f.nest.subject (Some first_iri) f.term }
 
 pub collection_turn : IsTurn collection_closed
-collection_turn = record { adds = λ f. stated f.nest.subject (Some rest_iri) (node_term (Some (node.Iri nil_iri))); is = λ f ts. refl }
+collection_turn = record {
+  adds = λ f. stated f.nest.subject (Some rest_iri) (node_term (Some (node.Iri nil_iri)));
+  is = λ f ts. refl;
+  few = λ f. one_stated f.nest.subject (Some rest_iri) (node_term (Some (node.Iri nil_iri)));
+}
 
 -- ---- turns that may fail
 
@@ -100,13 +107,8 @@ collection_passes f ts = opened_by f ts no_nest f.unlabelled (nat_le most_nests 
 
 -- ---- one triple more
 
-pub triple_added : (old new : Facts) (s : Option Node) (p : Option (List ℕ)) (o : Option Object) (t : NodeTriple) → stated s p o ≡ t ∷ [] → new ≡ record old { triples = new.triples } → new.triples ≡ insert_key equal_triples.ghosts.eq old.triples t → AreSame new (with_triple s p o old)
-triple_added old new s p o t one others keys = record {
-  others = others;
-  triples =
-      subst (λ (ts : List NodeTriple). HoldSame ts (old.triples ++ stated s p o)) (sym keys)
-      (subst (λ (ts : List NodeTriple). HoldSame (insert_key equal_triples.ghosts.eq old.triples t) (old.triples ++ ts)) (sym one) (inserted old.triples t));
-}
+pub triple_added : (old new : Facts) (s : Option Node) (p : Option (List ℕ)) (o : Option Object) (t : NodeTriple) → stated s p o ≡ t ∷ [] → AreSame new (record old { triples = old.triples ++ t ∷ [] }) → AreSame new (with_triple s p o old)
+triple_added old new s p o t one h = subst (λ (ts : List NodeTriple). AreSame new (record old { triples = old.triples ++ ts })) (sym one) h
 
 -- and of terms and facts that are equal to these
 pub same_stated : (mid a b : Facts) (s t : Option Node) (p q : List ℕ) (o u : Option Object) → AreSame mid (with_triple s (Some p) o a) → s ≡ t → p ≡ q → o ≡ u → a ≡ b → AreSame mid (with_triple t (Some q) u b)
@@ -122,8 +124,8 @@ abbrev with_cell : Option Node → ℕ → ℕ → Facts → Facts
 with_cell whole n next f =
     record f { nest = record { whole = whole; subject = Some (node.Unlabelled n); predicate = None }; unlabelled = next }
 
-cell_made_by : (whole : Option Node) (n next : ℕ) → IsTurn (with_cell whole n next)
-cell_made_by whole n next = adds_none (with_cell whole n next) (λ f ts. refl)
+cell_made_by : (whole : Option Node) (n next : ℕ) → IsPlain (with_cell whole n next)
+cell_made_by whole n next f ts = refl
 
 pub cell_made : (old mid : Facts) (first : Node) (whole : Option Node) (n next : ℕ)
     → AreSame mid (with_triple old.nest.subject (Some rest_iri) (node_term (Some (node.Unlabelled old.unlabelled))) old)
@@ -138,7 +140,7 @@ cell_made old mid first whole n next h is stands number behind =
     let done : with_cell (Some first) n next (with_triple old.nest.subject (Some rest_iri) (node_term (Some (node.Unlabelled old.unlabelled))) old) ≡ cell_added old =
     λ i. with_cell (begun i) (number i) (next_is i) (with_triple old.nest.subject (Some rest_iri) (node_term (Some (node.Unlabelled old.unlabelled))) old) in
     subst (AreSame (with_cell (Some first) n next mid)) done
-    (same_turn (with_cell (Some first) n next) (cell_made_by (Some first) n next) mid (with_triple old.nest.subject (Some rest_iri) (node_term (Some (node.Unlabelled old.unlabelled))) old) h)
+    (same_plain (with_cell (Some first) n next) (cell_made_by (Some first) n next) mid (with_triple old.nest.subject (Some rest_iri) (node_term (Some (node.Unlabelled old.unlabelled))) old) h)
 
 pub list_closed : (old mid new : Facts) (whole : Option Node)
     → AreSame mid (with_triple old.nest.subject (Some rest_iri) (node_term (Some (node.Iri nil_iri))) old)
@@ -149,4 +151,4 @@ list_closed old mid new whole h is stands =
     stands ∙ ap (λ (f : Facts). option_or f.nest.whole (Some (node.Iri nil_iri))) h.others in
     subst (λ (f : Facts). AreSame f (collection_closed old)) (sym is)
     (subst (λ (w : Option Node). AreSame (closed whole mid) (closed w all)) same
-    (same_turn (closed whole) (adds_none (closed whole) (λ f ts. refl)) mid all h))
+    (same_plain (closed whole) (λ f ts. refl) mid all h))

@@ -1,39 +1,54 @@
 -- What is shown behind an act.
-use Rattle.std.proofs.Common.{◌≡◌, ℕ, List, Option, Some, Result, Ok, Err, refl, sym, ap, ◌∙◌, subst}
-use Rattle.owl_list.specs.Ascending.{HoldSame}
+use Rattle.std.proofs.Common.{◌≡◌, ◌≤◌, ◌<◌, ◌+◌, ◌++◌, ℕ, List, Option, Some, Result, Ok, Err, refl, sym, ap, ◌∙◌, subst, arith}
+use Rattle.std.specs.Prelude.{length}
+use Rattle.std.proofs.lemmas.List.{length-append}
 use Rattle.owl_reader.specs.declared.fault.TokenFault.{TokenFault}
 use Rattle.ttl_grammar.specs.States.{Facts, State, cell_added, forming, reading, stating}
 use Rattle.ttl_grammar.specs.declared.node.NodeTriple.{NodeTriple}
 use Rattle.ttl_grammar.specs.declared.node.Object.{Object}
 use Rattle.ttl_read.specs.Computing.{Turns, TurnsTo}
-use Rattle.ttl_read.specs.Showing.{AreSame, Shows}
+use Rattle.ttl_read.specs.Keeping.{AreHeld, AreSame, most_nodes}
+use Rattle.ttl_read.specs.Showing.{Shows}
 use Rattle.ttl_read.specs.declared.assembler.Assembler.{Assembler}
-use Rattle.ttl_read.proofs.SameFacts.{IsTurn, Passes, adds_none, cell_turn, same_after, same_from, same_turn, with_triples}
+use Rattle.ttl_read.proofs.SameFacts.{IsPlain, IsTurn, Passes, cell_turn, same_plain, turned_after, with_triples}
 
 -- other facts, and the same names and form
-facts_shown : (old : Assembler) (now facts : Facts) (state : State) → Shows old state → AreSame now facts → Shows (record old { facts = now }) (record state { facts = facts })
-facts_shown old now facts state h same = record { names = h.names; form = h.form; facts = same }
+facts_shown : (old : Assembler) (now facts : Facts) (state : State) → Shows old state → AreSame now facts → length facts.triples ≤ length state.facts.triples → Shows (record old { facts = now }) (record state { facts = facts })
+facts_shown old now facts state h same as_many = record { names = h.names; form = h.form; facts = same; counted = omega (arith, h.counted, as_many); few = h.few }
 
--- the facts took a turn
-pub facts_turned : (old : Assembler) (now : Facts) (state : State) (turn : Facts → Facts) → IsTurn turn → Shows old state → AreSame now (turn old.facts) → TurnsTo Shows (Ok tt) (record old { facts = now }) (stating state (Ok (turn state.facts)))
-facts_turned old now state turn t h is =
-    (record state { facts = turn state.facts }, refl, facts_shown old now (turn state.facts) state h (same_after now (turn old.facts) (turn state.facts) is (same_turn turn t old.facts state.facts h.facts)))
+-- the facts took a turn, and what it states was counted
+pub facts_turned : (old mid : Assembler) (now : Facts) (state : State) (turn : Facts → Facts) → IsTurn turn → Shows old state → mid ≡ record old { stated = old.stated + 1 } → old.stated < most_nodes → AreSame now (turn mid.facts) → TurnsTo Shows (Ok tt) (record mid { facts = now }) (stating state (Ok (turn state.facts)))
+facts_turned old mid now state turn t h e few is =
+    let facts : mid.facts ≡ old.facts = ap (λ (a : Assembler). a.facts) e in
+    let adds = t.few state.facts in
+    let long : (turn state.facts).triples ≡ state.facts.triples ++ t.adds state.facts = ap (λ (f : Facts). f.triples) (t.is state.facts state.facts.triples) in
+    let both = ap length long ∙ length-append state.facts.triples (t.adds state.facts) in
+    let same : AreSame now (turn state.facts) = turned_after turn t now old.facts state.facts (subst (λ (f : Facts). AreSame now (turn f)) facts is) h.facts in
+    let shown : Shows (record old { stated = old.stated + 1; facts = now }) (record state { facts = turn state.facts }) =
+    record { names = h.names; form = h.form; facts = same; counted = omega (arith, h.counted, both, adds); few = omega (arith, few) } in
+    (record state { facts = turn state.facts }, refl, subst (λ (a : Assembler). Shows (record a { facts = now }) (record state { facts = turn state.facts })) (sym e) shown)
 
-pub exactly_turned : (old : Assembler) (now : Facts) (state : State) (turn : Facts → Facts) → IsTurn turn → Shows old state → now ≡ turn old.facts → TurnsTo Shows (Ok tt) (record old { facts = now }) (stating state (Ok (turn state.facts)))
-exactly_turned old now state turn t h is = facts_turned old now state turn t h (same_from now (turn old.facts) is)
+-- the facts took a turn that states nothing
+pub exactly_turned : (old : Assembler) (now : Facts) (state : State) (turn : Facts → Facts) → IsPlain turn → Shows old state → now ≡ turn old.facts → TurnsTo Shows (Ok tt) (record old { facts = now }) (stating state (Ok (turn state.facts)))
+exactly_turned old now state turn p h is =
+    let as_many = ap (λ (f : Facts). length f.triples) (p state.facts state.facts.triples) in (
+      record state { facts = turn state.facts },
+      refl,
+      facts_shown old now (turn state.facts) state h (subst (λ (f : Facts). AreSame f (turn state.facts)) (sym is) (same_plain turn p old.facts state.facts h.facts)) (omega (arith, as_many)),
+    )
 
 -- a term was read
 pub term_shown : (old : Assembler) (now : Facts) (state : State) (wanted : Result Object TokenFault) (term : Object) → wanted ≡ Ok term → Shows old state → now ≡ record old.facts { term = Some term } → TurnsTo Shows (Ok tt) (record old { facts = now }) (reading state wanted)
 term_shown old now state wanted term e h is =
-    let turned = exactly_turned old now state (λ f. record f { term = Some term }) (adds_none (λ f. record f { term = Some term }) (λ f ts. refl)) h is in
+    let turned = exactly_turned old now state (λ f. record f { term = Some term }) (λ f ts. refl) h is in
     (turned.0, ap (reading state) e ∙ turned.1, turned.2)
 
 -- a cell appeared, or memory ran out
-pub cell_turned : (old : Assembler) (now : Facts) (state : State) (r : Result (Unit {0}) TokenFault) → Shows old state → TurnsTo AreSame r now (Ok (cell_added old.facts)) → TurnsTo Shows r (record old { facts = now }) (stating state (Ok (cell_added state.facts)))
-cell_turned old now state (Ok done) h k =
-    let same : cell_added old.facts ≡ k.0 = let e = k.1 in cc in
-    facts_turned old now state cell_added cell_turn h (subst (AreSame now) (sym same) k.2)
-cell_turned old now state (Err fault) h k = λ other. let e = k other in absurd (cc)
+pub cell_turned : (old mid : Assembler) (now : Facts) (state : State) (r : Result (Unit {0}) TokenFault) → Shows old state → mid ≡ record old { stated = old.stated + 1 } → old.stated < most_nodes → TurnsTo AreSame r now (Ok (cell_added mid.facts)) → TurnsTo Shows r (record mid { facts = now }) (stating state (Ok (cell_added state.facts)))
+cell_turned old mid now state (Ok done) h e few k =
+    let same : cell_added mid.facts ≡ k.0 = let e = k.1 in cc in
+    facts_turned old mid now state cell_added cell_turn h e few (subst (AreSame now) (sym same) k.2)
+cell_turned old mid now state (Err fault) h e few k = λ other. let e = k other in absurd (cc)
 
 -- what may fail took a turn
 passed_by : (old : Assembler) (now : Facts) (state : State) (turn : Facts → Result Facts TokenFault) (r : Result Facts TokenFault) → turn state.facts ≡ r → Passes turn → Shows old state → turn old.facts ≡ Ok now → TurnsTo Shows (Ok tt) (record old { facts = now }) (stating state r)
@@ -49,8 +64,8 @@ passed_by old now state turn (Ok facts) e p h is =
       refl,
       facts_shown old now facts state h (record {
         others = now_is ∙ ap (λ (ts : List NodeTriple). record facts { triples = ts }) (sym stands);
-        triples = subst (λ (ts : List NodeTriple). HoldSame ts facts.triples) (sym stands) (subst (HoldSame old.facts.triples) (sym stood) h.facts.triples);
-      }),
+        triples = subst (λ (ts : List NodeTriple). AreHeld ts facts.triples) (sym stands) (subst (AreHeld old.facts.triples) (sym stood) h.facts.triples);
+      }) (let as_many = ap length stood in omega (arith, as_many)),
     )
 passed_by old now state turn (Err fault) e p h is =
     let made : turn old.facts ≡ Err fault = ap turn h.facts.others ∙ p state.facts old.facts.triples ∙ ap (with_triples old.facts.triples) e in
@@ -72,4 +87,4 @@ facts_passed old now state turn (Err fault) p h k = λ other. failed_by old stat
 -- the form of a literal was kept
 pub form_kept : (old : Assembler) (now : List ℕ) (state : State) (next : Option (List ℕ)) (form : List ℕ) → next ≡ Some form → Shows old state → now ≡ form → TurnsTo Shows (Ok tt) (record old { form = now }) (forming state next)
 form_kept old now state next form e h is =
-    (record state { form = form }, ap (forming state) e, record { names = h.names; form = is; facts = h.facts })
+    (record state { form = form }, ap (forming state) e, record { names = h.names; form = is; facts = h.facts; counted = h.counted; few = h.few })

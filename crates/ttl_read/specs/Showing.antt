@@ -1,26 +1,23 @@
 -- How what a reader holds stands to the state of a parser of Turtle.
 use Rattle.std.specs.Prelude.{◌≡◌, ◌≤◌, ◌++◌, ℕ, List, Option, None, Some, Result, Ok, length}
 use Rattle.grammar.specs.Derivations.{Event}
-use Rattle.owl_list.specs.Ascending.{HoldSame}
 use Rattle.owl_reader.specs.declared.fault.TokenFault.{TokenFault}
 use Rattle.rdf_graph.specs.Graphs.{most_triples}
 use Rattle.ttl_tokens.specs.declared.token.Token.{Token}
 use Rattle.ttl_grammar.specs.Labels.{graph_of}
 use Rattle.ttl_grammar.specs.Runs.{all_done, and_then, limited, run}
-use Rattle.ttl_grammar.specs.States.{Facts, State, start}
+use Rattle.ttl_grammar.specs.States.{State, start}
 use Rattle.ttl_read.specs.Computing.{TurnsTo}
+use Rattle.ttl_read.specs.Keeping.{AreSame, most_nodes}
 use Rattle.ttl_read.specs.NameTables.{AreNames}
 use Rattle.ttl_read.specs.declared.assembler.Assembler.{Assembler}
-
--- Equal facts, but for the order of the triples, and how often each stands there.
-pub record AreSame (held facts : Facts) : Type 0 where
-  pub others : held ≡ record facts { triples = held.triples }
-  pub triples : HoldSame held.triples facts.triples
 
 pub record Shows (assembler : Assembler) (state : State) : Type 0 where
   pub names : AreNames assembler.names state.names
   pub form : assembler.form ≡ state.form
   pub facts : AreSame assembler.facts state.facts
+  pub counted : length state.facts.triples ≤ assembler.stated
+  pub few : assembler.stated ≤ most_nodes
 
 -- These events lead to what is shown, whatever follows them.
 pub record Made (events : List (Event Token)) (assembler : Assembler) : Type 0 where

@@ -1,6 +1,6 @@
 //! Assemblers of graphs.
 
-ghost use Rattle.std.specs.Prelude.{[], IfSome, Option, Result};
+ghost use Rattle.std.specs.Prelude.{◌≡◌, ◌<◌, ◌+◌, [], IfErr, IfSome, OnOk, Option, Result};
 ghost use Rattle.ttl_tokens.specs.TokenForms.{IsFormed};
 ghost use Rattle.ttl_grammar.specs.Acts.{act_numbered};
 ghost use Rattle.ttl_grammar.specs.Runs.{all_done, done, limited};
@@ -11,6 +11,7 @@ ghost use Rattle.ttl_grammar.specs.declared.act.Act.TheVariants as act;
 ghost use Rattle.ttl_grammar.specs.declared.node.Object as node;
 ghost use Rattle.ttl_tokens.specs.declared.token.Token as lexeme;
 ghost use Rattle.ttl_read.specs.Computing.{Computes, TurnsTo};
+ghost use Rattle.ttl_read.specs.Keeping.{most_nodes};
 ghost use Rattle.ttl_read.specs.Showing.{Holds, Made, Shows, TakesNext};
 
 use crate::facts::Facts;
@@ -22,11 +23,14 @@ use crate::terms::{
 };
 use owl_characters::Text;
 use owl_reader::{Reason, TokenFault};
-use rdf_graph::Graph;
+use rdf_graph::{Graph, MOST_TRIPLES};
 use std::alloc::Global;
 use std::mem;
 use ttl_grammar::{Act, Object};
 use ttl_tokens::Token;
+
+/// How many triples may be stated, each counted as often as it is.
+const MOST_STATED: u64 = 1 << 61;
 
 /// What was made of a document so far.
 #[derive(Drop)]
@@ -36,6 +40,8 @@ pub struct Assembler {
     /// The form of a literal whose datatype or tag was not read yet.
     pub(crate) form: Text,
     pub(crate) facts: Facts,
+    /// How many triples were stated, each as often as it was.
+    pub(crate) stated: u64,
     /// The graph, once the document has ended.
     pub(crate) graph: Graph,
 }
@@ -50,6 +56,7 @@ impl Assembler {
             names: Names::new(alloc),
             form: Text::new(alloc),
             facts: Facts::new(alloc),
+            stated: 0,
             graph: Graph::empty(alloc),
         }
     }
@@ -90,13 +97,25 @@ impl Assembler {
             Act::RdfType => self.read(type_term(self.alloc)),
             Act::Subject => Ok(self.facts.name_subject()),
             Act::Predicate => Ok(self.facts.name_predicate()),
-            Act::Object => Ok(self.facts.add_object()?),
+            Act::Object => {
+                self.count()?;
+                Ok(self.facts.add_object()?)
+            }
             Act::OpenBracket => self.facts.open_bracket(),
             Act::CloseBracket => Ok(self.facts.close_bracket()),
             Act::OpenCollection => self.facts.open_collection(),
-            Act::Item => self.facts.add_cell(),
-            Act::Element => Ok(self.facts.add_element()?),
-            Act::CloseCollection => Ok(self.facts.close_collection()?),
+            Act::Item => {
+                self.count()?;
+                self.facts.add_cell()
+            }
+            Act::Element => {
+                self.count()?;
+                Ok(self.facts.add_element()?)
+            }
+            Act::CloseCollection => {
+                self.count()?;
+                Ok(self.facts.close_collection()?)
+            }
             Act::Text => self.keep(next),
             Act::Plain => self.read_plain(),
             Act::Tagged => self.read_tagged(next),
@@ -107,6 +126,19 @@ impl Assembler {
             Act::DeclareBase => self.names.declare_base(self.alloc, next),
             Act::EndStatement => Ok(()),
         }
+    }
+
+    /// Counts one triple more that is stated. No time reaches what may be counted.
+    fn count(&mut self) -> Result<(), TokenFault>
+        ensures counted { OnOk result (self.new ≡ record self.old { stated = self.old.stated + 1 }) }
+        ensures few { OnOk result (self.old.stated < most_nodes) }
+        ensures memory { IfErr result (λ e. e ≡ TokenFault.Memory) }
+    {
+        if self.stated >= MOST_STATED {
+            return Err(TokenFault::Memory);
+        }
+        self.stated += 1;
+        Ok(())
     }
 
     /// A term was read, or could not be.
@@ -192,7 +224,11 @@ impl Assembler {
             → TurnsTo Holds result self.new (limited state) }
     {
         let facts = mem::replace(&mut self.facts, Facts::new(self.alloc));
-        match graph_of(self.alloc, facts.into_triples()) {
+        let triples = facts.into_triples();
+        if MOST_TRIPLES < triples.len() {
+            return Err(TokenFault::TooMany);
+        }
+        match graph_of(self.alloc, triples) {
             Ok(graph) => {
                 self.graph = graph;
                 Ok(())

@@ -1,16 +1,17 @@
 //! Subjects, predicates and triples.
 
-ghost use Rattle.std.specs.Prelude.{◌≡◌, ◌+◌, ◌-◌, length, take, None, Ok, Some, IfErr, IfOk, OnOk};
+ghost use Rattle.std.specs.Prelude.{◌≡◌, ◌↔◌, ◌+◌, ◌-◌, ◌∷◌, ◌++◌, [], length, take, None, Ok, Some, IfErr, IfOk, IsTrue, OnOk};
 ghost use Rattle.ttl_grammar.specs.States as stated;
 ghost use Rattle.ttl_grammar.specs.States.{bracket_opened, cell_added, closed, collection_closed, collection_opened, element_added, iri_in, last_nest, no_nest, node_in, node_term, opened, start, with_object, with_predicate, with_subject, with_triple};
 ghost use Rattle.ttl_read.specs.Computing.{Turns, TurnsTo};
-ghost use Rattle.ttl_read.specs.Showing.{AreSame};
+ghost use Rattle.ttl_read.specs.Keeping.{AreKept, AreSame, IsNear, IsNearNode};
 
 use crate::vocabulary::{first, nil, rest};
 use indexmap::IndexSet;
 use owl_atom::Iri;
 use owl_characters::NoMemory;
 use owl_reader::TokenFault;
+use rdf_graph::MOST_TRIPLES;
 use std::alloc::{AllocError, Global};
 use std::marker::Model;
 use std::mem;
@@ -19,9 +20,13 @@ use ttl_grammar::{Nest, Node, NodeTriple, Object};
 /// How many brackets and lists may be open at once.
 const MOST_NESTS: usize = 512;
 
+/// The numbers of nodes whose triples are held, which no memory reaches.
+const MOST_NODES: u64 = 1 << 61;
+
 /// What was read of triples, which contracts see as the facts of a state of a
 /// parser (RDF 1.1 Turtle, section 7.1). A triple that is stated again is not kept,
-/// so that what is held grows with the graph.
+/// so that what is held grows with the graph, and none is kept once they are more
+/// than a graph may have.
 #[derive(Debug, Drop)]
 pub struct Facts {
     alloc: Global,
@@ -29,12 +34,13 @@ pub struct Facts {
     nest: Nest,
     outer: Vec<Nest>,
     unlabelled: u64,
-    /// The triples, each once.
+    /// The triples, each once, up to one more than a graph may have.
     triples: IndexSet<NodeTriple>,
 }
 
 impl Model for Facts {
     ghost use Rattle.ttl_grammar.specs.States as stated;
+    ghost use Rattle.ttl_read.specs.Keeping.{AreKept};
 
     ghost Value = { stated.Facts };
 
@@ -45,6 +51,8 @@ impl Model for Facts {
       unlabelled = f.unlabelled;
       triples = f.triples.keys;
     } };
+
+    ghost invariant = { λ f. AreKept f.triples.keys };
 }
 
 impl Facts {
@@ -62,9 +70,10 @@ impl Facts {
         }
     }
 
-    /// The triples, each once.
+    /// The triples, each once, up to one more than a graph may have.
     pub fn into_triples(self) -> IndexSet<NodeTriple>
-        ensures { result.keys ≡ self.triples }
+        ensures triples { result.keys ≡ self.triples }
+        ensures kept { AreKept self.triples }
     {
         self.triples
     }
@@ -116,8 +125,31 @@ impl Facts {
                 predicate,
                 object,
             };
-            self.triples.insert(triple).map_err(AllocError::from)?;
+            return self.keep(triple);
         }
+        self.kept();
+        Ok(())
+    }
+
+    /// Law: each triple is held once, with numbers that memory reaches.
+    fn kept(&self)
+        ensures { AreKept self.now.triples }
+    {
+        self.triples.len();
+    }
+
+    /// Keeps a triple that was stated, unless there are too many for a graph.
+    fn keep(&mut self, triple: NodeTriple) -> Result<(), NoMemory>
+        ensures { OnOk result (AreSame self.new
+            (record self.old { triples = self.old.triples ++ triple ∷ [] })) }
+    {
+        if MOST_TRIPLES < self.triples.len() {
+            return Ok(());
+        }
+        if !is_near(&triple) {
+            return Err(NoMemory);
+        }
+        self.triples.insert(triple).map_err(AllocError::from)?;
         Ok(())
     }
 
@@ -214,6 +246,25 @@ impl Facts {
         };
         self.close(Some(whole));
         Ok(())
+    }
+}
+
+/// Whether the numbers of the nodes of a triple are such as memory may reach.
+fn is_near(triple: &NodeTriple) -> bool
+    ensures { IsTrue result ↔ IsNear triple.now }
+{
+    let Object::Node(object) = &triple.object else {
+        return is_near_node(&triple.subject);
+    };
+    is_near_node(&triple.subject) && is_near_node(object)
+}
+
+fn is_near_node(node: &Node) -> bool
+    ensures { IsTrue result ↔ IsNearNode node.now }
+{
+    match node {
+        Node::Unlabelled(number) => *number < MOST_NODES,
+        Node::Iri(_) | Node::Label(_) => true,
     }
 }
 

@@ -1,7 +1,7 @@
 use Rattle.std.proofs.Common.{◌≡◌, ℕ, Some, None, ap, refl, rules, sym, subst}
 use Rattle.ttl_grammar.specs.States.{Facts, cell_added, node_term, rest_iri}
 use Rattle.ttl_grammar.specs.declared.node.Node.TheVariants as node
-use Rattle.ttl_read.specs.Showing.{AreSame}
+use Rattle.ttl_read.specs.Keeping.{AreSame}
 use Rattle.ttl_read.proofs.SameFacts.{cell_made, same_stated}
 use Rattle.ttl_read.proofs.facts.Facts.add_cell.Goals as goal
 
