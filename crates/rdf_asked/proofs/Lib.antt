@@ -1,4 +1,5 @@
 pub mod OfSort
 pub mod Suited
+pub mod KnownLists
 pub mod FirstUntyped
 pub mod TypedNodes

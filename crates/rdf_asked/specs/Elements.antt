@@ -4,8 +4,8 @@ use Rattle.owl_kind.specs.Kinds.{Entity}
 use Rattle.rdf_graph.specs.declared.term.Term.{Term}
 use Rattle.rdf_graph.specs.declared.triple.Triple.{Triple}
 use Rattle.rdf_faults.specs.Asked.{is_key, is_of_sort}
-use Rattle.rdf_asked.specs.declared.lists.Element.{Element}
-use Rattle.rdf_asked.specs.declared.lists.Element.TheVariants.{OfSort, Key}
+use Rattle.rdf_asked.specs.declared.elements.Element.{Element}
+use Rattle.rdf_asked.specs.declared.elements.Element.TheVariants.{OfSort, Key}
 
 abbrev pub is_element : List Triple → List Entity → Element → Term → Bool
 is_element g k (OfSort s) x = is_of_sort g k s x

@@ -1,4 +1,5 @@
 pub mod Sorts
 pub mod Elements
+pub mod Listed
 pub mod Asking
 pub mod ListedLaws

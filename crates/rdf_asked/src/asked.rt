@@ -8,81 +8,58 @@ ghost use Rattle.rdf_faults.specs.Asked.{IsAskedFor, SuitsProperties, by_propert
 ghost use Rattle.rdf_faults.specs.DecidedLaws.{HasSome};
 ghost use Rattle.rdf_rows.specs.Fits.{CountsWords};
 ghost use Rattle.rdf_asked.specs.Asking.{IsSuited, IsTold, SuitsPart, SuitsProperty};
-ghost use Rattle.rdf_roles.specs.Refusals.{AreNodesFormed};
-ghost use Rattle.rdf_roles.specs.Tables.{IsTableOf};
+ghost use Rattle.rdf_asked.specs.Listed.{IsSource};
 
-use crate::lists::is_met;
+use crate::lists::meets;
 use crate::sorts::role_of_term;
-use owl_kind::Kinds;
-use rdf_graph::{Graph, Triple};
+use crate::source::Source;
+use rdf_graph::Triple;
 use rdf_meaning::{Part, Place, Row, Word, axiom_rows, node_rows};
-use rdf_roles::Roles;
 use rdf_rows::{NodeWords, carries};
 
 /// Whether a row of the node asks for the object of its triple, if need be one
 /// that its property suits, or its property suits no row (Mapping to RDF Graphs,
 /// section 3.2). The node's words are given.
-pub fn is_asked_for(
-    graph: &Graph,
-    roles: &Roles,
-    kinds: &Kinds,
-    words: &NodeWords,
-    triple: &Triple,
-) -> bool
-    requires table { IsTableOf graph.now roles.now }
-    requires formed { AreNodesFormed graph.now }
-    requires words { CountsWords words.now (of_subject graph.now triple.now.subject) }
-    ensures { IsTrue result ↔ IsAskedFor graph.now kinds.now triple.now }
+pub fn is_asked_for(source: &Source, words: &NodeWords, triple: &Triple) -> bool
+    requires source { IsSource source.now }
+    requires words { CountsWords words.now (of_subject source.now.graph.now triple.now.subject) }
+    ensures { IsTrue result ↔ IsAskedFor source.now.graph.now source.now.kinds.now triple.now }
 {
-    has_suited(graph, roles, kinds, words, triple)
-        || is_by_property(triple) && !has_told(graph, roles, kinds, words, triple)
+    has_suited(source, words, triple) || is_by_property(triple) && !has_told(source, words, triple)
 }
 
 /// Whether a row of the node asks for the object.
-fn has_suited(
-    graph: &Graph,
-    roles: &Roles,
-    kinds: &Kinds,
-    words: &NodeWords,
-    triple: &Triple,
-) -> bool
-    requires table { IsTableOf graph.now roles.now }
-    requires formed { AreNodesFormed graph.now }
-    requires words { CountsWords words.now (of_subject graph.now triple.now.subject) }
-    ensures { IsTrue result ↔ HasSome (IsSuited graph.now kinds.now triple.now) rows }
+fn has_suited(source: &Source, words: &NodeWords, triple: &Triple) -> bool
+    requires source { IsSource source.now }
+    requires words { CountsWords words.now (of_subject source.now.graph.now triple.now.subject) }
+    ensures { IsTrue result ↔ HasSome
+        (IsSuited source.now.graph.now source.now.kinds.now triple.now) rows }
 {
-    has_suited_row(graph, roles, kinds, words, node_rows(), triple)
-        || has_suited_row(graph, roles, kinds, words, axiom_rows(), triple)
+    has_suited_row(source, words, node_rows(), triple)
+        || has_suited_row(source, words, axiom_rows(), triple)
 }
 
 /// Whether the properties of the triple's node suit a row of it.
-fn has_told(graph: &Graph, roles: &Roles, kinds: &Kinds, words: &NodeWords, triple: &Triple) -> bool
-    requires table { IsTableOf graph.now roles.now }
-    requires formed { AreNodesFormed graph.now }
-    requires words { CountsWords words.now (of_subject graph.now triple.now.subject) }
-    ensures { IsTrue result ↔ HasSome (IsTold graph.now kinds.now triple.now) rows }
+fn has_told(source: &Source, words: &NodeWords, triple: &Triple) -> bool
+    requires source { IsSource source.now }
+    requires words { CountsWords words.now (of_subject source.now.graph.now triple.now.subject) }
+    ensures { IsTrue result ↔ HasSome
+        (IsTold source.now.graph.now source.now.kinds.now triple.now) rows }
 {
-    has_told_row(graph, roles, kinds, words, node_rows(), triple)
-        || has_told_row(graph, roles, kinds, words, axiom_rows(), triple)
+    has_told_row(source, words, node_rows(), triple)
+        || has_told_row(source, words, axiom_rows(), triple)
 }
 
 /// Whether one of the rows asks for the object.
-fn has_suited_row(
-    graph: &Graph,
-    roles: &Roles,
-    kinds: &Kinds,
-    words: &NodeWords,
-    rows: &[Row],
-    triple: &Triple,
-) -> bool
-    requires table { IsTableOf graph.now roles.now }
-    requires formed { AreNodesFormed graph.now }
-    requires words { CountsWords words.now (of_subject graph.now triple.now.subject) }
+fn has_suited_row(source: &Source, words: &NodeWords, rows: &[Row], triple: &Triple) -> bool
+    requires source { IsSource source.now }
+    requires words { CountsWords words.now (of_subject source.now.graph.now triple.now.subject) }
     ensures { IsTrue result
-        ↔ HasSome (λ row. IsSuited graph.now kinds.now triple.now (row_seen row)) rows.now }
+        ↔ HasSome (λ row. IsSuited source.now.graph.now source.now.kinds.now triple.now
+        (row_seen row)) rows.now }
 {
     for row in rows {
-        if is_suited(graph, roles, kinds, words, row, triple) {
+        if is_suited(source, words, row, triple) {
             return true;
         }
     }
@@ -90,22 +67,15 @@ fn has_suited_row(
 }
 
 /// Whether the properties of the triple's node suit one of the rows.
-fn has_told_row(
-    graph: &Graph,
-    roles: &Roles,
-    kinds: &Kinds,
-    words: &NodeWords,
-    rows: &[Row],
-    triple: &Triple,
-) -> bool
-    requires table { IsTableOf graph.now roles.now }
-    requires formed { AreNodesFormed graph.now }
-    requires words { CountsWords words.now (of_subject graph.now triple.now.subject) }
+fn has_told_row(source: &Source, words: &NodeWords, rows: &[Row], triple: &Triple) -> bool
+    requires source { IsSource source.now }
+    requires words { CountsWords words.now (of_subject source.now.graph.now triple.now.subject) }
     ensures { IsTrue result
-        ↔ HasSome (λ row. IsTold graph.now kinds.now triple.now (row_seen row)) rows.now }
+        ↔ HasSome (λ row. IsTold source.now.graph.now source.now.kinds.now triple.now
+        (row_seen row)) rows.now }
 {
     for row in rows {
-        if is_told(graph, roles, kinds, words, row, triple) {
+        if is_told(source, words, row, triple) {
             return true;
         }
     }
@@ -113,55 +83,40 @@ fn has_told_row(
 }
 
 /// Whether the row is one of the node with these words, and asks for the object.
-fn is_suited(
-    graph: &Graph,
-    roles: &Roles,
-    kinds: &Kinds,
-    words: &NodeWords,
-    row: &Row,
-    triple: &Triple,
-) -> bool
-    requires table { IsTableOf graph.now roles.now }
-    requires formed { AreNodesFormed graph.now }
-    requires words { CountsWords words.now (of_subject graph.now triple.now.subject) }
-    ensures { IsTrue result ↔ IsSuited graph.now kinds.now triple.now (row_seen row.now) }
+fn is_suited(source: &Source, words: &NodeWords, row: &Row, triple: &Triple) -> bool
+    requires source { IsSource source.now }
+    requires words { CountsWords words.now (of_subject source.now.graph.now triple.now.subject) }
+    ensures { IsTrue result ↔ IsSuited source.now.graph.now source.now.kinds.now triple.now
+        (row_seen row.now) }
 {
     if is_by_property(triple) {
-        is_told(graph, roles, kinds, words, row, triple)
-            && suits(graph, roles, kinds, row.parts, triple)
+        is_told(source, words, row, triple) && suits(source, row.parts, triple)
     } else {
-        words.fit(role_of_term(roles, &triple.subject), row)
-            && suits(graph, roles, kinds, row.parts, triple)
+        words.fit(role_of_term(source.roles, &triple.subject), row)
+            && suits(source, row.parts, triple)
     }
 }
 
 /// Whether the row is one of the node with these words, and its properties suit it.
-fn is_told(
-    graph: &Graph,
-    roles: &Roles,
-    kinds: &Kinds,
-    words: &NodeWords,
-    row: &Row,
-    triple: &Triple,
-) -> bool
-    requires table { IsTableOf graph.now roles.now }
-    requires formed { AreNodesFormed graph.now }
-    requires words { CountsWords words.now (of_subject graph.now triple.now.subject) }
-    ensures { IsTrue result ↔ IsTold graph.now kinds.now triple.now (row_seen row.now) }
+fn is_told(source: &Source, words: &NodeWords, row: &Row, triple: &Triple) -> bool
+    requires source { IsSource source.now }
+    requires words { CountsWords words.now (of_subject source.now.graph.now triple.now.subject) }
+    ensures { IsTrue result ↔ IsTold source.now.graph.now source.now.kinds.now triple.now
+        (row_seen row.now) }
 {
-    words.fit(role_of_term(roles, &triple.subject), row)
-        && suits_properties(graph, roles, kinds, row, triple)
+    words.fit(role_of_term(source.roles, &triple.subject), row)
+        && suits_properties(source, row, triple)
 }
 
 /// Whether the row asks for each property of the triple's node.
-fn suits_properties(graph: &Graph, roles: &Roles, kinds: &Kinds, row: &Row, triple: &Triple) -> bool
-    requires table { IsTableOf graph.now roles.now }
-    requires formed { AreNodesFormed graph.now }
+fn suits_properties(source: &Source, row: &Row, triple: &Triple) -> bool
+    requires source { IsSource source.now }
     ensures { IsTrue result
-        ↔ SuitsProperties graph.now kinds.now (row_seen row.now) triple.now.subject }
+        ↔ SuitsProperties source.now.graph.now source.now.kinds.now (row_seen row.now)
+        triple.now.subject }
 {
-    for other in graph.about(&triple.subject) {
-        if !suits_property(graph, roles, kinds, row, other) {
+    for other in source.graph.about(&triple.subject) {
+        if !suits_property(source, row, other) {
             return false;
         }
     }
@@ -169,22 +124,22 @@ fn suits_properties(graph: &Graph, roles: &Roles, kinds: &Kinds, row: &Row, trip
 }
 
 /// Whether the row asks for the object, if the triple is that of a property.
-fn suits_property(graph: &Graph, roles: &Roles, kinds: &Kinds, row: &Row, triple: &Triple) -> bool
-    requires table { IsTableOf graph.now roles.now }
-    requires formed { AreNodesFormed graph.now }
-    ensures { IsTrue result ↔ SuitsProperty graph.now kinds.now (row_seen row.now) triple.now }
+fn suits_property(source: &Source, row: &Row, triple: &Triple) -> bool
+    requires source { IsSource source.now }
+    ensures { IsTrue result ↔ SuitsProperty source.now.graph.now source.now.kinds.now
+        (row_seen row.now) triple.now }
 {
-    !carries(triple, Word::OnProperty) || suits(graph, roles, kinds, row.parts, triple)
+    !carries(triple, Word::OnProperty) || suits(source, row.parts, triple)
 }
 
 /// Whether the object is what is wanted at the parts of the triple.
-pub fn suits(graph: &Graph, roles: &Roles, kinds: &Kinds, parts: &[Part], triple: &Triple) -> bool
-    requires table { IsTableOf graph.now roles.now }
-    requires formed { AreNodesFormed graph.now }
-    ensures { IsTrue result ↔ AllByRecursion (SuitsPart graph.now kinds.now triple.now) parts.now }
+pub fn suits(source: &Source, parts: &[Part], triple: &Triple) -> bool
+    requires source { IsSource source.now }
+    ensures { IsTrue result ↔ AllByRecursion
+        (SuitsPart source.now.graph.now source.now.kinds.now triple.now) parts.now }
 {
     for part in parts {
-        if !suits_part(graph, roles, kinds, part, triple) {
+        if !suits_part(source, part, triple) {
             return false;
         }
     }
@@ -192,12 +147,12 @@ pub fn suits(graph: &Graph, roles: &Roles, kinds: &Kinds, parts: &[Part], triple
 }
 
 /// Whether the object is what is wanted at the part, if it stands there.
-fn suits_part(graph: &Graph, roles: &Roles, kinds: &Kinds, part: &Part, triple: &Triple) -> bool
-    requires table { IsTableOf graph.now roles.now }
-    requires formed { AreNodesFormed graph.now }
-    ensures { IsTrue result ↔ SuitsPart graph.now kinds.now triple.now part.now }
+fn suits_part(source: &Source, part: &Part, triple: &Triple) -> bool
+    requires source { IsSource source.now }
+    ensures { IsTrue result
+        ↔ SuitsPart source.now.graph.now source.now.kinds.now triple.now part.now }
 {
-    !is_place_of(triple, part.place) || is_met(graph, roles, kinds, part.want, &triple.object)
+    !is_place_of(triple, part.place) || meets(source, part.want, &triple.object)
 }
 
 /// Whether the place is that of the triple's object.

@@ -3,13 +3,18 @@
 #![tactic(auto)]
 
 mod asked;
+mod elements;
+mod listed;
 mod lists;
 mod nodes;
+mod shared;
 mod sorts;
+mod source;
 mod typed;
 
 pub use lists::is_met;
+pub use shared::shares_lists;
 pub use sorts::{
     has_kind, is_declared, is_entity, is_of_sort, may_be_declared, names_tree, role_of_term,
 };
-pub use typed::{is_structural, untyped};
+pub use typed::{is_structural, untyped, untyped_with_lists};

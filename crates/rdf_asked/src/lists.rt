@@ -1,75 +1,78 @@
 //! Whether a term is what is wanted.
 
-ghost use Rattle.std.specs.Prelude.{◌≡◌, ◌∷◌, [], ◌↔◌, IfSome, IsNone, IsTrue, List};
-ghost use Rattle.rdf_graph.specs.declared.triple.Triple.{Triple};
+ghost use Rattle.std.specs.Prelude.{◌≡◌, ◌∷◌, [], ◌↔◌, IfSome, IsNone, IsTrue};
+ghost use Rattle.rdf_graph.specs.declared.term.Term.TheVariants as held;
 ghost use Rattle.rdf_meaning.specs.declared.role.Role.TheVariants as role;
 ghost use Rattle.rdf_meaning.specs.declared.word.Word.TheVariants as word;
 ghost use Rattle.rdf_meaning.specs.Nodes.{chosen, role_of};
 ghost use Rattle.rdf_faults.specs.Asked.{IsListOf, IsMet};
 ghost use Rattle.rdf_asked.specs.Elements.{is_element};
+ghost use Rattle.rdf_asked.specs.Listed.{IsListed, IsSource};
 ghost use Rattle.rdf_roles.specs.Refusals.{AreNodesFormed};
 ghost use Rattle.rdf_roles.specs.Tables.{IsTableOf};
 
-use crate::sorts::{is_declared, is_key, is_of_sort, role_of_term};
+use crate::elements::{Element, is_element};
+use crate::listed::Listed;
+use crate::sorts::{is_declared, is_of_sort, role_of_term};
+use crate::source::Source;
 use owl_kind::Kinds;
-use owl_tree::Sort;
 use rdf_graph::{Graph, Term};
 use rdf_meaning::{Role, Want};
 use rdf_roles::Roles;
 use rdf_rows::{cell, is_nil, is_true};
+use rdf_terms::Label;
 
-/// What each element of a list has to be.
-#[derive(Clone, Copy, Debug)]
-pub enum Element {
-    /// A term for a tree of the sort.
-    OfSort(Sort),
-    /// A property that may be in a key.
-    Key,
-}
-
-/// Whether the term is what is wanted (Mapping to RDF Graphs, section 3.2).
+/// Whether the term is what is wanted (Mapping to RDF Graphs, section 3.2). Takes no
+/// memory.
 pub fn is_met(graph: &Graph, roles: &Roles, kinds: &Kinds, want: Want, term: &Term) -> bool
     requires table { IsTableOf graph.now roles.now }
     requires formed { AreNodesFormed graph.now }
     ensures { IsTrue result ↔ IsMet graph.now kinds.now want term.now }
 {
+    let source = Source {
+        graph,
+        roles,
+        kinds,
+        lists: &[],
+    };
+    meets(&source, want, term)
+}
+
+/// Whether the term is what is wanted.
+pub fn meets(source: &Source, want: Want, term: &Term) -> bool
+    requires source { IsSource source.now }
+    ensures { IsTrue result ↔ IsMet source.now.graph.now source.now.kinds.now want term.now }
+{
     match want {
-        Want::One(sort) => is_of_sort(roles, kinds, sort, term),
-        Want::Many(sort, least) => {
-            is_list_of(graph, roles, kinds, Element::OfSort(sort), least, term)
-        }
-        Want::Whole(_, sort, least) => {
-            is_list_of(graph, roles, kinds, Element::OfSort(sort), least, term)
-        }
-        Want::Keys => is_list_of(graph, roles, kinds, Element::Key, 1, term),
-        Want::Declared(tag) => is_declared(kinds, tag, term),
+        Want::One(sort) => is_of_sort(source.roles, source.kinds, sort, term),
+        Want::Many(sort, least) => is_list_of(source, Element::OfSort(sort), least, term),
+        Want::Whole(_, sort, least) => is_list_of(source, Element::OfSort(sort), least, term),
+        Want::Keys => is_list_of(source, Element::Key, 1, term),
+        Want::Declared(tag) => is_declared(source.kinds, tag, term),
         Want::Mark => true,
         Want::True => is_true(term),
     }
 }
 
 /// Whether the term is a list of at least so many of these elements.
-fn is_list_of<'a>(
-    graph: &'a Graph,
-    roles: &Roles,
-    kinds: &Kinds,
-    element: Element,
-    least: usize,
-    term: &'a Term,
-) -> bool
-    requires table { IsTableOf graph.now roles.now }
-    requires formed { AreNodesFormed graph.now }
-    ensures { IsTrue result
-        ↔ IsListOf graph.now (is_element graph.now kinds.now element) least term.now }
+fn is_list_of<'a>(source: &Source<'a>, element: Element, least: usize, term: &'a Term) -> bool
+    requires source { IsSource source.now }
+    ensures { IsTrue result ↔ IsListOf source.now.graph.now
+        (is_element source.now.graph.now source.now.kinds.now element) least term.now }
 {
     let mut rest = term;
     // A list has no more elements than the graph has triples.
-    for count in 0..graph.len() + 1 {
-        let (first, behind) = match cell_of(graph, roles, rest) {
+    for count in 0..source.graph.len() + 1 {
+        if least <= count {
+            if let Some(known) = known_list(source, element, rest) {
+                return known;
+            }
+        }
+        let (first, behind) = match cell_of(source, rest) {
             Some(cell) => cell,
             None => return least <= count && is_nil(rest),
         };
-        if !is_element(roles, kinds, element, first) {
+        if !is_element(source.roles, source.kinds, element, first) {
             return false;
         }
         rest = behind;
@@ -77,28 +80,49 @@ fn is_list_of<'a>(
     false
 }
 
-/// The first element and the rest of the list, where the term is a cell.
-fn cell_of<'a>(graph: &'a Graph, roles: &Roles, term: &Term) -> Option<(&'a Term, &'a Term)>
-    requires table { IsTableOf graph.now roles.now }
-    requires formed { AreNodesFormed graph.now }
-    ensures some { IfSome result (λ cell. (role_of graph.now term.now ≡ role.List)
-        × (chosen graph.now term.now word.First ≡ cell.0.now ∷ [])
-        × (chosen graph.now term.now word.Rest ≡ cell.1.now ∷ [])) }
-    ensures none { IsNone result → role_of graph.now term.now ≡ role.List → ⊥ }
+/// Whether the term is a list of these elements, where it is known.
+fn known_list(source: &Source, element: Element, term: &Term) -> Option<bool>
+    requires source { IsSource source.now }
+    ensures { IfSome result (λ known. IsTrue known ↔ IsListOf source.now.graph.now
+        (is_element source.now.graph.now source.now.kinds.now element) 0 term.now) }
 {
-    match role_of_term(roles, term) {
-        Role::List => cell(graph.about(term)),
-        _ => None,
+    known_of(source, term)?.told(element)
+}
+
+/// Of which elements the term is a list, where it is known.
+pub fn known_of(source: &Source, term: &Term) -> Option<Listed>
+    requires source { IsSource source.now }
+    ensures { IfSome result (IsListed source.now.graph.now source.now.kinds.now term.now) }
+{
+    match term {
+        Term::Blank(label) => known_at(source, label),
+        Term::Iri(_) | Term::Literal(_) => match is_nil(term) {
+            true => Some(Listed::of_nil()),
+            false => None,
+        },
     }
 }
 
-/// Whether the term is such an element.
-fn is_element(roles: &Roles, kinds: &Kinds, element: Element, term: &Term) -> bool
-    ensures { (g : List Triple) → IsTableOf g roles.now
-        → result ≡ is_element g kinds.now element term.now }
+/// Of which elements the node is a list, where it is known.
+fn known_at(source: &Source, node: &Label) -> Option<Listed>
+    requires source { IsSource source.now }
+    ensures { IfSome result (
+        IsListed source.now.graph.now source.now.kinds.now (held.Blank node.now)) }
 {
-    match element {
-        Element::OfSort(sort) => is_of_sort(roles, kinds, sort, term),
-        Element::Key => is_key(roles, kinds, term),
+    let number = source.roles.number(node)?;
+    *source.lists.get(number)?
+}
+
+/// The first element and the rest of the list, where the term is a cell.
+pub fn cell_of<'a>(source: &Source<'a>, term: &Term) -> Option<(&'a Term, &'a Term)>
+    requires source { IsSource source.now }
+    ensures some { IfSome result (λ cell. (role_of source.now.graph.now term.now ≡ role.List)
+        × (chosen source.now.graph.now term.now word.First ≡ cell.0.now ∷ [])
+        × (chosen source.now.graph.now term.now word.Rest ≡ cell.1.now ∷ [])) }
+    ensures none { IsNone result → role_of source.now.graph.now term.now ≡ role.List → ⊥ }
+{
+    match role_of_term(source.roles, term) {
+        Role::List => cell(source.graph.about(term)),
+        _ => None,
     }
 }

@@ -9,29 +9,26 @@ ghost use Rattle.rdf_faults.specs.Asked.{rows};
 ghost use Rattle.rdf_faults.specs.DecidedLaws.{HasSome};
 ghost use Rattle.rdf_rows.specs.Fits.{CountsWords};
 ghost use Rattle.rdf_asked.specs.Asking.{AsksForAll, IsTypedNode, SuitsPart};
-ghost use Rattle.rdf_roles.specs.Refusals.{AreNodesFormed};
-ghost use Rattle.rdf_roles.specs.Tables.{IsTableOf};
+ghost use Rattle.rdf_asked.specs.Listed.{IsSource};
 
 use crate::asked::suits;
 use crate::sorts::role_of_term;
-use owl_kind::Kinds;
-use rdf_graph::{Graph, Term, Triple};
+use crate::source::Source;
+use rdf_graph::{Term, Triple};
 use rdf_meaning::{Part, Role, Row, axiom_rows, node_rows};
-use rdf_roles::Roles;
 use rdf_rows::NodeWords;
 
 /// Whether nothing is asked of the triples of the node, by its role, or one of its
 /// rows asks for the objects of all of them. Where neither is so, each triple has
 /// to be looked at.
-pub fn is_typed_node(graph: &Graph, roles: &Roles, kinds: &Kinds, node: &Term) -> bool
-    requires table { IsTableOf graph.now roles.now }
-    requires formed { AreNodesFormed graph.now }
-    ensures { IsTrue result → IsTypedNode graph.now kinds.now node.now }
+pub fn is_typed_node(source: &Source, node: &Term) -> bool
+    requires source { IsSource source.now }
+    ensures { IsTrue result → IsTypedNode source.now.graph.now source.now.kinds.now node.now }
 {
-    let role = role_of_term(roles, node);
+    let role = role_of_term(source.roles, node);
     match role {
         Role::Property | Role::Class | Role::Range | Role::Main => {
-            has_row_for_all(graph, roles, kinds, rows_for(role), role, node)
+            has_row_for_all(source, rows_for(role), role, node)
         }
         Role::Facet => false,
         Role::List | Role::Note | Role::Header | Role::Individual => true,
@@ -50,24 +47,17 @@ fn rows_for(role: Role) -> &'static [Row]
 
 /// Whether one of the rows asks for the objects of all triples of the node, which
 /// has the role.
-fn has_row_for_all(
-    graph: &Graph,
-    roles: &Roles,
-    kinds: &Kinds,
-    rows: &[Row],
-    role: Role,
-    node: &Term,
-) -> bool
-    requires table { IsTableOf graph.now roles.now }
-    requires formed { AreNodesFormed graph.now }
-    requires role { role ≡ role_of graph.now node.now }
+fn has_row_for_all(source: &Source, rows: &[Row], role: Role, node: &Term) -> bool
+    requires source { IsSource source.now }
+    requires role { role ≡ role_of source.now.graph.now node.now }
     ensures { IsTrue result
-        → HasSome (λ row. AsksForAll graph.now kinds.now node.now (row_seen row)) rows.now }
+        → HasSome (λ row. AsksForAll source.now.graph.now source.now.kinds.now node.now
+        (row_seen row)) rows.now }
 {
-    let triples = graph.about(node);
+    let triples = source.graph.about(node);
     let words = NodeWords::of(triples);
     for row in rows {
-        if is_for_all(graph, roles, kinds, &words, row, role, triples) {
+        if is_for_all(source, &words, row, role, triples) {
             return true;
         }
     }
@@ -76,33 +66,26 @@ fn has_row_for_all(
 
 /// Whether the row is one of a node of the role with these triples and words, and
 /// asks for the objects of all of them.
-fn is_for_all(
-    graph: &Graph,
-    roles: &Roles,
-    kinds: &Kinds,
-    words: &NodeWords,
-    row: &Row,
-    role: Role,
-    triples: &[Triple],
-) -> bool
-    requires table { IsTableOf graph.now roles.now }
-    requires formed { AreNodesFormed graph.now }
+fn is_for_all(source: &Source, words: &NodeWords, row: &Row, role: Role, triples: &[Triple]) -> bool
+    requires source { IsSource source.now }
     requires words { CountsWords words.now triples.now }
-    ensures { (x : Term) → role ≡ role_of graph.now x → triples.now ≡ of_subject graph.now x
-        → (IsTrue result ↔ AsksForAll graph.now kinds.now x (row_seen row.now)) }
+    ensures { (x : Term) → role ≡ role_of source.now.graph.now x
+        → triples.now ≡ of_subject source.now.graph.now x
+        → (IsTrue result
+        ↔ AsksForAll source.now.graph.now source.now.kinds.now x (row_seen row.now)) }
 {
-    words.fit(role, row) && suit(graph, roles, kinds, row.parts, triples)
+    words.fit(role, row) && suit(source, row.parts, triples)
 }
 
 /// Whether the object of each triple is what is wanted at the parts of the triple.
-fn suit(graph: &Graph, roles: &Roles, kinds: &Kinds, parts: &[Part], triples: &[Triple]) -> bool
-    requires table { IsTableOf graph.now roles.now }
-    requires formed { AreNodesFormed graph.now }
+fn suit(source: &Source, parts: &[Part], triples: &[Triple]) -> bool
+    requires source { IsSource source.now }
     ensures { IsTrue result ↔ AllByRecursion
-        (λ t. AllByRecursion (SuitsPart graph.now kinds.now t) parts.now) triples.now }
+        (λ t. AllByRecursion (SuitsPart source.now.graph.now source.now.kinds.now t) parts.now)
+        triples.now }
 {
     for triple in triples {
-        if !suits(graph, roles, kinds, parts, triple) {
+        if !suits(source, parts, triple) {
             return false;
         }
     }

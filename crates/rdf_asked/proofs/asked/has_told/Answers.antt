@@ -5,5 +5,5 @@ use Rattle.rdf_asked.proofs.asked.has_told.Goals as goal
 
 pub returns-else-has_told_row : goal.returns-else-has_told_row
 returns-else-has_told_row c =
-    second_has row_seen (IsTold c.args.graph.now c.args.kinds.now c.args.triple.now) c.node_rows.result.now c.axiom_rows.result.now node_rows axiom_rows c.node_rows.ensures
+    second_has row_seen (IsTold c.args.source.now.graph.now c.args.source.now.kinds.now c.args.triple.now) c.node_rows.result.now c.axiom_rows.result.now node_rows axiom_rows c.node_rows.ensures
     c.axiom_rows.ensures c.has_told_row.result c.has_told_row-else-has_told_row.result c.if-has_told_row.false c.has_told_row.ensures c.has_told_row-else-has_told_row.ensures

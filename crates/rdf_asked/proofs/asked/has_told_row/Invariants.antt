@@ -5,4 +5,4 @@ use Rattle.rdf_asked.specs.Asking.{IsTold}
 use Rattle.rdf_asked.proofs.asked.has_told_row.Given as goal
 
 abbrev pub invariant-loop-row : goal.invariant-loop-row
-invariant-loop-row l = AllByRecursion (λ row. IsTold l.graph l.kinds l.triple (row_seen row) → ⊥) (take l.row-index l.rows)
+invariant-loop-row l = AllByRecursion (λ row. IsTold l.source.graph.now l.source.kinds.now l.triple (row_seen row) → ⊥) (take l.row-index l.rows)

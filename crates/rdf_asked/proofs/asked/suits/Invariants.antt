@@ -4,4 +4,4 @@ use Rattle.rdf_asked.specs.Asking.{SuitsPart}
 use Rattle.rdf_asked.proofs.asked.suits.Given as goal
 
 abbrev pub invariant-loop-part : goal.invariant-loop-part
-invariant-loop-part l = AllByRecursion (SuitsPart l.graph l.kinds l.triple) (take l.part-index l.parts)
+invariant-loop-part l = AllByRecursion (SuitsPart l.source.graph.now l.source.kinds.now l.triple) (take l.part-index l.parts)

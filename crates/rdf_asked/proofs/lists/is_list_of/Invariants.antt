@@ -3,4 +3,4 @@ use Rattle.rdf_asked.specs.ListedLaws.{IsWalked}
 use Rattle.rdf_asked.proofs.lists.is_list_of.Given as goal
 
 abbrev pub invariant-loop-count : goal.invariant-loop-count
-invariant-loop-count l = IsWalked l.graph (is_element l.graph l.kinds l.element) l.fn.term l.count l.rest
+invariant-loop-count l = IsWalked l.source.graph.now (is_element l.source.graph.now l.source.kinds.now l.element) l.fn.term l.count l.rest

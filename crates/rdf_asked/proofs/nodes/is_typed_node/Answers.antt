@@ -9,9 +9,9 @@ pub returns-in-Property : goal.returns-in-Property
 returns-in-Property c h =
     let found = c.has_row_for_all.ensures h in
     let among = all_in (λ row. Contains rows (row_seen row)) c.rows_for.result.now found.element c.rows_for.ensures found.inside in
-    typed_by_row c.args.graph.now c.args.kinds.now c.args.node.now c.role_of_term-role.result (c.role_of_term-role.ensures c.args.graph.now c.requires.table) c.in-Property.is
+    typed_by_row c.args.source.now.graph.now c.args.source.now.kinds.now c.args.node.now c.role_of_term-role.result (c.role_of_term-role.ensures c.args.source.now.graph.now c.requires.source.table) c.in-Property.is
     (row_seen found.element) among found.holds
 
 pub returns-in-List : goal.returns-in-List
 returns-in-List c h =
-    typed_by_role c.args.graph.now c.args.kinds.now c.args.node.now c.role_of_term-role.result (c.role_of_term-role.ensures c.args.graph.now c.requires.table) c.in-List.is
+    typed_by_role c.args.source.now.graph.now c.args.source.now.kinds.now c.args.node.now c.role_of_term-role.result (c.role_of_term-role.ensures c.args.source.now.graph.now c.requires.source.table) c.in-List.is

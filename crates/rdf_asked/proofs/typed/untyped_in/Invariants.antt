@@ -2,8 +2,8 @@ use Rattle.std.specs.Prelude.{IfSome}
 use Rattle.rdf_faults.specs.Faults.{IsUntypedPart}
 use Rattle.rdf_roles.specs.FirstLaws.{HoldsNowhereBelow}
 use Rattle.rdf_asked.specs.Asking.{IsTypedNode}
-use Rattle.rdf_asked.proofs.typed.untyped.Given as goal
+use Rattle.rdf_asked.proofs.typed.untyped_in.Given as goal
 
 abbrev pub invariant-loop-place : goal.invariant-loop-place
 invariant-loop-place l =
-    HoldsNowhereBelow (IsUntypedPart l.graph l.kinds) l.triple-items l.place × IfSome l.typed (λ x. IsTypedNode l.graph l.kinds x.now)
+    HoldsNowhereBelow (IsUntypedPart l.source.graph.now l.source.kinds.now) l.triple-items l.place × IfSome l.typed (λ x. IsTypedNode l.source.graph.now l.source.kinds.now x.now)
