@@ -1,5 +1,6 @@
 use Rattle.std.specs.Prelude.{◌≡◌, IfSome}
 use Rattle.std.proofs.Common.{inl, inr, subst, sym}
+use Rattle.rdf_roles.specs.Refusals.{IsFirstUntyped}
 use Rattle.rdf_reverse.specs.declared.fault.ReverseFault.TheVariants.{Untyped}
 use Rattle.rdf_reverse.specs.Reverse.{IsFoundBy, typing}
 use Rattle.rdf_reverse.proofs.Finding.{part_at, part_found}
@@ -11,7 +12,7 @@ returns-in-Some-clause-fault c =
     let k = c.args.reading.now.kinds.now in
     let header = c.args.reading.now.header.now in
     let one = c.requires.one_header in
-    let first = c.in-Some.ensures.some in
+    let first = subst (λ o. IfSome o (IsFirstUntyped g k)) c.in-Some.is c.in_ok-untyped.ensures.some in
     elim c.untyped_at.ensures [
       | inl memory ↦ inl memory
       | inr there ↦
