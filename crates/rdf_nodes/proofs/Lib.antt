@@ -8,3 +8,4 @@ pub mod Below
 pub mod Lengths
 pub mod Passing
 pub mod Knowing
+pub mod Duplicating

@@ -18,6 +18,7 @@ use Rattle.tree_stores.specs.declared.fault.TreeFault.TheVariants.{TooDeep, TooH
 use Rattle.tree_stores.specs.StoreLaws.{keeps_all, keeps_more}
 use Rattle.tree_stores.specs.Stores.{Keeps}
 use Rattle.rdf_nodes.specs.Numbers.{AreKnown, AreNumbered, HaveNone, IsDenotedAs, IsKnown, IsNextOf, IsNodeFault, IsNumbered, IsPassedIn, IsSomeNodeFault}
+use Rattle.rdf_nodes.specs.NumberTableLaws.{set_holds}
 use Rattle.rdf_nodes.specs.Operands.{labels, sort_of}
 use Rattle.rdf_nodes.proofs.Below.{passed_below}
 use Rattle.rdf_nodes.proofs.Holding.{numbered_kept}
@@ -31,14 +32,6 @@ module _ {N : Type 0} where
   one_none [] h (suc node) n e = h node n e
   one_none (x ∷ ns) h zero n e = h zero n e
   one_none (x ∷ ns) h (suc node) n e = one_none ns (λ m i. h (suc m) i) node n e
-
-  set_holds : (P : ℕ → N → Type 0) (ns : List (Option N)) (at : ℕ) (found : Option N) → ((node : ℕ) (n : N) → slice_get ns node ≡ Some (Some n) → P node n) →
-      ((n : N) → found ≡ Some n → P at n) → (node : ℕ) (n : N) → slice_get (set ns at found) node ≡ Some (Some n) → P node n
-  set_holds P [] at found old new node n e = old node n e
-  set_holds P (x ∷ ns) zero found old new zero n e = new n (same_Some found (Some n) e)
-  set_holds P (x ∷ ns) zero found old new (suc node) n e = old (suc node) n e
-  set_holds P (x ∷ ns) (suc at) found old new zero n e = old zero n e
-  set_holds P (x ∷ ns) (suc at) found old new (suc node) n e = set_holds (λ m i. P (suc m) i) ns at found (λ m i. old (suc m) i) new node n e
 
 set_here : {A : Type 0} (xs : List A) (n : ℕ) (a : A) → n < length xs → slice_get (set xs n a) n ≡ Some a
 set_here [] n a h = absurd (omega (arith, h))

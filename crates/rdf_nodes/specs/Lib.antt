@@ -8,3 +8,6 @@ pub mod ExpressionLaws
 pub mod AmongLaws
 pub mod DenotedLaws
 pub mod NumberLaws
+pub mod Duplicates
+pub mod DuplicateLaws
+pub mod NumberTableLaws

@@ -4,6 +4,7 @@
 
 mod build;
 mod depths;
+mod duplicates;
 mod fault;
 mod form;
 mod forms;
@@ -16,10 +17,12 @@ mod source;
 mod table;
 mod terms;
 
+pub use duplicates::Duplicates;
 pub use fault::DenoteFault;
 pub use form::{Form, Operand};
 pub use laws::forms_denote;
 pub use nodes::{Nodes, denote};
+pub use numbers::no_numbers;
 pub use rdf_asked::untyped;
 pub use rdf_meaning::Role;
 pub use rdf_roles::{NodeFault, Roles};

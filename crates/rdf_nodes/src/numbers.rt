@@ -1,11 +1,13 @@
 //! The numbers of what the nodes denote.
 
-ghost use Rattle.std.specs.Prelude.{◌≡◌, IfErr, IfOk, OnOk, length};
+ghost use Rattle.std.specs.Prelude.{◌≡◌, IfErr, IfOk, IfSome, OnOk, length};
 ghost use Rattle.rdf_meaning.specs.Kinds.{HaveNoClash};
 ghost use Rattle.rdf_roles.specs.Tables.{IsTableOf};
+ghost use Rattle.rdf_nodes.specs.Duplicates.{IsNumberOfDuplicate};
 ghost use Rattle.rdf_nodes.specs.Numbers.{AreAllHeld, AreKnown, AreNumbered, DenoteTrees, HaveNone, IsNextOf, IsPassedIn, IsSomeNodeFault};
 ghost use Rattle.tree_stores.specs.Stores.{Keeps};
 
+use crate::duplicates::Duplicates;
 use crate::source::Source;
 use owl_characters::NoMemory;
 use std::alloc::{AllocError, Global};
@@ -35,9 +37,10 @@ impl<'a> Source<'a> {
         ensures kept { Keeps (S.stands store.old) (S.stands store.new) }
     {
         let mut ids = no_numbers(self.alloc, self.roles.len())?;
+        let mut duplicates = Duplicates::of(self);
         let mut rest = self.roles.order();
         while let Some((number, behind)) = rest.split_first() {
-            match self.add_number(store, &mut ids, *number) {
+            match self.add_number(store, &mut ids, &mut duplicates, *number) {
                 Ok(()) => rest = behind,
                 Err(fault) => return Err(fault),
             }
@@ -51,6 +54,7 @@ impl<'a> Source<'a> {
         &self,
         store: &mut S,
         ids: &mut Vec<Option<S::Number>>,
+        duplicates: &mut Duplicates,
         number: usize,
     ) -> Result<(), TreeFault<S::Heavy>>
         requires table { IsTableOf self.now.graph.now self.now.roles.now }
@@ -68,6 +72,10 @@ impl<'a> Source<'a> {
         let Some(label) = self.roles.node(number) else {
             unreachable!();
         };
+        if let Some(id) = self.number_of_duplicate(ids, duplicates, number)? {
+            ids[number] = Some(id);
+            return Ok(());
+        }
         match self.denoted(store, ids, label) {
             Ok(found) => {
                 ids[number] = found;
@@ -76,10 +84,31 @@ impl<'a> Source<'a> {
             Err(fault) => Err(fault),
         }
     }
+
+    /// The number of the tree that a node with the same triples denotes, and so the
+    /// one with this number, where one was asked for before and is known.
+    pub fn number_of_duplicate<N: Copy>(
+        &self,
+        ids: &[Option<N>],
+        duplicates: &mut Duplicates,
+        number: usize,
+    ) -> Result<Option<N>, NoMemory>
+        requires { IsTableOf self.now.graph.now self.now.roles.now }
+        ensures { IfOk result (λ found. IfSome found (
+            IsNumberOfDuplicate self.now.graph.now self.now.roles.now ids.now number)) }
+    {
+        let Some(other) = duplicates.earlier(self, number)? else {
+            return Ok(None);
+        };
+        match ids.get(other) {
+            Some(Some(id)) => Ok(Some(*id)),
+            Some(None) | None => Ok(None),
+        }
+    }
 }
 
 /// So many nodes without a number.
-fn no_numbers<N: Copy>(alloc: Global, nodes: usize) -> Result<Vec<Option<N>>, NoMemory>
+pub fn no_numbers<N: Copy>(alloc: Global, nodes: usize) -> Result<Vec<Option<N>>, NoMemory>
     ensures none { IfOk result (λ ids. HaveNone ids.items) }
     ensures many { IfOk result (λ ids. length ids.items ≡ nodes) }
 {

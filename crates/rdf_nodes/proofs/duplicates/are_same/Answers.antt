@@ -1,0 +1,1 @@
+use Rattle.rdf_nodes.proofs.duplicates.are_same.Goals as goal

@@ -1,0 +1,161 @@
+//! Nodes that have the same triples.
+
+ghost use Rattle.std.specs.Prelude.{◌≡◌, IfOk, IfSome, IsTrue, map};
+ghost use Rattle.rdf_roles.specs.Tables.{IsTableOf};
+ghost use Rattle.rdf_graph.specs.declared.term.Term.TheVariants.{Blank};
+ghost use Rattle.rdf_nodes.specs.Duplicates.{AreDuplicates, HaveSameArcs, arc_of};
+
+use crate::source::Source;
+use indexmap::IndexMap;
+use owl_characters::NoMemory;
+use rdf_graph::{Term, Triple};
+use rdf_meaning::Role;
+use rdf_terms::Label;
+use std::alloc::AllocError;
+use std::hash::{DefaultHasher, Hasher};
+
+/// Nodes that were asked for, by a hash of their predicates and objects. Only where
+/// two triples name one list are any kept: there each of the nodes that share it may
+/// have to be read in the time that the list takes, and one that has the same triples
+/// as another need not.
+#[derive(Debug, Drop)]
+pub struct Duplicates {
+    asked_for: IndexMap<u64, usize>,
+    are_kept: bool,
+}
+
+impl Duplicates {
+    /// No nodes.
+    pub fn of(source: &Source) -> Duplicates
+        requires { IsTableOf source.now.graph.now source.now.roles.now }
+    {
+        Duplicates {
+            asked_for: IndexMap::new(source.alloc),
+            are_kept: shares_lists(source),
+        }
+    }
+
+    /// The number of a node that was asked for and has the same predicates and
+    /// objects as the one with this number, where one was found.
+    pub fn earlier(&mut self, source: &Source, number: usize) -> Result<Option<usize>, NoMemory>
+        requires { IsTableOf source.now.graph.now source.now.roles.now }
+        ensures { IfOk result (λ found. IfSome found (λ other.
+            AreDuplicates source.now.graph.now source.now.roles.now other number)) }
+    {
+        if !self.are_kept {
+            return Ok(None);
+        }
+        let hash = hash_of(source, number)?;
+        let Some(other) = self.asked_for.get(&hash).copied() else {
+            self.asked_for
+                .insert(hash, number)
+                .map_err(AllocError::from)?;
+            return Ok(None);
+        };
+        if are_duplicates(source, other, number)? {
+            Ok(Some(other))
+        } else {
+            Ok(None)
+        }
+    }
+}
+
+/// Whether two triples name one list: whether more of them name a cell than there are
+/// cells.
+fn shares_lists(source: &Source) -> bool
+    requires { IsTableOf source.now.graph.now source.now.roles.now }
+{
+    count_cells(source) < count_named_cells(source)
+}
+
+/// How many nodes are cells of lists.
+fn count_cells(source: &Source) -> usize {
+    let mut cells: usize = 0;
+    for number in 0..source.roles.len() {
+        if let Some(label) = source.roles.node(number) {
+            if source.roles.role(label) == Role::List {
+                cells = cells.saturating_add(1);
+            }
+        }
+    }
+    cells
+}
+
+/// How many triples have a cell as their object.
+fn count_named_cells(source: &Source) -> usize {
+    let mut named: usize = 0;
+    for triple in source.graph.triples() {
+        if let Term::Blank(label) = &triple.object {
+            if source.roles.role(label) == Role::List {
+                named = named.saturating_add(1);
+            }
+        }
+    }
+    named
+}
+
+/// A hash of the predicates and objects of the node with this number.
+fn hash_of(source: &Source, number: usize) -> Result<u64, NoMemory> {
+    let mut hasher = DefaultHasher::new();
+    if let Some(label) = source.roles.node(number) {
+        let node = Term::Blank(label.copy(source.alloc)?);
+        for triple in source.graph.about(&node) {
+            add_arc(&mut hasher, triple);
+        }
+    }
+    Ok(hasher.finish())
+}
+
+/// Adds the texts of the triple's predicate and object.
+fn add_arc(hasher: &mut DefaultHasher, triple: &Triple) {
+    hasher.write(triple.predicate.text().as_bytes());
+    match &triple.object {
+        Term::Iri(iri) => hasher.write(iri.text().as_bytes()),
+        Term::Blank(label) => hasher.write(label.text().as_bytes()),
+        Term::Literal(literal) => hasher.write(literal.lexical().as_bytes()),
+    }
+}
+
+/// Whether the nodes with these numbers have the same predicates and objects.
+fn are_duplicates(source: &Source, first: usize, second: usize) -> Result<bool, NoMemory>
+    ensures { IsTableOf source.now.graph.now source.now.roles.now →
+        IfOk result (λ same. IsTrue same →
+        AreDuplicates source.now.graph.now source.now.roles.now first second) }
+{
+    let Some(one) = source.roles.node(first) else {
+        return Ok(false);
+    };
+    let Some(other) = source.roles.node(second) else {
+        return Ok(false);
+    };
+    have_same_arcs(source, one, other)
+}
+
+/// Whether the nodes have the same predicates and objects.
+fn have_same_arcs(source: &Source, first: &Label, second: &Label) -> Result<bool, NoMemory>
+    ensures { IfOk result (λ same. IsTrue same →
+        HaveSameArcs source.now.graph.now (Blank first.now) (Blank second.now)) }
+{
+    let one = Term::Blank(first.copy(source.alloc)?);
+    let other = Term::Blank(second.copy(source.alloc)?);
+    Ok(are_same(source.graph.about(&one), source.graph.about(&other)))
+}
+
+/// Whether the triples have the same predicates and objects, one by one.
+fn are_same(first: &[Triple], second: &[Triple]) -> bool
+    ensures { IsTrue result → map arc_of first.now ≡ map arc_of second.now }
+{
+    let mut rest = first;
+    let mut others = second;
+    while let Some((triple, behind)) = rest.split_first() {
+        let Some((other, more)) = others.split_first() else {
+            return false;
+        };
+        if triple.predicate != other.predicate || triple.object != other.object {
+            return false;
+        }
+        rest = behind;
+        others = more;
+    }
+    others.is_empty()
+}
