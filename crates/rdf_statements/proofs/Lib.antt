@@ -7,3 +7,4 @@ pub mod HoldingKids
 pub mod Adding
 pub mod Held
 pub mod Stating
+pub mod WithoutNotes

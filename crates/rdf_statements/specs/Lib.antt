@@ -4,3 +4,4 @@ pub mod Forms
 pub mod FormLaws
 pub mod Holding
 pub mod StatedLaws
+pub mod BareAxioms

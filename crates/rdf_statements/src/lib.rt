@@ -3,6 +3,7 @@
 #![tactic(auto)]
 
 mod axioms;
+mod bare;
 mod form;
 mod forms;
 mod hold_forms;

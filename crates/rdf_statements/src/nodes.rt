@@ -7,10 +7,12 @@ ghost use Rattle.rdf_meaning.specs.declared.role.Role.TheVariants as role;
 ghost use Rattle.rdf_meaning.specs.Nodes.{is_role, nodes_of, role_of};
 ghost use Rattle.rdf_meaning.specs.Statements.{AreNodeAxioms};
 ghost use Rattle.rdf_roles.specs.Tables.{blank_nodes};
+ghost use Rattle.rdf_statements.specs.BareAxioms.{AreBareAxioms};
 ghost use Rattle.rdf_statements.specs.GraphTrees.{IsTreeOf};
 ghost use Rattle.rdf_statements.specs.Holding.{Adds, IsKnown, IsOnlySet, StandForSome, main_nodes};
 ghost use Rattle.tree_stores.specs.Stores.{Keeps};
 
+use crate::bare::{BareAxioms, hold_node_once};
 use crate::forms::form_of_node;
 use crate::hold_forms::hold_form;
 use crate::known::Known;
@@ -38,8 +40,15 @@ pub(crate) fn add_nodes<S: TreeStore>(
         known.now.annotated.reading.kinds.now known.now.annotated.reading.header.now)) }
     ensures kept { Keeps (S.stands store.old) (S.stands store.new) }
 {
-    for number in 0..known.annotated.reading.roles.len() {
-        add_node(known, store, number, axioms)?;
+    let reading = known.annotated.reading;
+    let mut bare = BareAxioms::none(&Source {
+        alloc: known.annotated.alloc,
+        graph: reading.graph,
+        roles: reading.roles,
+        kinds: reading.kinds,
+    })?;
+    for number in 0..reading.roles.len() {
+        add_node(known, store, &mut bare, number, axioms)?;
     }
     Ok(())
 }
@@ -48,10 +57,14 @@ pub(crate) fn add_nodes<S: TreeStore>(
 fn add_node<S: TreeStore>(
     known: &Known<S::Number>,
     store: &mut S,
+    bare: &mut BareAxioms<S::Number>,
     number: usize,
     axioms: &mut Vec<S::Number>,
 ) -> Result<(), TreeFault<S::Heavy>>
     requires known { IsKnown (S.stands store.old) known.now }
+    requires bare { AreBareAxioms known.now.annotated.reading.graph.now
+        known.now.annotated.reading.kinds.now known.now.annotated.reading.roles.now
+        (S.stands store.old) bare.old.numbers.items }
     requires number { number < length known.now.annotated.reading.roles.now.nodes }
     ensures added { (label : List ℕ)
         → slice_get (blank_nodes known.now.annotated.reading.graph.now) number ≡ Some label →
@@ -60,6 +73,9 @@ fn add_node<S: TreeStore>(
         known.now.annotated.reading.kinds.now
         (main_nodes known.now.annotated.reading.graph.now (label ∷ [])))
         axioms.old.items axioms.new.items) }
+    ensures bare { OnOk result (AreBareAxioms known.now.annotated.reading.graph.now
+        known.now.annotated.reading.kinds.now known.now.annotated.reading.roles.now
+        (S.stands store.new) bare.new.numbers.items) }
     ensures fault { IfErr result (IsFaultOfSome (IsTreeOf known.now.annotated.reading.graph.now
         known.now.annotated.reading.kinds.now known.now.annotated.reading.header.now)) }
     ensures kept { Keeps (S.stands store.old) (S.stands store.new) }
@@ -71,13 +87,13 @@ fn add_node<S: TreeStore>(
     if !is_main(roles.role(label)) {
         return Ok(());
     }
-    let mut more = hold_node(known, store, label)?;
+    let mut more = hold_node_once(known, store, bare, number, label)?;
     axioms.append(&mut more)?;
     Ok(())
 }
 
 /// The number of the axiom that the node stands for.
-fn hold_node<S: TreeStore>(
+pub(crate) fn hold_node<S: TreeStore>(
     known: &Known<S::Number>,
     store: &mut S,
     label: &Label,
@@ -129,7 +145,7 @@ fn hold_only_set<S: TreeStore>(
 }
 
 /// The number alone.
-fn alone<N: Copy>(alloc: Global, number: N) -> Result<Vec<N>, NoMemory>
+pub(crate) fn alone<N: Copy>(alloc: Global, number: N) -> Result<Vec<N>, NoMemory>
     ensures { IfOk result (λ numbers. numbers.items ≡ number ∷ []) }
 {
     let mut numbers = Vec::new(alloc);

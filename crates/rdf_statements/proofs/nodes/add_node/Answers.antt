@@ -28,6 +28,6 @@ returns-clause-added g c = λ label at.
     let same = label_at graph reading.roles.now table c.args.number c.in-Some.label.now label c.in-Some.ensures at in
     let main =
     ap (λ l. is_role role.Main (role_of graph (Blank l))) (sym same) ∙ ap (is_role role.Main) (sym (c.role.ensures graph table)) ∙ sym c.is_main.ensures ∙ c.if-not-is_main.false in
-    node_added (stands c.args.store.now) (stands c.hold_node.new.store) graph kinds label c.args.axioms.now.items c.in_ok-more.more.items _ main c.hold_node.ensures.kept
-    (subst (λ l. StandForSome (stands c.hold_node.new.store) (AreNodeAxioms graph kinds (Blank l ∷ [])) c.in_ok-more.more.items) same c.in_ok-more.ensures.held)
+    node_added (stands c.args.store.now) (stands c.hold_node_once.new.store) graph kinds label c.args.axioms.now.items c.in_ok-more.more.items _ main c.hold_node_once.ensures.kept
+    (subst (λ l. StandForSome (stands c.hold_node_once.new.store) (AreNodeAxioms graph kinds (Blank l ∷ [])) c.in_ok-more.more.items) same c.in_ok-more.ensures.held)
     c.in_ok-append.ensures.items
