@@ -1,16 +1,16 @@
 -- Numbers of trees, as an arena grows.
-use Rattle.std.specs.Prelude.{◌≡◌, ◌<◌, ℕ, List, [], ◌∷◌, ◌++◌, Some, length, map, slice_get}
+use Rattle.std.specs.Prelude.{◌≡◌, ◌<◌, ◌≤◌, ℕ, List, [], ◌∷◌, ◌++◌, Some, length, map, slice_get}
 use Rattle.std.proofs.Common.{inl, inr, arith, length-append, refl, ap, sym, subst, ◌∙◌}
-use Rattle.std.proofs.lemmas.List.{get_or_append_left}
+use Rattle.std.proofs.lemmas.List.{get_or_append_left, length-map}
 use Rattle.std.proofs.lemmas.Option.{get_or_from_slice_get, slice_get_read, slice_get_within}
 use Rattle.owl_arena.specs.Growth.{Adds, IsTooDeep, IsTooHeavy}
 use Rattle.owl_arena.specs.Held.{AreHeld, node_over, tree_at, trees_at}
-use Rattle.owl_arena.specs.Shared.{deepest, heaviest}
+use Rattle.owl_arena.specs.Shared.{AreShared, deepest, heaviest}
 use Rattle.owl_tree.specs.Canonical.{canonical}
 use Rattle.owl_tree.specs.CanonicalLaws.{canonical_depth, canonical_node}
 use Rattle.owl_tree.specs.declared.tag.Tag.{Tag}
-use Rattle.owl_tree.specs.Trees.{Tree, depth, kids_of, node, weight}
-use Rattle.tree_stores.specs.Stores.{AreStanding, HasNumber, IsDeep, IsHeavy, Keeps, StandFor}
+use Rattle.owl_tree.specs.Trees.{Tree, depth, kids_in, kids_of, node, weight}
+use Rattle.tree_stores.specs.Stores.{AreStanding, HasNumber, IsDeep, IsHeavy, IsNew, Keeps, StandFor}
 
 get_more : (old more : List Tree) (id : ℕ) (t : Tree) → slice_get old id ≡ Some t → slice_get (old ++ more) id ≡ Some t
 get_more old more id t e =
@@ -52,3 +52,19 @@ node_too_deep trees ts tag ids h d = subst (λ n. deepest < n) (depth_is trees t
 
 pub node_too_heavy : (trees ts : List Tree) (tag : Tag) (ids : List ℕ) → StandFor (HasNumber trees) ts ids → IsTooHeavy (node_over trees tag ids) → IsHeavy (node tag (kids_of ts))
 node_too_heavy trees ts tag ids h d = subst (λ t. heaviest < weight t) (node_is trees ts tag ids h) d.heavy
+
+-- a tree behind those that there were is none of them
+pub new_tree : (trees olds : List Tree) → AreShared trees → (before place : ℕ) {id : ℕ} → length olds ≡ before → before ≤ place → place ≡ id → Keeps (HasNumber olds) (HasNumber trees) →
+    (t : Tree) → HasNumber trees t id → (kids : List ℕ) → trees_at trees kids ≡ kids_in (tree_at trees id) → IsNew (HasNumber olds) t (length kids)
+new_tree trees olds shared before place {id} size behind is kept t at kids are =
+    let here : tree_at trees id ≡ canonical t = get_or_from_slice_get trees id (canonical t) _ at in
+    record {
+      apart = λ u n old e.
+          let new = kept u n old in
+          let there : tree_at trees n ≡ canonical u = get_or_from_slice_get trees n (canonical u) _ new in
+          let same =
+          shared.one_number id n (slice_get_within trees id (canonical t) at) (slice_get_within trees n (canonical u) new) (here ∙ sym e ∙ sym there) in
+          let less = slice_get_within olds n (canonical u) old in
+          omega (arith, size, behind, is, same, less);
+      many = let many = sym (length-map kids (tree_at trees)) ∙ ap length (are ∙ ap kids_in here) in omega (arith, many);
+    }

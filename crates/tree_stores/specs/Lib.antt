@@ -1,3 +1,4 @@
 pub mod Stores
 pub mod StoreLaws
 pub mod ArenaLaws
+pub mod KidLaws

@@ -1,8 +1,10 @@
 -- Numbers that stand for trees.
-use Rattle.std.specs.Prelude.{◌≡◌, ◌≤◌, ◌<◌, ℕ, List, [], ◌∷◌, Some, max, slice_get}
+use Rattle.std.specs.Prelude.{◌≡◌, ◌≤◌, ◌<◌, ◌+◌, ℕ, List, [], ◌∷◌, Some, length, map, max, slice_get}
+use Rattle.std.specs.List.{AllByRecursion, sum_by}
 use Rattle.owl_arena.specs.Shared.{deepest, heaviest}
+use Rattle.owl_list.specs.Ascending.{AreApart}
 use Rattle.owl_tree.specs.Canonical.{canonical}
-use Rattle.owl_tree.specs.Trees.{Tree, depth, weight}
+use Rattle.owl_tree.specs.Trees.{Tree, depth, kids_in, weight}
 use Rattle.tree_stores.specs.declared.fault.TreeFault.{TreeFault}
 use Rattle.tree_stores.specs.declared.fault.TreeFault.TheVariants.{TooDeep, TooHeavy, Memory}
 
@@ -59,3 +61,41 @@ abbrev pub IsTreeFault : {H : Type 0} → Tree → TreeFault H → Type 0
 IsTreeFault t TooDeep = IsDeep t
 IsTreeFault t (TooHeavy h) = IsHeavy t
 IsTreeFault t Memory = Unit {0}
+
+-- how many kids its canonical form has
+abbrev pub kid_count : Tree → ℕ
+kid_count t = length (kids_in (canonical t))
+
+abbrev pub kid_sum : List Tree → ℕ
+kid_sum ts = sum_by kid_count ts
+
+-- The tree is equivalent to none that stood, and has at least so many kids.
+pub record IsNew {N : Type 0} (Old : Tree → N → Type 0) (t : Tree) (kids : ℕ) : Type 0 where
+  pub apart : (u : Tree) (n : N) → Old u n → canonical u ≡ canonical t → ⊥
+  pub many : kids ≤ kid_count t
+
+-- The sum, or the sum and the kids of the tree, which is new.
+pub data IsSumWith {N : Type 0} (Old : Tree → N → Type 0) (t : Tree) (sum : ℕ) : ℕ → Type 0 where
+  as_it_was : IsSumWith Old t sum sum
+  with_kids : (kids : ℕ) → IsNew Old t kids → IsSumWith Old t sum (sum + kids)
+
+-- With the kids of the tree, which is new, the sum is greater than a tree may be heavy.
+pub record PassesWith {N : Type 0} (Old : Tree → N → Type 0) (t : Tree) (sum : ℕ) : Type 0 where
+  pub kids : ℕ
+  pub new : IsNew Old t kids
+  pub beyond : heaviest < sum + kids
+
+-- Trees of which the fact holds, which stand and no two of which are equivalent, have at least so many kids together.
+pub record HaveKids {N : Type 0} (P : Tree → Type 0) (Stands : Tree → N → Type 0) (sum : ℕ) : Type 0 where
+  pub trees : List Tree
+  pub apart : AreApart (map canonical trees)
+  pub each : AllByRecursion P trees
+  pub held : AllByRecursion (IsHeld Stands) trees
+  pub many : sum ≤ kid_sum trees
+
+-- Trees of which the fact holds, no two of which are equivalent, have more kids together than a tree may have nodes and leaves.
+pub record HaveManyKids (P : Tree → Type 0) : Type 0 where
+  pub trees : List Tree
+  pub apart : AreApart (map canonical trees)
+  pub each : AllByRecursion P trees
+  pub many : heaviest < kid_sum trees

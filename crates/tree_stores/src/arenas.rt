@@ -1,6 +1,6 @@
 //! Arenas as stores.
 
-ghost use Rattle.std.specs.Prelude.{ℕ, List, IfErr, IfOk};
+ghost use Rattle.std.specs.Prelude.{ℕ, List, IfErr, IfOk, length};
 ghost use Rattle.owl_tree.specs.Trees.{Tree, kids_of, node};
 ghost use Rattle.tree_stores.specs.Stores.{AreStanding, HasNumber, IsSmall, IsTreeFault, Keeps, StandFor};
 
@@ -16,6 +16,20 @@ impl TreeStore for Arena {
     type Heavy = ();
 
     ghost stands = { λ arena t id. HasNumber arena.trees t id };
+
+    ghost size = { λ arena. length arena.trees };
+
+    fn count(&self) -> usize {
+        self.distinct()
+    }
+
+    fn new_kids(&self, before: usize, number: ExprId) -> Option<(u64, ())> {
+        self.distinct();
+        if number.place() < before {
+            return None;
+        }
+        Some((self.kids(number).len() as u64, ()))
+    }
 
     fn hold_leaf(&mut self, tag: Tag, atom: Atom) -> Result<ExprId, NoMemory> {
         self.leaf(tag, atom).map_err(|_| NoMemory)

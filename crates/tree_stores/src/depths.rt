@@ -22,6 +22,16 @@ impl TreeStore for Depths {
 
     ghost stands = { λ _ t d. HasDepth t d };
 
+    ghost size = { λ _. 0 };
+
+    fn count(&self) -> usize {
+        0
+    }
+
+    fn new_kids(&self, _before: usize, _number: u32) -> Option<(u64, Infallible)> {
+        None
+    }
+
     fn hold_leaf(&mut self, _tag: Tag, _atom: Atom) -> Result<u32, NoMemory> {
         Ok(1)
     }

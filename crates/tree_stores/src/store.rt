@@ -1,10 +1,11 @@
 //! Stores of trees.
 
-ghost use Rattle.std.specs.Prelude.{IfErr, IfOk, List};
+ghost use Rattle.std.specs.Prelude.{◌≡◌, ◌∷◌, [], IfErr, IfOk, IfSome, List, ℕ};
 ghost use Rattle.owl_tree.specs.Trees.{Tree, kids_of, leaf, node};
-ghost use Rattle.tree_stores.specs.Stores.{AreStanding, IsTreeFault, Keeps, StandFor};
+ghost use Rattle.tree_stores.specs.Stores.{AreStanding, IsNew, IsSumWith, IsTreeFault, Keeps, PassesWith, StandFor};
 
 use crate::fault::TreeFault;
+use owl_arena::HEAVIEST;
 use owl_characters::NoMemory;
 use owl_tree::{Atom, Tag};
 
@@ -18,6 +19,21 @@ pub trait TreeStore {
 
     /// The number is one that was given for the tree.
     ghost stands: { Self → Tree → Self.Number → Type 0 };
+
+    /// So many trees are in it.
+    ghost size: { Self → ℕ };
+
+    /// How many trees are in it; 0 where it holds none.
+    fn count(&self) -> usize
+        ensures { result ≡ size self.now };
+
+    /// How many kids the canonical form of the tree has, and what is told where it is
+    /// too heavy; none where the tree is one of the first so many.
+    fn new_kids(&self, before: usize, number: Self::Number) -> Option<(u64, Self::Heavy)>
+        requires { AreStanding (stands self.now) (number ∷ []) }
+        ensures { IfSome result (λ found. (old : Self) → size old ≡ before →
+            Keeps (stands old) (stands self.now) → (t : Tree) → stands self.now t number →
+            IsNew (stands old) t found.0) };
 
     /// The number of the leaf.
     fn hold_leaf(&mut self, tag: Tag, atom: Atom) -> Result<Self::Number, NoMemory>
@@ -39,4 +55,32 @@ pub trait TreeStore {
         ensures fault { (ts : List Tree) → StandFor (stands self.old) ts kids.items →
             IfErr result (IsTreeFault (node tag (kids_of ts))) }
         ensures kept { Keeps (stands self.old) (stands self.new) };
+}
+
+/// The sum with the kids of the tree, where it is none of the first so many trees; what
+/// is told beside `TooHeavy`, where that is more than 2^24.
+pub fn add_kids<S: TreeStore>(
+    store: &S,
+    before: usize,
+    number: S::Number,
+    sum: u64,
+) -> Result<u64, S::Heavy>
+    requires { AreStanding (S.stands store.now) (number ∷ []) }
+    ensures sum { (old : S) (t : Tree) → S.size old ≡ before →
+        Keeps (S.stands old) (S.stands store.now) → S.stands store.now t number →
+        IfOk result (IsSumWith (S.stands old) t sum) }
+    ensures heavy { (old : S) (t : Tree) → S.size old ≡ before →
+        Keeps (S.stands old) (S.stands store.now) → S.stands store.now t number →
+        IfErr result (λ _. PassesWith (S.stands old) t sum) }
+{
+    match store.new_kids(before, number) {
+        Some((kids, heavy)) => {
+            if HEAVIEST.saturating_sub(sum) < kids {
+                Err(heavy)
+            } else {
+                Ok(sum + kids)
+            }
+        }
+        None => Ok(sum),
+    }
 }
