@@ -9,3 +9,4 @@ pub mod Lengths
 pub mod Passing
 pub mod Knowing
 pub mod Duplicating
+pub mod Counting

@@ -1,5 +1,5 @@
 -- The numbers, in a store, of the trees that operands and nodes stand for.
-use Rattle.std.specs.Prelude.{◌≡◌, ◌<◌, ℕ, List, [], ◌∷◌, Contains, Option, Some, length, slice_get}
+use Rattle.std.specs.Prelude.{◌≡◌, ◌<◌, ◌⊎◌, ℕ, Bool, IsTrue, List, [], ◌∷◌, Contains, Option, Some, length, slice_get}
 use Rattle.owl_kind.specs.Kinds.{Entity}
 use Rattle.owl_tree.specs.declared.row.Sort.{Sort}
 use Rattle.owl_tree.specs.Trees.{Tree}
@@ -13,7 +13,7 @@ use Rattle.rdf_roles.specs.OrderLaws.{AreClosed}
 use Rattle.rdf_roles.specs.Tables.{IsNode, LeadsTo, RoleTable}
 use Rattle.tree_stores.specs.declared.fault.TreeFault.{TreeFault}
 use Rattle.tree_stores.specs.declared.fault.TreeFault.TheVariants.{TooDeep, TooHeavy, Memory}
-use Rattle.tree_stores.specs.Stores.{IsDeep, IsHeavy, IsHeld, StandFor}
+use Rattle.tree_stores.specs.Stores.{HaveKids, HaveManyKids, IsDeep, IsHeavy, IsHeld, StandFor}
 use Rattle.rdf_nodes.specs.declared.form.Form.{Form}
 use Rattle.rdf_nodes.specs.declared.form.Operand.{Operand}
 use Rattle.rdf_nodes.specs.declared.form.Operand.TheVariants as operand
@@ -109,6 +109,20 @@ IsSomeNodeFault g k Memory = Unit {0}
 IsSomeNodeFault g k TooDeep = HasNode g k IsDeep
 IsSomeNodeFault g k (TooHeavy h) = HasNode g k IsHeavy
 
+-- some node denotes the tree
+abbrev pub IsNodeTree : List Triple → List Entity → Tree → Type 0
+IsNodeTree g k t = (label : List ℕ) × DenotesOwn g k (Blank label) t
+
+-- different trees that nodes denote, and that stand, have at least so many kids together
+abbrev pub HaveNodeKids : List Triple → List Entity → {N : Type 0} → (Tree → N → Type 0) → ℕ → Type 0
+HaveNodeKids g k Stands sum = HaveKids (IsNodeTree g k) Stands sum
+
+-- Some node denotes a tree that a store does not take; or, where that is limited, what the nodes denote has too many kids together.
+abbrev pub IsNumbersFault : {H : Type 0} → List Triple → List Entity → Bool → TreeFault H → Type 0
+IsNumbersFault g k limited Memory = Unit {0}
+IsNumbersFault g k limited TooDeep = HasNode g k IsDeep
+IsNumbersFault g k limited (TooHeavy h) = HasNode g k IsHeavy ⊎ (IsTrue limited × HaveManyKids (IsNodeTree g k))
+
 -- no node denotes a tree that is too deep
 abbrev pub AreShallow : List Triple → List Entity → Type 0
 AreShallow g k = HasNode g k IsDeep → ⊥
@@ -135,3 +149,8 @@ pub record IsPassedIn {N : Type 0} (g : List Triple) (roles : RoleTable) (old ne
   pub places : length new ≡ length old
   pub known : IsKnown g roles new node
   pub others : (other : ℕ) → IsKnown g roles old other → IsKnown g roles new other
+
+-- The node has its number, and all numbers stand for what the nodes denote.
+pub record IsAddedTo (g : List Triple) (k : List Entity) (roles : RoleTable) {N : Type 0} (Stands : Tree → N → Type 0) (old new : List (Option N)) (node : ℕ) : Type 0 where
+  pub numbered : AreNumbered g k roles Stands new
+  pub known : IsPassedIn g roles old new node

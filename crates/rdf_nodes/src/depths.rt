@@ -21,7 +21,7 @@ impl<'a> Source<'a> {
         ensures deep { IfOk result (λ shallow. IsFalse shallow →
             HasNode self.now.graph.now self.now.kinds.now IsDeep) }
     {
-        match self.numbers(&mut Depths) {
+        match self.numbers(&mut Depths, false) {
             Ok(_) => Ok(true),
             Err(TreeFault::TooDeep) => Ok(false),
             Err(TreeFault::Memory) => Err(NoMemory),

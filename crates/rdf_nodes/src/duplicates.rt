@@ -8,8 +8,8 @@ ghost use Rattle.rdf_nodes.specs.Duplicates.{AreDuplicates, HaveSameArcs, arc_of
 use crate::source::Source;
 use indexmap::IndexMap;
 use owl_characters::NoMemory;
+use rdf_asked::shares_lists;
 use rdf_graph::{Term, Triple};
-use rdf_meaning::Role;
 use rdf_terms::Label;
 use std::alloc::AllocError;
 use std::hash::{DefaultHasher, Hasher};
@@ -31,7 +31,7 @@ impl Duplicates {
     {
         Duplicates {
             asked_for: IndexMap::new(source.alloc),
-            are_kept: shares_lists(source),
+            are_kept: shares_lists(source.roles, source.graph.triples()),
         }
     }
 
@@ -58,40 +58,6 @@ impl Duplicates {
             Ok(None)
         }
     }
-}
-
-/// Whether two triples name one list: whether more of them name a cell than there are
-/// cells.
-fn shares_lists(source: &Source) -> bool
-    requires { IsTableOf source.now.graph.now source.now.roles.now }
-{
-    count_cells(source) < count_named_cells(source)
-}
-
-/// How many nodes are cells of lists.
-fn count_cells(source: &Source) -> usize {
-    let mut cells: usize = 0;
-    for number in 0..source.roles.len() {
-        if let Some(label) = source.roles.node(number) {
-            if source.roles.role(label) == Role::List {
-                cells = cells.saturating_add(1);
-            }
-        }
-    }
-    cells
-}
-
-/// How many triples have a cell as their object.
-fn count_named_cells(source: &Source) -> usize {
-    let mut named: usize = 0;
-    for triple in source.graph.triples() {
-        if let Term::Blank(label) = &triple.object {
-            if source.roles.role(label) == Role::List {
-                named = named.saturating_add(1);
-            }
-        }
-    }
-    named
 }
 
 /// A hash of the predicates and objects of the node with this number.

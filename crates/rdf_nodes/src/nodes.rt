@@ -91,7 +91,7 @@ pub fn denote(
     if !source.are_shallow()? {
         return Err(DenoteFault::TooDeep);
     }
-    let ids = source.numbers(arena)?;
+    let ids = source.numbers(arena, false)?;
     let table = source.by_label(&ids)?;
     Ok(Nodes { table })
 }

@@ -4,14 +4,14 @@ ghost use Rattle.std.specs.Prelude.{◌≡◌, IfErr, IfOk, IfSome, OnOk, length
 ghost use Rattle.rdf_meaning.specs.Kinds.{HaveNoClash};
 ghost use Rattle.rdf_roles.specs.Tables.{IsTableOf};
 ghost use Rattle.rdf_nodes.specs.Duplicates.{IsNumberOfDuplicate};
-ghost use Rattle.rdf_nodes.specs.Numbers.{AreAllHeld, AreKnown, AreNumbered, DenoteTrees, HaveNone, IsNextOf, IsPassedIn, IsSomeNodeFault};
+ghost use Rattle.rdf_nodes.specs.Numbers.{AreAllHeld, AreKnown, AreNumbered, DenoteTrees, HaveNodeKids, HaveNone, IsAddedTo, IsNextOf, IsNumbersFault, IsPassedIn, IsSomeNodeFault};
 ghost use Rattle.tree_stores.specs.Stores.{Keeps};
 
 use crate::duplicates::Duplicates;
 use crate::source::Source;
 use owl_characters::NoMemory;
 use std::alloc::{AllocError, Global};
-use tree_stores::{TreeFault, TreeStore};
+use tree_stores::{TreeFault, TreeStore, add_kids};
 
 impl<'a> Source<'a> {
     /// The numbers that the store has for the trees that the nodes denote, by the
@@ -19,11 +19,13 @@ impl<'a> Source<'a> {
     /// the nodes below a node are found before its own.
     ///
     /// `TooDeep` where some node denotes a tree of more than 128 levels; `TooHeavy`
-    /// where one denotes a tree with more than 2^24 nodes and leaves. The store
-    /// keeps the trees that it had, at their numbers, also where this refuses.
+    /// where one denotes a tree with more than 2^24 nodes and leaves, or where that is
+    /// limited and different trees that nodes denote have more than 2^24 kids together.
+    /// The store keeps the trees that it had, at their numbers, also where this refuses.
     pub fn numbers<S: TreeStore>(
         &self,
         store: &mut S,
+        limited: bool,
     ) -> Result<Vec<Option<S::Number>>, TreeFault<S::Heavy>>
         requires table { IsTableOf self.now.graph.now self.now.roles.now }
         requires trees { DenoteTrees self.now.graph.now self.now.kinds.now }
@@ -33,19 +35,67 @@ impl<'a> Source<'a> {
             AreKnown self.now.graph.now self.now.roles.now ids.items) }
         ensures all { OnOk result (HaveNoClash self.now.kinds.now →
             AreAllHeld self.now.graph.now self.now.kinds.now (S.stands store.new)) }
-        ensures fault { IfErr result (IsSomeNodeFault self.now.graph.now self.now.kinds.now) }
+        ensures fault { IfErr result (
+            IsNumbersFault self.now.graph.now self.now.kinds.now limited) }
         ensures kept { Keeps (S.stands store.old) (S.stands store.new) }
     {
         let mut ids = no_numbers(self.alloc, self.roles.len())?;
         let mut duplicates = Duplicates::of(self);
         let mut rest = self.roles.order();
+        let mut sum = 0;
         while let Some((number, behind)) = rest.split_first() {
-            match self.add_number(store, &mut ids, &mut duplicates, *number) {
-                Ok(()) => rest = behind,
+            match self.add_counted(store, &mut ids, &mut duplicates, *number, sum, limited) {
+                Ok(more) => {
+                    sum = more;
+                    rest = behind;
+                }
                 Err(fault) => return Err(fault),
             }
         }
         Ok(ids)
+    }
+
+    /// So for one more node, and where that is limited, how many kids the trees have
+    /// together with its own, if no tree before is equivalent to it.
+    fn add_counted<S: TreeStore>(
+        &self,
+        store: &mut S,
+        ids: &mut Vec<Option<S::Number>>,
+        duplicates: &mut Duplicates,
+        number: usize,
+        sum: u64,
+        limited: bool,
+    ) -> Result<u64, TreeFault<S::Heavy>>
+        requires table { IsTableOf self.now.graph.now self.now.roles.now }
+        requires trees { DenoteTrees self.now.graph.now self.now.kinds.now }
+        requires numbered { AreNumbered self.now.graph.now self.now.kinds.now self.now.roles.now
+            (S.stands store.old) ids.old.items }
+        requires next { IsNextOf self.now.graph.now self.now.roles.now ids.old.items number }
+        ensures added { OnOk result (
+            IsAddedTo self.now.graph.now self.now.kinds.now self.now.roles.now
+            (S.stands store.new) ids.old.items ids.new.items number) }
+        ensures sum { HaveNodeKids self.now.graph.now self.now.kinds.now (S.stands store.old) sum →
+            IfOk result (HaveNodeKids self.now.graph.now self.now.kinds.now
+            (S.stands store.new)) }
+        ensures fault { HaveNodeKids self.now.graph.now self.now.kinds.now (S.stands store.old) sum →
+            IfErr result (IsNumbersFault self.now.graph.now self.now.kinds.now limited) }
+        ensures kept { Keeps (S.stands store.old) (S.stands store.new) }
+    {
+        let before = store.count();
+        match self.add_number(store, ids, duplicates, number) {
+            Ok(()) => {}
+            Err(fault) => return Err(fault),
+        }
+        if !limited {
+            return Ok(sum);
+        }
+        let Some(Some(id)) = ids.get(number) else {
+            return Ok(sum);
+        };
+        match add_kids(store, before, *id, sum) {
+            Ok(more) => Ok(more),
+            Err(heavy) => Err(TreeFault::TooHeavy(heavy)),
+        }
     }
 
     /// Adds the number of the tree that the node with this number denotes, where
