@@ -1,6 +1,6 @@
 -- What the graph states, and that all that it says is held.
-use Rattle.std.specs.Prelude.{◌≡◌, List, [], Option}
-use Rattle.std.proofs.Common.{subst, sym}
+use Rattle.std.specs.Prelude.{◌≡◌, Bool, List, [], Option}
+use Rattle.std.proofs.Common.{inl, inr, subst, sym}
 use Rattle.owl_kind.specs.Kinds.{Entity}
 use Rattle.owl_tree.specs.Trees.{Tree}
 use Rattle.rdf_graph.specs.declared.term.Term.{Term}
@@ -10,15 +10,16 @@ use Rattle.rdf_meaning.specs.Kinds.{HaveNoClash}
 use Rattle.rdf_meaning.specs.Nodes.{nodes_of}
 use Rattle.rdf_meaning.specs.Statements.{Annotates, AreAxioms, AreNodeAxioms, main_triples}
 use Rattle.tree_stores.specs.Stores.{Keeps, StandFor}
+use Rattle.tree_stores.specs.KidLaws.{many_kids_of}
 use Rattle.tree_stores.specs.StoreLaws.{stand_still}
 use Rattle.tree_stores.specs.declared.fault.TreeFault.{TreeFault}
 use Rattle.tree_stores.specs.declared.fault.TreeFault.TheVariants.{TooDeep, TooHeavy, Memory}
 use Rattle.rdf_annotations.specs.Annotations.{AreAnnotations, AreSets, IsFaultOfSome, IsNotedTree}
 use Rattle.rdf_annotations.specs.AnnotationLaws.{annotations_of_header, sets_kept}
 use Rattle.rdf_annotations.specs.Held.{IsAnnotated}
-use Rattle.rdf_nodes.specs.Numbers.{AreAllHeld, AreKnown, AreNumbered, IsSomeNodeFault}
+use Rattle.rdf_nodes.specs.Numbers.{AreAllHeld, AreKnown, AreNumbered, IsNodeTree, IsNumbersFault}
 use Rattle.rdf_statements.specs.declared.known.Known.{Known}
-use Rattle.rdf_statements.specs.GraphTrees.{AreStatements, IsTreeOf, StatesAxioms, of_node, of_annotation}
+use Rattle.rdf_statements.specs.GraphTrees.{AreStatements, IsStatementFault, IsTreeOf, StatesAxioms, of_node, of_annotation}
 use Rattle.rdf_statements.specs.Holding.{Adds, HoldAll, IsKnown, StandForAxioms}
 use Rattle.rdf_statements.proofs.Faults.{fault_of_some}
 use Rattle.rdf_statements.proofs.Held.{all_held}
@@ -27,10 +28,16 @@ module _ (g : List Triple) (k : List Entity) (header : Term) where
   pub noted_fault : {H : Type 0} (f : TreeFault H) → IsFaultOfSome (IsNotedTree g k header) f → IsFaultOfSome (IsTreeOf g k header) f
   noted_fault f h = fault_of_some (IsNotedTree g k header) (IsTreeOf g k header) (λ t is. of_annotation t is) f h
 
-  pub node_fault : {H : Type 0} (f : TreeFault H) → IsSomeNodeFault g k f → IsFaultOfSome (IsTreeOf g k header) f
-  node_fault TooDeep h = (h.1.0, of_node h.0 h.1.0 h.1.1, h.1.2)
-  node_fault (TooHeavy _) h = (h.1.0, of_node h.0 h.1.0 h.1.1, h.1.2)
-  node_fault Memory h = tt
+  pub tree_fault : {H : Type 0} (f : TreeFault H) → IsFaultOfSome (IsTreeOf g k header) f → IsStatementFault g k header f
+  tree_fault TooDeep h = h
+  tree_fault (TooHeavy _) h = inl h
+  tree_fault Memory h = tt
+
+  pub node_fault : {H : Type 0} (limited : Bool) (f : TreeFault H) → IsNumbersFault g k limited f → IsStatementFault g k header f
+  node_fault limited TooDeep h = (h.1.0, of_node h.0 h.1.0 h.1.1, h.1.2)
+  node_fault limited (TooHeavy _) (inl h) = inl (h.1.0, of_node h.0 h.1.0 h.1.1, h.1.2)
+  node_fault limited (TooHeavy _) (inr h) = inr (many_kids_of (IsNodeTree g k) (IsTreeOf g k header) (λ t own. of_node own.0 t own.1) h.1)
+  node_fault limited Memory h = tt
 
   -- the axioms of triples, and then those of nodes
   pub both_stand_for : {N : Type 0} (A B C : Tree → N → Type 0) (os ms ns : List N) → os ≡ [] → Adds A B (AreAxioms g k (main_triples g k header)) os ms →

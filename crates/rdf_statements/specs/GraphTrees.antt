@@ -1,5 +1,5 @@
 -- The trees that a graph says, and which of them are too large (Mapping to RDF Graphs, section 3).
-use Rattle.std.specs.Prelude.{◌≡◌, ℕ, List, ◌++◌, Contains}
+use Rattle.std.specs.Prelude.{◌≡◌, ◌⊎◌, ℕ, List, ◌++◌, Contains}
 use Rattle.owl_kind.specs.Kinds.{Entity}
 use Rattle.owl_tree.specs.declared.tag.Tag.{Tag}
 use Rattle.owl_tree.specs.Trees.{Tree, node, kids_of}
@@ -11,7 +11,9 @@ use Rattle.rdf_meaning.specs.Nodes.{nodes_of, role_of}
 use Rattle.rdf_meaning.specs.Statements.{Annotates, AreAxioms, AreNodeAxioms, HasAxiom, HasNodeAxiom, IsAxiomOf, IsAxiomOfNode, header_notes, main_triples}
 use Rattle.rdf_annotations.specs.Annotations.{IsNotedTree}
 use Rattle.rdf_nodes.specs.Numbers.{DenotesOwn}
-use Rattle.tree_stores.specs.Stores.{StandFor}
+use Rattle.tree_stores.specs.declared.fault.TreeFault.{TreeFault}
+use Rattle.tree_stores.specs.declared.fault.TreeFault.TheVariants.{TooDeep, TooHeavy, Memory}
+use Rattle.tree_stores.specs.Stores.{HaveManyKids, IsDeep, IsHeavy, StandFor}
 
 -- Each triple that is no annotation and no part of a node is an axiom, and each node whose role it is stands for one.
 pub record StatesAxioms (g : List Triple) (k : List Entity) (header : Term) : Type 0 where
@@ -24,6 +26,12 @@ pub data IsTreeOf (g : List Triple) (k : List Entity) (header : Term) : Tree →
   of_annotation : (t : Tree) → IsNotedTree g k header t → IsTreeOf g k header t
   of_axiom : (u : Triple) (t : Tree) → Contains (main_triples g k header) u → IsAxiomOf g k u t → IsTreeOf g k header t
   of_axiom_node : (x : Term) (t : Tree) → role_of g x ≡ role.Main → IsAxiomOfNode g k x t → IsTreeOf g k header t
+
+-- Some tree that the graph says is too deep or too heavy, or such trees have too many kids together; want of memory is told of any graph.
+abbrev pub IsStatementFault : {H : Type 0} → List Triple → List Entity → Term → TreeFault H → Type 0
+IsStatementFault g k header TooDeep = (t : Tree) × IsTreeOf g k header t × IsDeep t
+IsStatementFault g k header (TooHeavy h) = ((t : Tree) × IsTreeOf g k header t × IsHeavy t) ⊎ HaveManyKids (IsTreeOf g k header)
+IsStatementFault g k header Memory = Unit {0}
 
 -- the tree is this one, or a kid of it, and so on down
 pub data IsPartOf : Tree → Tree → Type 0 where

@@ -1,13 +1,15 @@
--- A part of a tree is no deeper than the tree, and its canonical form no heavier.
+-- A part of a tree is no deeper than the tree, and its canonical form no heavier, and a part of that of the tree.
 use Rattle.std.specs.Prelude.{◌≤◌, List, [], ◌∷◌, Contains, map}
-use Rattle.std.proofs.Common.{inl, inr, ap, arith, subst}
-use Rattle.owl_list.specs.AscendingLaws.{in_cases, in_map, in_none}
+use Rattle.std.proofs.Common.{inl, inr, ap, arith, subst, sym}
+use Rattle.owl_list.specs.AscendingLaws.{in_cases, in_map, in_none, in_tail}
 use Rattle.owl_tree.specs.declared.tag.Tag.{Tag}
 use Rattle.owl_tree.specs.Canonical.{arranged, canonical}
 use Rattle.owl_tree.specs.CanonicalLaws.{arranged_holds, canonicals_kids_of}
 use Rattle.owl_tree.specs.Rows.{row_of, set_start}
 use Rattle.owl_tree.specs.Shape.{AreShaped, IsShaped}
+use Rattle.owl_tree.specs.TreeLaws.{list_of_kids_of}
 use Rattle.owl_tree.specs.Trees.{Tree, depth, kids_of, most_depth, node, sum_weight, weight}
+use Rattle.tree_stores.specs.KidLaws.{itself_part, kid_parts, parts, parts_below}
 use Rattle.rdf_statements.specs.GraphTrees.{IsPartOf, itself, below}
 
 most_of_kids : (ts : List Tree) (t : Tree) → Contains ts t → depth t ≤ most_depth (kids_of ts)
@@ -46,6 +48,16 @@ part_depth _ _ (below t u tag us m p) = let first = part_depth t u p in let more
 pub part_weight : (t u : Tree) → IsPartOf t u → weight (canonical t) ≤ weight (canonical u)
 part_weight _ _ (itself t) = omega arith
 part_weight _ _ (below t u tag us m p) = let first = part_weight t u p in let more = kid_weight tag us u m in omega arith
+
+pub part_of_form : (t u : Tree) → IsPartOf t u → Contains (parts (canonical u)) (canonical t)
+part_of_form _ _ (itself t) = itself_part (canonical t)
+part_of_form _ _ (below t u tag us m p) =
+    let start = set_start (row_of tag) in
+    let forms = arranged start (map canonical us) in
+    let among = (arranged_holds start (map canonical us) (canonical u)).1 (in_map canonical us u m) in
+    let kids = subst (λ vs. Contains vs (canonical u)) (sym (list_of_kids_of forms)) among in
+    let inside = in_tail (node tag (kids_of forms)) (parts_below (kids_of forms)) (canonical t) (kid_parts (kids_of forms) (canonical u) (canonical t) kids (part_of_form t u p)) in
+    subst (λ vs. Contains (parts (node tag (kids_of (arranged start vs)))) (canonical t)) (sym (canonicals_kids_of us)) inside
 
 pub part_of_part : (t u v : Tree) → IsPartOf t u → IsPartOf u v → IsPartOf t v
 part_of_part t u _ p (itself v) = p

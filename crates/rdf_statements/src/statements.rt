@@ -7,7 +7,7 @@ ghost use Rattle.rdf_annotations.specs.Held.{AreTypedNotes, IsAnnotated};
 ghost use Rattle.rdf_meaning.specs.Kinds.{HaveNoClash};
 ghost use Rattle.rdf_nodes.specs.Numbers.{DenoteTrees};
 ghost use Rattle.rdf_scans.specs.Sorts.{IsReading};
-ghost use Rattle.rdf_statements.specs.GraphTrees.{AreStatements, IsHeldWithin, IsTreeOf, StatesAxioms};
+ghost use Rattle.rdf_statements.specs.GraphTrees.{AreStatements, IsHeldWithin, IsStatementFault, IsTreeOf, StatesAxioms};
 ghost use Rattle.rdf_statements.specs.Holding.{HoldAll, IsKnown, StandForAxioms};
 ghost use Rattle.tree_stores.specs.Stores.{Keeps};
 
@@ -34,7 +34,7 @@ pub struct Statements<N> {
 ///
 /// `TooDeep` where what a node denotes, an annotation, a set of annotations, or an
 /// axiom is more than 128 levels deep; `TooHeavy` where one has more than 2^24 nodes
-/// and leaves.
+/// and leaves, or where different ones have more than 2^24 kids together.
 pub fn hold_statements<S: TreeStore>(
     alloc: Global,
     reading: &Reading,
@@ -53,8 +53,8 @@ pub fn hold_statements<S: TreeStore>(
     ensures held { OnOk result ((t : Tree)
         → IsTreeOf reading.now.graph.now reading.now.kinds.now reading.now.header.now t →
         IsHeldWithin (S.stands store.new) t) }
-    ensures fault { IfErr result (IsFaultOfSome (IsTreeOf reading.now.graph.now
-        reading.now.kinds.now reading.now.header.now)) }
+    ensures fault { IfErr result (IsStatementFault reading.now.graph.now
+        reading.now.kinds.now reading.now.header.now) }
     ensures kept { Keeps (S.stands store.old) (S.stands store.new) }
 {
     let noters = Noters::of(alloc, reading)?;
@@ -80,8 +80,8 @@ fn hold_annotated<S: TreeStore>(
     ensures all { IfOk result (λ said. HoldAll (S.stands store.new)
         annotated.now.reading.graph.now annotated.now.reading.kinds.now
         annotated.now.reading.header.now said.annotations.items said.axioms.items) }
-    ensures fault { IfErr result (IsFaultOfSome (IsTreeOf annotated.now.reading.graph.now
-        annotated.now.reading.kinds.now annotated.now.reading.header.now)) }
+    ensures fault { IfErr result (IsStatementFault annotated.now.reading.graph.now
+        annotated.now.reading.kinds.now annotated.now.reading.header.now) }
     ensures kept { Keeps (S.stands store.old) (S.stands store.new) }
 {
     let sets = annotated.hold_sets(store)?;
@@ -106,8 +106,8 @@ fn hold_noted<S: TreeStore>(
     ensures all { IfOk result (λ said. HoldAll (S.stands store.new)
         annotated.now.reading.graph.now annotated.now.reading.kinds.now
         annotated.now.reading.header.now said.annotations.items said.axioms.items) }
-    ensures fault { IfErr result (IsFaultOfSome (IsTreeOf annotated.now.reading.graph.now
-        annotated.now.reading.kinds.now annotated.now.reading.header.now)) }
+    ensures fault { IfErr result (IsStatementFault annotated.now.reading.graph.now
+        annotated.now.reading.kinds.now annotated.now.reading.header.now) }
     ensures kept { Keeps (S.stands store.old) (S.stands store.new) }
 {
     let source = Source {
@@ -116,7 +116,7 @@ fn hold_noted<S: TreeStore>(
         roles: annotated.reading.roles,
         kinds: annotated.reading.kinds,
     };
-    let ids = source.numbers(store)?;
+    let ids = source.numbers(store, true)?;
     let known = Known {
         annotated: *annotated,
         sets,
