@@ -1,5 +1,5 @@
 -- Which limit is passed, and that none is.
-use Rattle.std.specs.Prelude.{◌≡◌, ◌<◌, ◌≤◌, ℕ, List, [], ◌∷◌}
+use Rattle.std.specs.Prelude.{◌≡◌, ◌<◌, ◌≤◌, ◌⊎◌, ℕ, List, [], ◌∷◌}
 use Rattle.std.proofs.Common.{inl, inr, refl, sym, subst, arith}
 use Rattle.std.proofs.lemmas.Option.{slice_get_within}
 use Rattle.owl_arena.specs.Held.{AreHeld}
@@ -16,13 +16,15 @@ use Rattle.rdf_scans.specs.declared.reading.Reading.{Reading}
 use Rattle.rdf_statements.specs.GraphTrees.{IsHeldWithin, IsTreeOf}
 use Rattle.rdf_statements.specs.PartLaws.{part_depth, part_weight}
 use Rattle.tree_stores.specs.StoreLaws.{shallow_tree}
-use Rattle.tree_stores.specs.Stores.{HasDepth, HasNumber, IsDeep, IsSmall, StandFor}
+use Rattle.tree_stores.specs.Stores.{HasDepth, HasNumber, HaveManyKids, IsDeep, IsHeavy, IsSmall, StandFor}
 use Rattle.rdf_reverse.specs.declared.fault.ReverseFault.{ReverseFault}
 use Rattle.rdf_reverse.specs.declared.fault.ReverseFault.TheVariants.{TooDeep, TooHeavy}
 use Rattle.rdf_reverse.specs.Faults.{assemble_fault}
 use Rattle.rdf_nodes.specs.Large.{HasLargeNumber}
+use Rattle.rdf_reverse.specs.Clear.{IsClear, clear_header, clear_says}
 use Rattle.rdf_reverse.specs.Limits.{AreShallow, AreWithin}
-use Rattle.rdf_reverse.specs.Reverse.{FindsNothing, HasDeepTree, HasHeavyTree, IsFoundBy, limits, of_depths}
+use Rattle.rdf_reverse.specs.Reverse.{FindsNothing, HasDeepTree, HasHeavyTree, IsFoundBy, limits, of_depths, of_tree}
+use Rattle.rdf_reverse.specs.SumLaws.{many_are_heavy}
 use Rattle.rdf_reverse.specs.ReverseLaws.{same_header}
 
 -- the numbers of trees are there
@@ -70,6 +72,14 @@ module _ (reading : Reading) where
     are_shallow = record { small = small; shallow = none_deep (HasNumber trees) held (λ t id at. (fits t id at).shallow) };
     light = none_heavy trees held fits;
   }
+
+  -- where nothing but limits is wrong, what is told as too heavy is so
+  pub heavy_said : IsClear reading → ((t : Tree) × IsTreeOf g k header t × IsHeavy t) ⊎ HaveManyKids (IsTreeOf g k header) → HasHeavyTree g k header
+  heavy_said clear (inl one) = of_tree one.0 one.1 one.2
+  heavy_said clear (inr many) =
+      let says = clear_says reading clear in
+      let same = clear_header reading clear says.0 says.1 in
+      subst (HasHeavyTree g k) same (many_are_heavy g k says.0 says.1 (subst (λ x. HaveManyKids (IsTreeOf g k x)) (sym same) many))
 
   module _ (one : headers g ≡ header ∷ []) where
     no_depths : AreShallow reading → FindsNothing g k of_depths

@@ -5,3 +5,4 @@ pub mod Clear
 pub mod Limits
 pub mod WithinLaws
 pub mod DeclaringLaws
+pub mod SumLaws

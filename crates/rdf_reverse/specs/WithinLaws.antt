@@ -40,68 +40,69 @@ form_weight ts t m =
     let same = ap weight inside.2 in
     omega (arith, most, same)
 
-module _ (g : List Triple) (k : List Entity) (o : Ontology) (h : Says g k o) (within : IsWithin o) where
+module _ (g : List Triple) (k : List Entity) (o : Ontology) (h : Says g k o) where
   -- the ontology has a tree that is equivalent to each that the graph states
-  record HasEqual (t : Tree) : Type 0 where
-    tree : Tree
-    inside : Contains o.annotations tree ⊎ Contains o.axioms tree
-    same : IsEquivalent t tree
+  pub record HasEqual (t : Tree) : Type 0 where
+    pub tree : Tree
+    pub inside : Contains o.annotations tree ⊎ Contains o.axioms tree
+    pub same : IsEquivalent t tree
 
-  equal_of : (t : Tree) → Contains (stated g k o h) t → HasEqual t
+  pub equal_of : (t : Tree) → Contains (stated g k o h) t → HasEqual t
   equal_of t m =
       elim (Contains-append_cases h.states.notes_in (h.states.by_triples ++ h.states.by_nodes) t m) [
         | inl n ↦ let u = h.states.annotations.back t n in record { tree = u.0; inside = inl u.1; same = u.2 }
         | inr n ↦ let u = h.states.axioms.back t n in record { tree = u.0; inside = inr u.1; same = u.2 }
       ]
 
-  its_shape : (t : Tree) → Contains o.annotations t ⊎ Contains o.axioms t → IsShaped t
-  its_shape t (inl m) = (all_in IsAnnotation o.annotations t within.is.annotations m).shaped
-  its_shape t (inr m) = (all_in IsAxiom o.axioms t within.is.axioms m).shaped
-
-  its_depth : (t : Tree) → Contains o.annotations t ⊎ Contains o.axioms t → depth t ≤ deepest
-  its_depth t (inl m) = all_in (λ u. depth u ≤ deepest) (o.annotations ++ o.axioms) t within.shallow (Contains-append_left o.annotations o.axioms t m)
-  its_depth t (inr m) = all_in (λ u. depth u ≤ deepest) (o.annotations ++ o.axioms) t within.shallow (Contains-append_right o.annotations o.axioms t m)
-
-  its_weight : (t : Tree) → Contains o.annotations t ⊎ Contains o.axioms t → weight (canonical t) ≤ ontology_weight o
-  its_weight t (inl m) = let most = form_weight o.annotations t m in omega (arith, most)
-  its_weight t (inr m) = let most = form_weight o.axioms t m in omega (arith, most)
-
-  form_is : (t : Tree) (is : HasEqual t) → canonical t ≡ canonical is.tree
+  pub form_is : (t : Tree) (is : HasEqual t) → canonical t ≡ canonical is.tree
   form_is t is = (equivalent_is_equal_form t is.tree).0 is.same
 
-  shaped : (t : Tree) → Contains (stated g k o h) t → IsShaped t
-  shaped t m =
-      let is = equal_of t m in
-      (canonical_shape t).1 (subst IsShaped (sym (form_is t is)) ((canonical_shape is.tree).0 (its_shape is.tree is.inside)))
+  module _ (within : IsWithin o) where
+    its_shape : (t : Tree) → Contains o.annotations t ⊎ Contains o.axioms t → IsShaped t
+    its_shape t (inl m) = (all_in IsAnnotation o.annotations t within.is.annotations m).shaped
+    its_shape t (inr m) = (all_in IsAxiom o.axioms t within.is.axioms m).shaped
 
-  stated_depth : (t : Tree) → IsStated (stated g k o h) t → depth t ≤ deepest
-  stated_depth t (inl p) =
-      let is = equal_of p.whole p.inside in
-      let part = part_depth t p.whole p.part in
-      let same = equivalent_depth p.whole is.tree is.same in
-      let most = its_depth is.tree is.inside in
-      omega (arith, part, same, most)
-  stated_depth t (inr e) = let one = ap depth e ∙ empty_depth in omega (arith, one)
+    its_depth : (t : Tree) → Contains o.annotations t ⊎ Contains o.axioms t → depth t ≤ deepest
+    its_depth t (inl m) = all_in (λ u. depth u ≤ deepest) (o.annotations ++ o.axioms) t within.shallow (Contains-append_left o.annotations o.axioms t m)
+    its_depth t (inr m) = all_in (λ u. depth u ≤ deepest) (o.annotations ++ o.axioms) t within.shallow (Contains-append_right o.annotations o.axioms t m)
 
-  stated_weight : (t : Tree) → IsStated (stated g k o h) t → weight (canonical t) ≤ heaviest
-  stated_weight t (inl p) =
-      let is = equal_of p.whole p.inside in
-      let part = part_weight t p.whole p.part in
-      let same = ap weight (form_is p.whole is) in
-      let most = its_weight is.tree is.inside in
-      let all = within.light in
-      omega (arith, part, same, most, all)
-  stated_weight t (inr e) = let one = ap (λ u. weight (canonical u)) e ∙ empty_weight in omega (arith, one)
+    its_weight : (t : Tree) → Contains o.annotations t ⊎ Contains o.axioms t → weight (canonical t) ≤ ontology_weight o
+    its_weight t (inl m) = let most = form_weight o.annotations t m in omega (arith, most)
+    its_weight t (inr m) = let most = form_weight o.axioms t m in omega (arith, most)
 
-  no_deep : HasDeepTree g k h.states.header → ⊥
-  no_deep bad = let most = stated_depth bad.tree (all_stated g k o h bad.tree bad.of) in let deep = bad.deep in omega (arith, most, deep)
+    shaped : (t : Tree) → Contains (stated g k o h) t → IsShaped t
+    shaped t m =
+        let is = equal_of t m in
+        (canonical_shape t).1 (subst IsShaped (sym (form_is t is)) ((canonical_shape is.tree).0 (its_shape is.tree is.inside)))
 
-  no_heavy : HasHeavyTree g k h.states.header → ⊥
-  no_heavy (of_tree t is heavy) = let most = stated_weight t (all_stated g k o h t is) in omega (arith, most, heavy)
-  no_heavy (of_all p says heavy) =
-      let same = same_ontology_weight o p (one_ontology g k o p h says) in
-      let most = within.light in
-      omega (arith, same, most, heavy)
+    stated_depth : (t : Tree) → IsStated (stated g k o h) t → depth t ≤ deepest
+    stated_depth t (inl p) =
+        let is = equal_of p.whole p.inside in
+        let part = part_depth t p.whole p.part in
+        let same = equivalent_depth p.whole is.tree is.same in
+        let most = its_depth is.tree is.inside in
+        omega (arith, part, same, most)
+    stated_depth t (inr e) = let one = ap depth e ∙ empty_depth in omega (arith, one)
 
-  pub said_within : IsSaid g k o
-  said_within = record { says = h; small = no_large_number g k o h shaped; shallow = no_deep; light = no_heavy }
+    stated_weight : (t : Tree) → IsStated (stated g k o h) t → weight (canonical t) ≤ heaviest
+    stated_weight t (inl p) =
+        let is = equal_of p.whole p.inside in
+        let part = part_weight t p.whole p.part in
+        let same = ap weight (form_is p.whole is) in
+        let most = its_weight is.tree is.inside in
+        let all = within.light in
+        omega (arith, part, same, most, all)
+    stated_weight t (inr e) = let one = ap (λ u. weight (canonical u)) e ∙ empty_weight in omega (arith, one)
+
+    no_deep : HasDeepTree g k h.states.header → ⊥
+    no_deep bad = let most = stated_depth bad.tree (all_stated g k o h bad.tree bad.of) in let deep = bad.deep in omega (arith, most, deep)
+
+    no_heavy : HasHeavyTree g k h.states.header → ⊥
+    no_heavy (of_tree t is heavy) = let most = stated_weight t (all_stated g k o h t is) in omega (arith, most, heavy)
+    no_heavy (of_all p says heavy) =
+        let same = same_ontology_weight o p (one_ontology g k o p h says) in
+        let most = within.light in
+        omega (arith, same, most, heavy)
+
+    pub said_within : IsSaid g k o
+    said_within = record { says = h; small = no_large_number g k o h shaped; shallow = no_deep; light = no_heavy }

@@ -19,7 +19,8 @@ use tree_stores::{Depths, TreeFault, fits};
 ///
 /// `NumberTooLarge` where a cardinality is 2^64 or more; `TooDeep` where a tree that
 /// the graph says is more than 128 levels deep; `TooHeavy` where one has more than
-/// 2^24 nodes and leaves.
+/// 2^24 nodes and leaves, or where the ontology has, as is told by the kids of the
+/// trees that were made. So not all are made of a graph that says far too much.
 pub fn read_statements(
     alloc: Global,
     reading: &Reading,

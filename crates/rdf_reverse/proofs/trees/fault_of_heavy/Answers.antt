@@ -1,6 +1,5 @@
 use Rattle.std.proofs.Common.{inl, refl, subst, sym}
-use Rattle.rdf_annotations.specs.Annotations.{IsFaultOfSome}
-use Rattle.rdf_statements.specs.GraphTrees.{IsTreeOf}
+use Rattle.rdf_statements.specs.GraphTrees.{IsStatementFault}
 use Rattle.rdf_reverse.specs.Clear.{clear_denotes, clear_notes, clear_states}
 use Rattle.rdf_reverse.specs.Reverse.{IsFoundBy, limits}
 use Rattle.rdf_reverse.proofs.Limiting.{deep_tree_found, heavy_found, none_beyond}
@@ -27,6 +26,6 @@ returns c =
       | in-Err-TooDeep w ↦
           subst Found (sym w.result-is)
           (deep_tree_found reading c.requires.clear.is_reading.one_header c.requires.small
-          (subst (IsFaultOfSome (IsTreeOf reading.graph.now reading.kinds.now reading.header.now)) w.in-Err-TooDeep.field-0-is w.in-Err-TooDeep.ensures.fault))
+          (subst (IsStatementFault reading.graph.now reading.kinds.now reading.header.now) w.in-Err-TooDeep.field-0-is w.in-Err-TooDeep.ensures.fault))
       | in-Err-Memory w ↦ subst Found (sym w.result-is) (inl refl)
     ]

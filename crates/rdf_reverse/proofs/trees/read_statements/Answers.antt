@@ -1,9 +1,7 @@
 use Rattle.std.proofs.Common.{subst}
-use Rattle.rdf_annotations.specs.Annotations.{IsFaultOfSome}
-use Rattle.rdf_statements.specs.GraphTrees.{IsTreeOf}
+use Rattle.rdf_statements.specs.GraphTrees.{IsStatementFault}
 use Rattle.rdf_reverse.specs.Clear.{clear_denotes, clear_notes, clear_states}
-use Rattle.rdf_reverse.specs.Reverse.{of_tree}
-use Rattle.rdf_reverse.proofs.Limiting.{deep_tree_found, within_limits}
+use Rattle.rdf_reverse.proofs.Limiting.{deep_tree_found, heavy_said, within_limits}
 use Rattle.rdf_reverse.proofs.trees.read_statements.Goals as goal
 
 pub hold_statements-requires-clause-axioms : goal.hold_statements-requires-clause-axioms
@@ -24,10 +22,10 @@ pub returns-in-Err-TooDeep-clause-fault : goal.returns-in-Err-TooDeep-clause-fau
 returns-in-Err-TooDeep-clause-fault c =
     let reading = c.args.reading.now in
     deep_tree_found reading c.requires.is_reading.one_header (λ large. let is = c.has_large_number.ensures.1 large in let isnt = c.if-has_large_number.false in cc)
-    (subst (IsFaultOfSome (IsTreeOf reading.graph.now reading.kinds.now reading.header.now)) c.in-Err-TooDeep.field-0-is c.in-Err-TooDeep.ensures.fault)
+    (subst (IsStatementFault reading.graph.now reading.kinds.now reading.header.now) c.in-Err-TooDeep.field-0-is c.in-Err-TooDeep.ensures.fault)
 
 pub fault_of_heavy-requires-clause-heavy : goal.fault_of_heavy-requires-clause-heavy
 fault_of_heavy-requires-clause-heavy c =
     let reading = c.args.reading.now in
-    let heavy = subst (IsFaultOfSome (IsTreeOf reading.graph.now reading.kinds.now reading.header.now)) c.in-Err-TooHeavy.field-0-is c.in-Err-TooHeavy.ensures.fault in
-    of_tree heavy.0 heavy.1 heavy.2
+    heavy_said reading c.requires
+    (subst (IsStatementFault reading.graph.now reading.kinds.now reading.header.now) c.in-Err-TooHeavy.field-0-is c.in-Err-TooHeavy.ensures.fault)
