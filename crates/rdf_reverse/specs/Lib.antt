@@ -6,3 +6,5 @@ pub mod Limits
 pub mod WithinLaws
 pub mod DeclaringLaws
 pub mod SumLaws
+pub mod Heights
+pub mod HeightLaws

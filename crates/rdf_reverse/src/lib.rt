@@ -2,6 +2,7 @@
 #![tactic(auto)]
 
 mod fault;
+mod heights;
 mod laws;
 mod mapping;
 mod scans;

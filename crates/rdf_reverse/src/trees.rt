@@ -8,7 +8,9 @@ ghost use Rattle.rdf_reverse.specs.Limits.{AreStated, AreWithin};
 ghost use Rattle.rdf_reverse.specs.Reverse.{HasHeavyTree, IsFoundBy, limits};
 
 use crate::fault::ReverseFault;
+use crate::heights::is_low;
 use owl_arena::{Arena, ExprId};
+use owl_characters::NoMemory;
 use rdf_nodes::Source;
 use rdf_scans::Reading;
 use rdf_statements::{Statements, hold_statements};
@@ -62,9 +64,24 @@ fn has_large_number(alloc: Global, reading: &Reading) -> bool
     source.has_large_number()
 }
 
-/// What is told of a graph that says a tree which is too heavy: any that is too deep
-/// comes first.
+/// What is told of a graph that says a tree which is too heavy, or too much: any tree
+/// that is too deep comes first.
 fn fault_of_heavy(alloc: Global, reading: &Reading) -> ReverseFault
+    requires clear { IsClear reading.now }
+    requires small { HasLargeNumber reading.now.graph.now → ⊥ }
+    requires heavy { HasHeavyTree reading.now.graph.now reading.now.kinds.now
+        reading.now.header.now }
+    ensures { IsFoundBy reading.now.graph.now reading.now.kinds.now limits result }
+{
+    match is_low(alloc, reading) {
+        Ok(true) => ReverseFault::TooHeavy,
+        Ok(false) => fault_by_depths(alloc, reading),
+        Err(NoMemory) => ReverseFault::Memory,
+    }
+}
+
+/// So, by the depths of all trees.
+fn fault_by_depths(alloc: Global, reading: &Reading) -> ReverseFault
     requires clear { IsClear reading.now }
     requires small { HasLargeNumber reading.now.graph.now → ⊥ }
     requires heavy { HasHeavyTree reading.now.graph.now reading.now.kinds.now
