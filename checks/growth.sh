@@ -122,6 +122,7 @@ grows words_and_dots 200 400 ttl 3 show
 grows words 166 332 ttl 3 show
 grows name_and_dots 5000 10000 ttl 3 translate --to fss
 grows bases 5000 10000 ttl 0 show
+grows disjoint 200 400 ttl 0 translate --to fss
 grows fronts 200 290 ofn 0 translate --to fss
 grows fronts 200 290 ofn 0 translate --to ttl
 
