@@ -331,7 +331,7 @@ pub const KINDS: [u8; {len(self.kinds)}] = [
         parents = " ∷ ".join([*(f"({state}, {number})" for state, number in self.parents), "[]"])
         return f"""-- How the table of {TITLES[language]} came about; `tools/make_table.py` made it.
 use Rattle.std.specs.Prelude.{{[], ◌∷◌}}
-use Rattle.owl_lexer.specs.TableTests.{{Origin}}
+use Rattle.owl_lexer.proofs.TableCheckLaws.{{Origin}}
 
 unfoldable pub {language}_origin : Origin
 {language}_origin = record {{

@@ -7,7 +7,7 @@ use Rattle.std.proofs.lemmas.Fmt.{IsAscii-from_digits}
 use Rattle.std.proofs.lemmas.Str.{chars-IsAscii, encodes-IsAscii, encodes-chars}
 use Rattle.std.proofs.lemmas.Str.Parse.{digits_value_short, parse_gives}
 use Rattle.blank_labels.specs.Labels.{are_counted, counted_number}
-use Rattle.blank_labels.specs.LabelLaws.{counted_parts, numerals}
+use Rattle.blank_labels.proofs.LabelLaws.{counted_parts, numerals}
 
 -- counted digits are parsed as their number
 pub number_read : {E : Type 0} (ds : List ℕ) (r : Result ℕ E) → ParsesUnsigned 64 10 ds r → are_counted ds ≡ true → result_unwrap_or r 0 ≡ counted_number ds

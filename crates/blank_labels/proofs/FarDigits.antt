@@ -11,8 +11,8 @@ use Rattle.std.proofs.lemmas.Fmt.{IsAscii-from_digits}
 use Rattle.std.proofs.lemmas.Str.{chars-IsAscii, encodes-IsAscii, encodes-chars}
 use Rattle.std.proofs.lemmas.Str.Parse.{digits_value_short, parse_gives}
 use Rattle.std.proofs.lemmas.Str.Pattern.{starts_text}
-use Rattle.owl_characters.specs.AsciiLaws.{front_is}
-use Rattle.blank_labels.specs.LabelLaws.{numerals}
+use Rattle.owl_characters.proofs.AsciiLaws.{front_is}
+use Rattle.blank_labels.proofs.LabelLaws.{numerals}
 use Rattle.blank_labels.specs.FreshLabels.{are_far, far_in, far_number}
 use Rattle.blank_labels.proofs.Prefixes.{gen_behind}
 

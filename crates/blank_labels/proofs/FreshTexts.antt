@@ -5,9 +5,9 @@ use Rattle.std.specs.Fmt.{decimal}
 use Rattle.std.specs.Str.{chars}
 use Rattle.std.proofs.lemmas.Fmt.{IsAscii-decimal, digits_decimal}
 use Rattle.std.proofs.lemmas.Str.{IsAscii-append, chars-IsAscii}
-use Rattle.owl_characters.specs.AsciiLaws.{ascii_text}
+use Rattle.owl_characters.proofs.AsciiLaws.{ascii_text}
 use Rattle.owl_characters.specs.Names.{IsLabel}
-use Rattle.blank_labels.specs.LabelLaws.{label_of_digits, numerals}
+use Rattle.blank_labels.proofs.LabelLaws.{label_of_digits, numerals}
 
 pub written : (bs : List ℕ) (n : ℕ) → n < 2 ^ 64 → bs ≡ codes "gen" ++ decimal n → chars bs ≡ codes "gen" ++ decimal n
 written bs n small e = ap chars e ∙ chars-IsAscii (codes "gen" ++ decimal n) (IsAscii-append (codes "gen") (decimal n) (ascii_text (codes "gen") refl) (IsAscii-decimal n small))

@@ -5,7 +5,7 @@ use Rattle.std.specs.Str.{IsUtf8, all_scalars, chars, encode_utf8_all}
 use Rattle.std.specs.Str.Pattern.{FindsTextPrefix, StripsPrefix}
 use Rattle.std.proofs.lemmas.Str.{IsUtf8-drop, IsUtf8-from_ascii, chars-append}
 use Rattle.std.proofs.lemmas.Str.Pattern.{starts_text}
-use Rattle.owl_characters.specs.AsciiLaws.{ascii_chars, ascii_text, front_is}
+use Rattle.owl_characters.proofs.AsciiLaws.{ascii_chars, ascii_text, front_is}
 use Rattle.blank_labels.specs.Labels.{counted_number, label_number}
 use Rattle.blank_labels.proofs.Digits.{counted_alike}
 

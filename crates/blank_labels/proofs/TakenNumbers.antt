@@ -4,9 +4,9 @@ use Rattle.std.specs.Prelude.{nat_le}
 use Rattle.std.specs.Ordering.{nat_cmp}
 use Rattle.std.proofs.lemmas.Bool.{cond_both, leb-true, leb-false}
 use Rattle.owl_list.specs.Ascending.{IsAscending}
-use Rattle.owl_list.specs.AscendingLaws.{head_below, tail_ascends}
+use Rattle.owl_list.proofs.AscendingLaws.{head_below, tail_ascends}
 use Rattle.blank_labels.specs.FreshLabels.{passing}
-use Rattle.blank_labels.specs.FreshLabelLaws.{less_is}
+use Rattle.blank_labels.proofs.FreshLabelLaws.{less_is}
 
 -- those in front of the one place are passed over, and the one at the other isn't
 pub record IsBetween (taken : List ℕ) (number low high : ℕ) : Type 0 where

@@ -1,6 +1,3 @@
 pub mod Labels
-pub mod LabelLaws
 pub mod FreshLabels
 pub mod LabelNumbers
-pub mod FreshLabelLaws
-pub mod WorkedCases

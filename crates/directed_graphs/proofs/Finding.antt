@@ -7,9 +7,9 @@ use Rattle.std.proofs.lemmas.List.{get_or_append_left, get_or_default, get_or-se
 use Rattle.std.proofs.lemmas.List.Sums.{count_by-le-length, sum_by-set}
 use Rattle.std.proofs.lemmas.Bool.{cases_eq, cases_lt}
 use Rattle.std.proofs.lemmas.List.Elements.{Contains-append_left, Contains-append_right, Contains-append_cases, Contains-push, Contains-push_cases}
-use Rattle.owl_list.specs.AscendingLaws.{in_none, in_cases}
+use Rattle.owl_list.proofs.AscendingLaws.{in_none, in_cases}
 use Rattle.directed_graphs.specs.Cycles.{Leads, one_step, successors}
-use Rattle.directed_graphs.specs.CycleLaws.{leads_further, true_behind}
+use Rattle.directed_graphs.proofs.CycleLaws.{leads_further, true_behind}
 use Rattle.directed_graphs.specs.declared.found.Found.{Found}
 use Rattle.directed_graphs.specs.Searches.{AreMarked, Finds, HoldsReached}
 

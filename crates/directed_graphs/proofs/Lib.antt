@@ -1,3 +1,4 @@
+pub mod CycleLaws
 pub mod Finding
 pub mod Ranking
 pub mod Reaching

@@ -3,9 +3,9 @@ use Rattle.std.proofs.Common.{◌<◌, ◌≤◌, ◌⊎◌, inl, inr, ℕ, List
 use Rattle.std.specs.Prelude.{Contains}
 use Rattle.std.specs.List.Sorted.{IsNonDecreasingBy}
 use Rattle.std.proofs.lemmas.List.Sorted.{Contains-permutation, IsNonDecreasingBy-drop}
-use Rattle.owl_list.specs.AscendingLaws.{in_cases, in_head, in_tail}
+use Rattle.owl_list.proofs.AscendingLaws.{in_cases, in_head, in_tail}
 use Rattle.directed_graphs.specs.Cycles.{IsOnCycle, IsOrder, Leads, StandBehind, one_more, one_step, successors}
-use Rattle.directed_graphs.specs.CycleLaws.{begins_within, in_range}
+use Rattle.directed_graphs.proofs.CycleLaws.{begins_within, in_range}
 use Rattle.directed_graphs.specs.Ranks.{AreByRank, GoesDown, NoneGoesUp, rank_in}
 
 module _ (edges : List (List ℕ)) (ranks : List ℕ) where

@@ -1,4 +1,3 @@
-pub mod CycleLaws
 pub mod Cycles
 pub mod Ranks
 pub mod Searches

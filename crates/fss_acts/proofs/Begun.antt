@@ -24,7 +24,7 @@ use Rattle.owl_tree.specs.Frames.{Frame, opened}
 use Rattle.owl_tree.specs.Rows.{Row, Leaf, Node, row_of}
 use Rattle.owl_tree.specs.Trees.{leaf}
 use Rattle.fss_grammar.specs.ActingLaws.{acts_by_table}
-use Rattle.fss_grammar.specs.ActLaws.{begin}
+use Rattle.fss_grammar.proofs.ActLaws.{begin}
 use Rattle.fss_grammar.specs.Doing.{Acts}
 use Rattle.fss_grammar.specs.Making.{BeginsConstruct, BeginsLeaf, Comes, ComesAtom, Kept, Maker, put}
 use Rattle.fss_grammar.specs.Making.Kept.{iri, nothing, string}

@@ -7,7 +7,7 @@ use Rattle.std.proofs.lemmas.List.{map-append}
 use Rattle.std.proofs.lemmas.List.Elements.{Contains-append_cases}
 use Rattle.std.proofs.lemmas.Slice.Eq.{bytes_eq-Decides}
 use Rattle.owl_list.specs.Ascending.{AreApart}
-use Rattle.owl_list.specs.AscendingLaws.{all_pushed, in_cases, in_head, in_none, in_tail}
+use Rattle.owl_list.proofs.AscendingLaws.{all_pushed, in_cases, in_head, in_none, in_tail}
 use Rattle.owl_characters.specs.Iri.{IsIri}
 use Rattle.owl_characters.specs.Names.{IsPrefixName}
 use Rattle.owl_characters.specs.Order.{text_eq}

@@ -2,14 +2,14 @@
 use Rattle.std.proofs.Common.{◌≡◌, ◌<◌, ◌≤◌, ℕ, length, sym, ap, ◌∙◌, subst, List}
 use Rattle.std.specs.List.{AllByRecursion}
 use Rattle.owl_arena.specs.Held.{AreHeld, tree_at, trees_at}
-use Rattle.owl_arena.specs.HeldLaws.{entry_at}
+use Rattle.owl_arena.proofs.HeldLaws.{entry_at}
 use Rattle.owl_arena.specs.Shared.{AreShared, deepest}
 use Rattle.owl_doc.specs.Documents.{Document, IsBegun, IsDocument, ontology_of}
-use Rattle.owl_list.specs.AscendingLaws.{all_later, all_map, same_from_equal}
+use Rattle.owl_list.proofs.AscendingLaws.{all_later, all_map, same_from_equal}
 use Rattle.owl_maker.specs.Makings.{Grows}
-use Rattle.owl_maker.specs.MakerLaws.{same_ontology}
+use Rattle.owl_maker.proofs.MakerLaws.{same_ontology}
 use Rattle.owl_tree.specs.Ontologies.{Head, HoldEquivalent, IsSameOntology, Ontology, canonical_ontology}
-use Rattle.owl_tree.specs.OntologyLaws.{canonical_same_ontology, same_ontology_trans}
+use Rattle.owl_tree.proofs.OntologyLaws.{canonical_same_ontology, same_ontology_trans}
 use Rattle.owl_tree.specs.Trees.{Tree, depth}
 use Rattle.fss_terms.specs.Functional.{IsWithinLimits}
 use Rattle.fss_acts.specs.Assembling.{IsBuiltAs}

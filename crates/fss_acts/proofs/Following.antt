@@ -8,19 +8,18 @@ use Rattle.grammar.specs.Lowering.{lower}
 use Rattle.owl_reader.specs.Steps.{ComesNext, GoesOn, MayFollow, MayTake}
 use Rattle.owl_reader.specs.declared.fault.TokenFault.{TokenFault}
 use Rattle.owl_reader.specs.declared.fault.TokenFault.TheVariants as fault
-use Rattle.owl_tokens.specs.TokenLaws.{spelled_is_token}
+use Rattle.owl_tokens.proofs.TokenLaws.{spelled_is_token}
 use Rattle.owl_tokens.specs.Tokens.{IsToken, Spells}
 use Rattle.owl_tokens.specs.declared.token.Token.{Token}
 use Rattle.fss_grammar.specs.Classes.{class_of}
 use Rattle.fss_grammar.specs.Doing.{Does, prefixes_behind}
 use Rattle.fss_grammar.specs.DoingLaws.{ActInTurn, DoneSoFar, done_at_end, done_with_token}
-use Rattle.fss_grammar.specs.Due.{next_class}
+use Rattle.fss_grammar.specs.ReadyActs.{next_class, document_comes}
 use Rattle.fss_grammar.specs.Making.{Maker, beginning}
-use Rattle.fss_grammar.specs.OneWayLaws.{does_one_way}
-use Rattle.fss_grammar.specs.OutlineLaws.{resembles_act, resembles_beginning, resembles_token}
+use Rattle.fss_grammar.proofs.OneWayLaws.{does_one_way}
+use Rattle.fss_grammar.proofs.OutlineLaws.{resembles_act, resembles_beginning, resembles_token}
 use Rattle.fss_grammar.specs.Outlines.{Resembles}
-use Rattle.fss_grammar.specs.ReadyActs.{document_comes}
-use Rattle.fss_grammar.specs.ReadyLaws.{acts_are_ready}
+use Rattle.fss_grammar.proofs.ReadyLaws.{acts_are_ready}
 use Rattle.fss_grammar.specs.Table.{functional}
 use Rattle.fss_defects.specs.Rules.{functional_rules}
 use Rattle.fss_defects.specs.Faults.{Bars, Told}

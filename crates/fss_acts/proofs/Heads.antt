@@ -4,7 +4,7 @@ use Rattle.owl_characters.specs.Iri.{IsIri}
 use Rattle.owl_doc.specs.Documents.{with_import, with_name}
 use Rattle.owl_doc.specs.Heads.{name_of}
 use Rattle.owl_maker.specs.Constructs.{Constructs}
-use Rattle.owl_maker.specs.MakerLaws.{follows_beside}
+use Rattle.owl_maker.proofs.MakerLaws.{follows_beside}
 use Rattle.owl_maker.specs.Makings.{Follows, Making, with_document}
 use Rattle.owl_tokens.specs.declared.token.Token.{Token}
 use Rattle.owl_tree.specs.Ontologies.{Head, OntologyName}

@@ -15,7 +15,7 @@ use Rattle.owl_tree.specs.Canonical.{canonical}
 use Rattle.owl_tree.specs.Frames.{FitsButKeys, Frame, tree_of}
 use Rattle.owl_tree.specs.Ontologies.{HoldEquivalent, Ontology, ontology_weight}
 use Rattle.owl_tree.specs.Shape.{AreShaped, HasKeyProperty, IsShaped}
-use Rattle.owl_tree.specs.TreeLaws.{list_of_kids_of}
+use Rattle.owl_tree.proofs.TreeLaws.{list_of_kids_of}
 use Rattle.owl_tree.specs.Trees.{Tree, kids_of}
 use Rattle.fss_grammar.specs.Making.{Adds, Kept, Maker, Shuts, add_annotation, add_axiom, put}
 use Rattle.fss_grammar.specs.Making.Kept.{item}

@@ -4,9 +4,9 @@ use Rattle.owl_atom.specs.Prefixes.{IsTable, fixed_prefixes, prefix_in}
 use Rattle.owl_atom.specs.declared.prefixes.Prefix.{Prefix}
 use Rattle.owl_arena.specs.Held.{Held}
 use Rattle.owl_doc.specs.Documents.{nothing_yet}
-use Rattle.owl_list.specs.AscendingLaws.{in_none}
+use Rattle.owl_list.proofs.AscendingLaws.{in_none}
 use Rattle.owl_maker.specs.Constructs.{Constructs}
-use Rattle.owl_maker.specs.MakerLaws.{follows_nothing}
+use Rattle.owl_maker.proofs.MakerLaws.{follows_nothing}
 use Rattle.owl_maker.specs.Makings.{Follows, Making, nothing_open}
 use Rattle.owl_tree.specs.Ontologies.{HoldEquivalent}
 use Rattle.fss_grammar.specs.DoingLaws.{done_at_first}

@@ -4,11 +4,11 @@ use Rattle.std.specs.Result.{IsErrAnd}
 use Rattle.std.proofs.lemmas.List.{take_all}
 use Rattle.owl_reader.specs.declared.fault.TokenFault.{TokenFault}
 use Rattle.owl_tokens.specs.declared.token.Token.{Token}
-use Rattle.fss_grammar.specs.ActLaws.{same_act}
+use Rattle.fss_grammar.proofs.ActLaws.{same_act}
 use Rattle.fss_grammar.specs.Acts.{act_number}
 use Rattle.fss_grammar.specs.Doing.{Acts, prefixes_behind}
 use Rattle.fss_grammar.specs.Making.{Maker}
-use Rattle.fss_grammar.specs.OneWayLaws.{acts_one_way}
+use Rattle.fss_grammar.proofs.OneWayLaws.{acts_one_way}
 use Rattle.fss_grammar.specs.Ready.{IsReady}
 use Rattle.fss_grammar.specs.declared.acts.Act.{Act}
 use Rattle.fss_acts.specs.declared.assembler.Assembler.{Assembler}

@@ -8,16 +8,16 @@ use Rattle.std.proofs.lemmas.List.Elements.{Contains-append_cases, Contains-appe
 use Rattle.std.proofs.lemmas.List.Sums.{sum_by-cons}
 use Rattle.owl_arena.specs.Growth.{Adds, Lacks}
 use Rattle.owl_arena.specs.Held.{AreHeld, tree_at, trees_at}
-use Rattle.owl_arena.specs.HeldLaws.{kids_canonical}
+use Rattle.owl_arena.proofs.HeldLaws.{kids_canonical}
 use Rattle.owl_arena.specs.Shared.{AreShared}
 use Rattle.owl_list.specs.Ascending.{AreApart, HoldSame, ascending, by_order, put}
-use Rattle.owl_list.specs.AscendingLaws.{all_in, ascending_holds, ascending_same, from_map, in_cases, in_head, in_none, in_tail, same_map}
+use Rattle.owl_list.proofs.AscendingLaws.{all_in, ascending_holds, ascending_same, from_map, in_cases, in_head, in_none, in_tail, same_map}
 use Rattle.owl_tree.specs.Canonical.{canonical}
-use Rattle.owl_tree.specs.CanonicalLaws.{canonical_again, canonical_equivalent}
+use Rattle.owl_tree.proofs.CanonicalLaws.{canonical_again, canonical_equivalent}
 use Rattle.owl_tree.specs.Equivalence.{IsEquivalent}
-use Rattle.owl_tree.specs.EquivalenceLaws.{equivalent_sym}
+use Rattle.owl_tree.proofs.EquivalenceLaws.{equivalent_sym}
 use Rattle.owl_tree.specs.Ontologies.{AreAmong, HoldEquivalent, list_weight}
-use Rattle.owl_tree.specs.OntologyLaws.{equivalent_lists}
+use Rattle.owl_tree.proofs.OntologyLaws.{equivalent_lists}
 use Rattle.owl_tree.specs.Order.{tree_cmp}
 use Rattle.owl_tree.specs.OrderLaws.{only_equal_trees_tie, trees_total}
 use Rattle.owl_tree.specs.Trees.{Tree, weight}

@@ -5,24 +5,23 @@ use Rattle.std.proofs.lemmas.List.{map-append}
 use Rattle.grammar.specs.Derivations.{Derives, DerivesOf, Event}
 use Rattle.grammar.specs.Derivations.Event.{Do, Take}
 use Rattle.grammar.specs.Lowering.{lower}
-use Rattle.grammar.specs.LoweringLaws.{lowered}
+use Rattle.grammar.proofs.LoweringLaws.{lowered}
 use Rattle.grammar.specs.declared.symbol.Symbol.TheVariants.{Rule}
 use Rattle.owl_atom.specs.declared.prefixes.Prefix.{Prefix}
 use Rattle.owl_tokens.specs.declared.token.Token.{Token}
 use Rattle.fss_grammar.specs.Acts.{act_number}
-use Rattle.fss_grammar.specs.ActLaws.{same_act}
+use Rattle.fss_grammar.proofs.ActLaws.{same_act}
 use Rattle.fss_grammar.specs.Classes.{class_of}
 use Rattle.fss_grammar.specs.Doing.{Acts, Does, prefixes_behind}
 use Rattle.fss_grammar.specs.DoingLaws.{EndTaken}
-use Rattle.fss_grammar.specs.Due.{next_class}
+use Rattle.fss_grammar.specs.ReadyActs.{next_class, document_comes}
 use Rattle.fss_grammar.specs.Making.{Maker, Performs, beginning, next_token}
 use Rattle.fss_grammar.specs.Meaning.{Events}
-use Rattle.fss_grammar.specs.OneWayLaws.{acts_one_way}
+use Rattle.fss_grammar.proofs.OneWayLaws.{acts_one_way}
 use Rattle.fss_grammar.specs.Outlines.{Resembles}
-use Rattle.fss_grammar.specs.OutlineLaws.{resembles_act, resembles_beginning, resembles_token}
+use Rattle.fss_grammar.proofs.OutlineLaws.{resembles_act, resembles_beginning, resembles_token}
 use Rattle.fss_grammar.specs.Ready.{IsReady}
-use Rattle.fss_grammar.specs.ReadyActs.{document_comes}
-use Rattle.fss_grammar.specs.ReadyLaws.{acts_are_ready}
+use Rattle.fss_grammar.proofs.ReadyLaws.{acts_are_ready}
 use Rattle.fss_grammar.specs.Table.{functional}
 use Rattle.fss_grammar.specs.declared.acts.Act.{Act}
 

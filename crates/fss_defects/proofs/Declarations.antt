@@ -8,7 +8,7 @@ use Rattle.std.proofs.lemmas.Slice.Eq.{bytes_eq-Decides}
 use Rattle.owl_atom.specs.declared.prefixes.Prefix.{Prefix}
 use Rattle.owl_characters.specs.Order.{text_eq}
 use Rattle.owl_list.specs.Ascending.{AreApart}
-use Rattle.owl_list.specs.AscendingLaws.{all_in, in_cases, in_head, in_none, in_tail}
+use Rattle.owl_list.proofs.AscendingLaws.{all_in, in_cases, in_head, in_none, in_tail}
 use Rattle.owl_tokens.specs.declared.token.Token.{Token}
 use Rattle.fss_terms.specs.Functional.{AreDeclarable, IsDeclarable, PrefixDeclaration, declaration_of}
 use Rattle.fss_grammar.specs.Making.{Declares, Document, Kept, Maker, Performs, declare}

@@ -5,7 +5,7 @@ use Rattle.std.specs.Prelude.{Contains, max}
 use Rattle.std.proofs.lemmas.List.Elements.{Contains-append_left, Contains-append_right}
 use Rattle.owl_arena.specs.Shared.{deepest}
 use Rattle.owl_atom.specs.declared.prefixes.Prefix.{Prefix}
-use Rattle.owl_list.specs.AscendingLaws.{all_in, in_head}
+use Rattle.owl_list.proofs.AscendingLaws.{all_in, in_head}
 use Rattle.owl_tokens.specs.declared.token.Token.{Token}
 use Rattle.owl_tree.specs.declared.atom.Atom.{Atom}
 use Rattle.owl_tree.specs.declared.atom.Atom.TheVariants.{Iri, Literal}

@@ -7,7 +7,7 @@ use Rattle.std.proofs.lemmas.Option.{same_Some}
 use Rattle.grammar.specs.Derivations.Event.{Do}
 use Rattle.owl_atom.specs.declared.prefixes.Prefix.{Prefix}
 use Rattle.rdf_terms.specs.Literals.{DenotesLiteral}
-use Rattle.owl_list.specs.AscendingLaws.{in_head}
+use Rattle.owl_list.proofs.AscendingLaws.{in_head}
 use Rattle.owl_reader.specs.declared.fault.TokenFault.{TokenFault}
 use Rattle.owl_tokens.specs.declared.token.Token.{Token}
 use Rattle.owl_tree.specs.declared.atom.Atom.{Atom}
@@ -19,12 +19,12 @@ use Rattle.owl_tree.specs.Rows.{Leaf, Node, Row, row_of}
 use Rattle.owl_tree.specs.Trees.{Tree}
 use Rattle.fss_terms.specs.Functional.{AreDeclarable, IsWithinLimits, PrefixDeclaration}
 use Rattle.fss_terms.specs.Terms.{iri_of_token}
-use Rattle.fss_grammar.specs.ActLaws.{same_act}
+use Rattle.fss_grammar.proofs.ActLaws.{same_act}
 use Rattle.fss_grammar.specs.Doing.{Acts, prefixes_behind}
 use Rattle.fss_grammar.specs.Making.{Adds, BeginsConstruct, Comes, ComesAtom, Declares, Document, Maker, MakesLiteral, Performs, Shuts, add_annotation, add_axiom, declare, next_token}
 use Rattle.fss_grammar.specs.Making.Kept.{prefix}
 use Rattle.fss_grammar.specs.Meaning.{Events, between}
-use Rattle.fss_grammar.specs.OneWayLaws.{acts_one_way}
+use Rattle.fss_grammar.proofs.OneWayLaws.{acts_one_way}
 use Rattle.fss_grammar.specs.declared.acts.Act.{Act}
 use Rattle.fss_grammar.specs.declared.acts.Act.TheVariants.{AddAnnotation, AddAxiom, Begin, DeclareIri, DeclareName, Hold, Shut, Typed}
 use Rattle.fss_defects.specs.Faults.{ComesTooLarge, Fails, FailsFirst, FailsIri, FailsItem, FailsLeaf, FailsName, FailsShut, FailsTyped}

@@ -6,9 +6,9 @@ use Rattle.grammar.specs.Derivations.DerivesOf.{act, need, nothing, rule}
 use Rattle.grammar.specs.Derivations.Event.{Do, Take}
 use Rattle.grammar.specs.Grammars.{Entry}
 use Rattle.grammar.specs.Lowering.{lower, tokens_of}
-use Rattle.grammar.specs.LoweringLaws.{taken}
+use Rattle.grammar.proofs.LoweringLaws.{taken}
 use Rattle.grammar.specs.Predictions.{AreFollowed, IsPredictive, ahead}
-use Rattle.grammar.specs.PredictiveLaws.{followed_row, predicted_row, row_mask}
+use Rattle.grammar.proofs.PredictiveLaws.{followed_row, predicted_row, row_mask}
 use Rattle.grammar.specs.declared.symbol.Symbol.{Symbol}
 
 -- the events are these, and then more that take these tokens

@@ -9,8 +9,8 @@ use Rattle.grammar.specs.Derivations.Event.{Do, Take}
 use Rattle.grammar.specs.Grammars.{Among, Entry, Row, entry, no_entry}
 use Rattle.grammar.specs.Grammars.Among.{behind, here}
 use Rattle.grammar.specs.Lowering.{lower}
-use Rattle.grammar.specs.PartLaws.{means, yields}
-use Rattle.grammar.specs.Parts.{IsMeaning, Means}
+use Rattle.grammar.proofs.PartLaws.{means, yields}
+use Rattle.grammar.proofs.YieldLaws.{IsMeaning, Means}
 use Rattle.grammar.specs.declared.symbol.Symbol.{Symbol}
 use Rattle.grammar.specs.declared.symbol.Symbol.TheVariants.{Act, Need, Rule}
 use Rattle.owl_reader.specs.Steps.{Step, events_of}

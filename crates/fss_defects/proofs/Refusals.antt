@@ -5,7 +5,7 @@ use Rattle.std.proofs.lemmas.List.{map-append}
 use Rattle.grammar.specs.Derivations.{Begins, Derives, DerivesOf, Event, own_class}
 use Rattle.grammar.specs.Derivations.Event.{Do, Take}
 use Rattle.grammar.specs.Lowering.{lower, tokens_of}
-use Rattle.grammar.specs.LoweringLaws.{lowered}
+use Rattle.grammar.proofs.LoweringLaws.{lowered}
 use Rattle.grammar.specs.Predictions.{ahead}
 use Rattle.grammar.specs.declared.symbol.Symbol.TheVariants.{Rule}
 use Rattle.owl_atom.specs.declared.prefixes.Prefix.{Prefix}
@@ -20,7 +20,7 @@ use Rattle.owl_reader.specs.declared.fault.ReadFault.{ReadFault}
 use Rattle.owl_reader.specs.declared.fault.TokenFault.{TokenFault}
 use Rattle.owl_tokens.specs.Tokens.{Spells}
 use Rattle.owl_tokens.specs.declared.token.Token.{Token}
-use Rattle.owl_tree.specs.OntologyLaws.{same_ontology_sym}
+use Rattle.owl_tree.proofs.OntologyLaws.{same_ontology_sym}
 use Rattle.owl_tree.specs.Ontologies.{Ontology}
 use Rattle.fss_terms.specs.Functional.{AreDeclarable, IsWithinLimits, ReadsFunctional}
 use Rattle.fss_terms.specs.Terms as terms
@@ -30,7 +30,7 @@ use Rattle.fss_grammar.specs.DoingLaws.{EndTaken}
 use Rattle.fss_grammar.specs.Making.{Document, Maker, beginning, next_token}
 use Rattle.fss_grammar.specs.Meaning.{Events, between}
 use Rattle.fss_grammar.specs.Table.{functional}
-use Rattle.fss_defects.specs.DocumentLaws.{SplitOneWay, document_followed, is_predictive, limits_alike, spelled_is_done}
+use Rattle.fss_defects.proofs.DocumentLaws.{SplitOneWay, document_followed, is_predictive, limits_alike, spelled_is_done}
 use Rattle.fss_defects.specs.Faults.{Bars, Told}
 use Rattle.fss_defects.specs.FirstDefects.{IsFirstDefect}
 use Rattle.fss_defects.specs.Rules.{functional_rules}

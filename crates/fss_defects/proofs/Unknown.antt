@@ -21,14 +21,14 @@ use Rattle.owl_tree.specs.declared.tag.Tag.TheVariants as tag
 use Rattle.owl_tree.specs.Rows.{Leaf, Row, row_of}
 use Rattle.owl_tree.specs.Tags.{number_of}
 use Rattle.fss_terms.specs.Terms.{iri_of_token}
-use Rattle.fss_grammar.specs.ActLaws.{same_act}
+use Rattle.fss_grammar.proofs.ActLaws.{same_act}
 use Rattle.fss_grammar.specs.Classes.{class_of}
-use Rattle.fss_grammar.specs.DeclaringLaws.{declares}
+use Rattle.fss_grammar.specs.Declaring.{declares}
 use Rattle.fss_grammar.specs.Doing.{prefixes_behind}
 use Rattle.fss_grammar.specs.Making.{BeginsConstruct, Comes, ComesAtom, Declares, Kept, Maker, Performs, next_token}
 use Rattle.fss_grammar.specs.Making.Kept.{prefix}
 use Rattle.fss_grammar.specs.Meaning.{Events}
-use Rattle.fss_grammar.specs.OneTableLaws.{Keeps, performs_keeps}
+use Rattle.fss_grammar.proofs.OneTableLaws.{Keeps, performs_keeps}
 use Rattle.fss_grammar.specs.Table.{functional}
 use Rattle.fss_grammar.specs.declared.acts.Act.{Act}
 use Rattle.fss_grammar.specs.declared.acts.Act.TheVariants.{Begin, DeclareIri, DeclareName, Hold, ImportIri, OntologyIri, Typed, VersionIri}

@@ -8,7 +8,7 @@ use Rattle.std.proofs.lemmas.List.Elements.{Contains-append_cases, Contains-appe
 use Rattle.std.proofs.lemmas.List.Sums.{sum_by-cons}
 use Rattle.owl_arena.specs.Shared.{heaviest}
 use Rattle.owl_list.specs.Ascending.{HoldSame, by_order, put}
-use Rattle.owl_list.specs.AscendingLaws.{ascending_same, same_map}
+use Rattle.owl_list.proofs.AscendingLaws.{ascending_same, same_map}
 use Rattle.owl_tree.specs.Canonical.{canonical}
 use Rattle.owl_tree.specs.Ontologies.{canonical_list, list_weight, ontology_weight}
 use Rattle.owl_tree.specs.Order.{tree_cmp}

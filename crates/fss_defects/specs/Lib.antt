@@ -1,5 +1,4 @@
 pub mod Faults
 pub mod Rules
 pub mod FirstDefects
-pub mod DocumentLaws
 pub mod OneFaultLaws

@@ -2,8 +2,8 @@
 use Rattle.std.proofs.Common.{◌≡◌, ◌≤◌, ◌⊎◌, inl, inr, ℕ, true, List, [], ◌∷◌, length, Option, refl, sym, ◌∙◌, subst}
 use Rattle.grammar.specs.Grammars.{has_rule}
 use Rattle.owl_characters.specs.Limit.{most_bytes}
-use Rattle.owl_lexer.specs.OneWayLaws.{same_splits}
-use Rattle.owl_reader.specs.OneDefectLaws as defects
+use Rattle.owl_lexer.proofs.OneWayLaws.{same_splits}
+use Rattle.owl_reader.proofs.OneDefectLaws as defects
 use Rattle.owl_reader.specs.declared.fault.ReadFault.{ReadFault}
 use Rattle.owl_reader.specs.declared.fault.TokenFault.{TokenFault}
 use Rattle.owl_tokens.specs.FunctionalSpellingLaws.{functional_is_language}
@@ -13,10 +13,10 @@ use Rattle.owl_tokens.specs.Values.{value_of}
 use Rattle.owl_tokens.specs.declared.token.Token.{Token}
 use Rattle.owl_tree.specs.Rows.{Leaf, Row, row_of}
 use Rattle.owl_tree.specs.declared.row.AtomSort.TheVariants as atom
-use Rattle.fss_grammar.specs.ActLaws.{same_act}
+use Rattle.fss_grammar.proofs.ActLaws.{same_act}
 use Rattle.fss_grammar.specs.Doing.{Acts, prefixes_behind}
 use Rattle.fss_grammar.specs.Making.{Maker, beginning}
-use Rattle.fss_grammar.specs.OneWayLaws.{acts_one_way, does_one_way}
+use Rattle.fss_grammar.proofs.OneWayLaws.{acts_one_way, does_one_way}
 use Rattle.fss_grammar.specs.Table.{functional, functional_document, functional_is_predictive}
 use Rattle.fss_grammar.specs.declared.acts.Act.{Act}
 use Rattle.fss_grammar.specs.declared.acts.Act.TheVariants.{AddAnnotation, AddAxiom, Begin, DeclareIri, DeclareName, Hold, Shut, Typed}

@@ -4,7 +4,7 @@ use Rattle.std.specs.List.{AllByRecursion, list_all}
 use Rattle.grammar.specs.Derivations.{Event}
 use Rattle.grammar.specs.Derivations.Event.{Take}
 use Rattle.grammar.specs.Pages.{numbered}
-use Rattle.grammar.specs.Parts.{Means}
+use Rattle.grammar.proofs.YieldLaws.{Means}
 use Rattle.owl_characters.specs.Iri.{IsIri}
 use Rattle.owl_atom.specs.declared.prefixes.Prefix.{Prefix}
 use Rattle.rdf_terms.specs.Literals.{IsLiteral, LiteralParts}

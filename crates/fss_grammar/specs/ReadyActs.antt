@@ -2,7 +2,7 @@
 use Rattle.std.specs.Prelude.{◌≡◌, ℕ, List, [], ◌∷◌, ◌++◌, map, None, Option, Some}
 use Rattle.std.specs.Option.{option_map}
 use Rattle.grammar.specs.Derivations.{Derives, Event}
-use Rattle.grammar.specs.Derivations.Event.{Do}
+use Rattle.grammar.specs.Derivations.Event.{Do, Take}
 use Rattle.grammar.specs.Lowering.{lower}
 use Rattle.grammar.specs.Parsing.{Ends, Feeds, Parsing}
 use Rattle.grammar.specs.TokenFeeding.{FedTokens}
@@ -11,7 +11,6 @@ use Rattle.grammar.specs.declared.symbol.Symbol.TheVariants.{Rule}
 use Rattle.owl_tokens.specs.declared.token.Token.{Token}
 use Rattle.fss_grammar.specs.Acts.{act_number}
 use Rattle.fss_grammar.specs.Classes.{class_of}
-use Rattle.fss_grammar.specs.Due.{next_class}
 use Rattle.fss_grammar.specs.Making.{Maker}
 use Rattle.fss_grammar.specs.Outlines.{Resembles}
 use Rattle.fss_grammar.specs.Page.{rule_number}
@@ -19,6 +18,12 @@ use Rattle.fss_grammar.specs.Page.Rule.{document}
 use Rattle.fss_grammar.specs.Ready.{IsReady}
 use Rattle.fss_grammar.specs.Table.{functional}
 use Rattle.fss_grammar.specs.declared.acts.Act.{Act}
+
+-- the class of the token that is taken next
+abbrev pub next_class : List (Event ℕ) → Option ℕ
+next_class [] = None
+next_class (Take class ∷ events) = Some class
+next_class (Do a ∷ events) = next_class events
 
 -- The act of this number finds what it needs, whichever token of the class that is next comes behind it; or none does.
 pub record IsActReady (a : ℕ) (class : Option ℕ) (m : Maker) : Type 0 where

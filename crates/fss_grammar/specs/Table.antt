@@ -1,6 +1,6 @@
 -- The table of a grammar; `tools/make_grammar.py` made it.
 use Rattle.std.specs.Prelude.{◌≡◌, ℕ, ◌≤◌, true, false, List, [], ◌∷◌, refl}
-use Rattle.grammar.specs.GrammarLaws.{beyond}
+use Rattle.grammar.proofs.GrammarLaws.{beyond}
 use Rattle.grammar.specs.Grammars.{Entry, entry}
 use Rattle.grammar.specs.Predicting.{is_predictive, is_productive}
 use Rattle.grammar.specs.declared.symbol.Symbol.TheVariants.{Act, Need, Rule}

@@ -18,9 +18,9 @@ ghost use Rattle.fss_terms.specs.Spelling.{IsWritten, spelling};
 ghost use Rattle.fss_terms.specs.Terms.{AreTerms};
 ghost use Rattle.fss_grammar.specs.Acts.{act_number};
 ghost use Rattle.fss_grammar.specs.Classes.{class_of};
-ghost use Rattle.fss_grammar.specs.DocumentLaws.{DerivesDocument, DerivesTree, IsWrittenDocument};
+ghost use Rattle.fss_grammar.specs.WrittenDocuments.{DerivesDocument, DerivesTree, IsWrittenDocument, DoesDocument, LeadsTo, NoneWritten};
 ghost use Rattle.fss_grammar.specs.ActingLaws.{AgreeAt};
-ghost use Rattle.fss_grammar.specs.DeclaringLaws.{DeclareNothing, OntologyBehind, is_of_declaration, is_ontology};
+ghost use Rattle.fss_grammar.specs.Declaring.{DeclareNothing, OntologyBehind, is_of_declaration, is_ontology};
 ghost use Rattle.fss_grammar.specs.Doing.{Acts, Does};
 ghost use Rattle.fss_grammar.specs.Making.{Document, Maker, Performs, beginning, Makes, Runs};
 ghost use Rattle.owl_tree.specs.Frames.{Frame};
@@ -32,7 +32,6 @@ ghost use Rattle.fss_grammar.specs.Page.{rule_number};
 ghost use Rattle.fss_grammar.specs.Page.Rule.{one};
 ghost use Rattle.fss_grammar.specs.ReadyActs.{ActsAreReady, FedActsAreReady, LastActsAreReady};
 ghost use Rattle.fss_grammar.specs.Table.{functional};
-ghost use Rattle.fss_grammar.specs.WritingLaws.{DoesDocument, LeadsTo, NoneWritten};
 
 /// Laws: tokens derive from the rule of a sort, with events that put trees,
 /// exactly where they are written for a tree of the sort.

@@ -10,7 +10,7 @@ use Rattle.fss_terms.specs.Functional.{IsTableOf, IsWithinLimits, ReadsFunctiona
 use Rattle.fss_terms.specs.Terms.{tokens_of}
 use Rattle.fss_grammar.specs.Making.{Maker}
 use Rattle.fss_grammar.specs.Table.{functional}
-use Rattle.fss_grammar.specs.WritingLaws.{what_is_done_is_written}
+use Rattle.fss_grammar.proofs.WritingLaws.{what_is_done_is_written}
 use Rattle.fss_defects.specs.Rules.{functional_rules}
 use Rattle.fss_acts.specs.Assembling.{Assembles, Did}
 use Rattle.fss_acts.specs.declared.assembler.Assembler.{Assembler}

@@ -8,16 +8,16 @@ use Rattle.std.proofs.lemmas.Bool.{cases_Bool, false≢true}
 use Rattle.std.proofs.lemmas.Cmp.{tied_itself}
 use Rattle.std.proofs.lemmas.Slice.Eq.{bytes_eq-Decides}
 use Rattle.owl_list.specs.Ascending.{AreApart}
-use Rattle.owl_list.specs.AscendingLaws.{all_from, all_in, in_cases, in_none}
+use Rattle.owl_list.proofs.AscendingLaws.{all_from, all_in, in_cases, in_none}
 use Rattle.owl_characters.specs.Iri.{IsIri}
 use Rattle.owl_characters.specs.Names.{IsPrefixName}
 use Rattle.owl_characters.specs.Order.{text_cmp, text_eq}
 use Rattle.owl_characters.specs.OrderLaws.{texts_total}
 use Rattle.owl_atom.specs.declared.prefixes.Prefix.{Prefix}
 use Rattle.owl_atom.specs.Prefixes.{AreAscending, IsTable, fixed_prefixes, iri_of, is_fixed, prefix_in}
-use Rattle.owl_writing.specs.TableLaws.{looked_up}
+use Rattle.owl_writing.proofs.TableLaws.{looked_up}
 use Rattle.owl_writing.specs.Tables.{HaveIris, as_declared, declared_prefixes, written_prefixes}
-use Rattle.owl_writing.specs.WrittenTableLaws.{declared_is_table, fixed_stands, not_fixed, written_table}
+use Rattle.owl_writing.proofs.WrittenTableLaws.{declared_is_table, fixed_stands, not_fixed, written_table}
 use Rattle.fss_terms.specs.Functional.{AreDeclarable, IsDeclarable, IsTableOf, PrefixDeclaration, declaration_of, declared_prefix}
 
 -- the declarations that are written

@@ -12,11 +12,11 @@ use Rattle.owl_tree.specs.declared.tag.Tag.{Tag}
 use Rattle.owl_tree.specs.declared.row.Rest.TheVariants.{Nothing, Optional, AtLeast, SomeThen, Set}
 use Rattle.owl_tree.specs.Rows.{Row, Leaf, Node, row_of}
 use Rattle.owl_tree.specs.Trees.{Tree, Kids, leaf, node, no_kids, kid, atom_in, kids_in, kids_of, list_of, tag_of}
-use Rattle.owl_tree.specs.TreeLaws.{list_of_kids_of}
+use Rattle.owl_tree.proofs.TreeLaws.{list_of_kids_of}
 use Rattle.owl_writing.specs.Limits.{IsTooLong}
 use Rattle.fss_write.specs.Parts.{behind, has_parts, kids_parts, kids_parts_at, only_behind, parts_at, repeated, spaced, spacing}
 use Rattle.fss_write.specs.Text.{doubled, doubled_behind, joined, leaf_text, node_parts, parts, parts_of, written_form, written_forms}
-use Rattle.owl_writing.specs.DraftLaws.{flat_of_map, joined2, longer_by}
+use Rattle.owl_writing.proofs.DraftLaws.{flat_of_map, joined2, longer_by}
 
 -- parts behind parts
 behind_first : (x : List ℕ) (ys : List (List ℕ)) → joined (x ∷ ys) ≡ x ++ flat_map spaced ys

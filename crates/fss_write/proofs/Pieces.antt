@@ -5,9 +5,9 @@ use Rattle.owl_characters.specs.Names.{IsNameFrom, is_start}
 use Rattle.owl_tokens.specs.Tokens.{Spells}
 use Rattle.owl_tokens.specs.declared.token.Sign.TheVariants as sign
 use Rattle.owl_tokens.specs.declared.token.Token.TheVariants as token
-use Rattle.owl_tokens.specs.StopLaws.{longest_closed}
+use Rattle.owl_tokens.proofs.StopLaws.{longest_closed}
 use Rattle.owl_atom.specs.declared.prefixes.Prefix.{Prefix}
-use Rattle.owl_writing.specs.CutLaws.{Cuts, cuts_none, cuts_space, cuts_token}
+use Rattle.owl_writing.proofs.CutLaws.{Cuts, cuts_none, cuts_space, cuts_token}
 use Rattle.fss_terms.specs.Terms.{AreTerms}
 use Rattle.fss_terms.specs.declared.term.Term.{Term}
 use Rattle.fss_terms.specs.declared.term.Term.TheVariants.{Keyword, Opening, Closing}

@@ -7,7 +7,7 @@ use Rattle.std.specs.List.{AllByRecursion}
 use Rattle.std.specs.Str.{all_scalars, encode_utf8_all}
 use Rattle.std.proofs.lemmas.List.{append_assoc, append-nil}
 use Rattle.owl_list.specs.Ascending.{by_order}
-use Rattle.owl_list.specs.AscendingLaws.{all_from, ascending_holds, from_map, hold_same, in_map}
+use Rattle.owl_list.proofs.AscendingLaws.{all_from, ascending_holds, from_map, hold_same, in_map}
 use Rattle.owl_characters.specs.Iri.{IsIri}
 use Rattle.owl_characters.specs.Names.{IsPrefixName}
 use Rattle.owl_characters.specs.Order.{text_cmp}
@@ -18,16 +18,16 @@ use Rattle.owl_lexer.specs.declared.placed.Placed.{Placed}
 use Rattle.owl_tokens.specs.declared.token.Sign.TheVariants as sign
 use Rattle.owl_tokens.specs.declared.token.Token.{Token}
 use Rattle.owl_tokens.specs.declared.token.Token.TheVariants as token
-use Rattle.owl_tokens.specs.StopLaws.{longest_closed}
+use Rattle.owl_tokens.proofs.StopLaws.{longest_closed}
 use Rattle.owl_characters.specs.Limit.{most_bytes}
-use Rattle.owl_characters.specs.Utf8Laws.{no_bytes}
+use Rattle.owl_characters.proofs.Utf8Laws.{no_bytes}
 use Rattle.owl_atom.specs.declared.prefixes.Prefix.{Prefix}
 use Rattle.owl_atom.specs.Prefixes.{IsTable}
 use Rattle.rdf_terms.specs.Vocabulary.{xsd}
 use Rattle.owl_tree.specs.declared.tag.Tag.{Tag}
 use Rattle.owl_tree.specs.declared.tag.Tag.TheVariants as tag
 use Rattle.owl_tree.specs.Canonical.{canonical}
-use Rattle.owl_tree.specs.CanonicalLaws.{canonical_again}
+use Rattle.owl_tree.proofs.CanonicalLaws.{canonical_again}
 use Rattle.owl_tree.specs.Equivalence.{IsEquivalent}
 use Rattle.owl_tree.specs.Ontologies.{HoldEquivalent, IsAnnotation, IsAxiom, IsHead, IsName, IsOntology, IsSameOntology, Ontology, OntologyName, canonical_list, canonical_ontology}
 use Rattle.owl_tree.specs.Order.{tree_cmp}
@@ -37,7 +37,7 @@ use Rattle.owl_tree.specs.Shape.{IsShaped}
 use Rattle.owl_tree.specs.Tags.{is_axiom, keyword_of}
 use Rattle.owl_tree.specs.Trees.{Tree, Kids, leaf, node, no_kids, kid, depth, tag_of}
 use Rattle.owl_arena.specs.Held.{AreHeld, trees_at}
-use Rattle.owl_arena.specs.HeldLaws.{entry_at}
+use Rattle.owl_arena.proofs.HeldLaws.{entry_at}
 use Rattle.owl_arena.specs.Shared.{AreShared, deepest}
 use Rattle.owl_doc.specs.Documents.{Document, IsDocument, ontology_of}
 use Rattle.fss_terms.specs.Functional.{IsWithinLimits, ReadsFunctional, IsWrittenAnnotation, IsWrittenAxiom, IsWrittenOntology, PrefixDeclaration, SpellsFunctional, body_terms, declaration_tokens, import_terms, iri_term, item_terms, name_terms, ontology_terms, version_terms}
@@ -48,13 +48,13 @@ use Rattle.fss_terms.specs.declared.term.Term.TheVariants as term
 use Rattle.owl_writing.specs.Tables.{declared_prefixes, with_prefix, written_prefixes, HaveIris}
 use Rattle.owl_writing.specs.Terms.{full_iri}
 use Rattle.fss_write.specs.Text.{header_line, import_line, item_line, written_text, name_text, parts, prefix_line, text_of, version_text, written_form}
-use Rattle.owl_writing.specs.WrittenTableLaws.{AreKnown, are_known, written_iris, written_table}
+use Rattle.owl_writing.proofs.WrittenTableLaws.{AreKnown, are_known, written_iris, written_table}
 use Rattle.fss_write.proofs.DeclaredTables.{are_declarable, declaration, declared_table}
-use Rattle.owl_writing.specs.CutLaws.{Cuts, cuts_space, cuts_token}
+use Rattle.owl_writing.proofs.CutLaws.{Cuts, cuts_space, cuts_token}
 use Rattle.fss_write.proofs.Pieces.{SaysTerms, says_close, says_line, says_none, says_opening, says_space}
 use Rattle.fss_write.proofs.Stops.{token_longest}
 use Rattle.fss_write.proofs.WrittenForms.{equivalent_written, is_written, written_equivalent, written_tag}
-use Rattle.owl_writing.specs.PlainLocalLaws.{spells_nothing}
+use Rattle.owl_writing.proofs.PlainLocalLaws.{spells_nothing}
 use Rattle.fss_write.proofs.WrittenTerms.{allows_end, import_word, ontology_word, prefix_word, say_tree}
 
 -- what stands behind a tree stands behind its terms

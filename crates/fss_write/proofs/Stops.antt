@@ -3,7 +3,7 @@ use Rattle.std.proofs.Common.{◌≡◌, ℕ, true, List, [], ◌∷◌}
 use Rattle.std.proofs.lemmas.Bool.{false≢true}
 use Rattle.owl_characters.specs.Names.{begins_with}
 use Rattle.owl_lexer.specs.Splitting.{IsLongest}
-use Rattle.owl_tokens.specs.StopLaws.{is_stop, longest_before_stop}
+use Rattle.owl_tokens.proofs.StopLaws.{is_stop, longest_before_stop}
 use Rattle.owl_tokens.specs.Tokens.{Spells}
 use Rattle.owl_tokens.specs.declared.token.Token.{Token}
 

@@ -8,23 +8,23 @@ use Rattle.std.proofs.lemmas.Bool.{and_parts, leb-true, leb-false}
 use Rattle.std.proofs.lemmas.Cmp.{tied_itself}
 use Rattle.std.proofs.lemmas.List.{length-map}
 use Rattle.owl_list.specs.Ascending.{IsAscending, by_order}
-use Rattle.owl_list.specs.AscendingLaws.{head_below, nothing_ascends, tail_ascends}
+use Rattle.owl_list.proofs.AscendingLaws.{head_below, nothing_ascends, tail_ascends}
 use Rattle.owl_tree.specs.declared.tag.Tag.{Tag}
 use Rattle.owl_tree.specs.declared.tag.Tag.TheVariants as tag
 use Rattle.owl_tree.specs.declared.row.Sort.{Sort}
 use Rattle.owl_tree.specs.declared.row.Rest.TheVariants.{Nothing, Optional, AtLeast, SomeThen, Set}
 use Rattle.owl_tree.specs.Canonical.{canonical, canonicals, arranged, arranged_from, AscendsFrom, SetAscends, SetsAscend, EachSetsAscend}
-use Rattle.owl_tree.specs.CanonicalLaws.{ascends_is_canonical, canonicals_kids_of}
+use Rattle.owl_tree.proofs.CanonicalLaws.{ascends_is_canonical, canonicals_kids_of}
 use Rattle.owl_tree.specs.Equivalence.{IsEquivalent}
-use Rattle.owl_tree.specs.EquivalenceLaws.{equivalent_is_equal_form}
+use Rattle.owl_tree.proofs.EquivalenceLaws.{equivalent_is_equal_form}
 use Rattle.owl_tree.specs.Order.{tree_cmp}
 use Rattle.owl_tree.specs.OrderLaws.{trees_total}
 use Rattle.owl_tree.specs.Places.{admits_from, counts}
-use Rattle.owl_tree.specs.PlacesLaws.{fits_by_place}
+use Rattle.owl_tree.proofs.PlacesLaws.{fits_by_place}
 use Rattle.owl_tree.specs.Rows.{Row, Leaf, Node, row_of, set_start}
 use Rattle.owl_tree.specs.Shape.{AreAtMostTwo, AreShaped, FitsRow, IsShaped}
-use Rattle.owl_tree.specs.ShapeLaws.{equivalent_shape}
-use Rattle.owl_tree.specs.TreeLaws.{list_of_kids_of}
+use Rattle.owl_tree.proofs.ShapeLaws.{equivalent_shape}
+use Rattle.owl_tree.proofs.TreeLaws.{list_of_kids_of}
 use Rattle.owl_tree.specs.Trees.{Tree, Kids, leaf, node, no_kids, kid, kids_of, list_of, tag_of}
 use Rattle.fss_terms.specs.Spelling.{HasMembers, HaveMembers, IsWritten, MeetsMinimum}
 use Rattle.fss_write.specs.Text.{doubled, doubled_behind, written_form, written_forms}

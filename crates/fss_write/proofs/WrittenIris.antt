@@ -6,13 +6,13 @@ use Rattle.owl_characters.specs.Names.{IsPrefixName}
 use Rattle.owl_tokens.specs.Tokens.{Spells}
 use Rattle.owl_tokens.specs.declared.token.Token.{Token}
 use Rattle.owl_tokens.specs.declared.token.Token.TheVariants as token
-use Rattle.owl_list.specs.AscendingLaws.{all_in}
+use Rattle.owl_list.proofs.AscendingLaws.{all_in}
 use Rattle.owl_atom.specs.declared.prefixes.Prefix.{Prefix}
-use Rattle.owl_writing.specs.AbbreviationLaws.{IsAnswer, best_answer, cuts_fact}
+use Rattle.owl_writing.proofs.AbbreviationLaws.{IsAnswer, best_answer, cuts_fact}
 use Rattle.owl_writing.specs.Abbreviations.{best_prefix, local_behind}
-use Rattle.owl_writing.specs.PlainLocalLaws.{spells_plain}
+use Rattle.owl_writing.proofs.PlainLocalLaws.{spells_plain}
 use Rattle.owl_writing.specs.Terms.{full_iri, iri_text, shortened_by}
-use Rattle.owl_writing.specs.WrittenTableLaws.{AreKnown}
+use Rattle.owl_writing.proofs.WrittenTableLaws.{AreKnown}
 use Rattle.fss_terms.specs.Terms.{iri_of_token}
 
 -- one token stands for the IRI, where no token goes on behind it

@@ -13,8 +13,8 @@ use Rattle.owl_characters.specs.Names.{IsNameFrom, IsRunOf, ends_in_dot, is_inne
 use Rattle.owl_characters.specs.Order.{text_eq}
 use Rattle.owl_tokens.specs.declared.token.Sign.TheVariants as sign
 use Rattle.owl_tokens.specs.declared.token.Token.TheVariants as token
-use Rattle.owl_characters.specs.AllAreLaws.{AllAre-append, all_are}
-use Rattle.owl_tokens.specs.StopLaws.{longest_closed}
+use Rattle.owl_characters.proofs.AllAreLaws.{AllAre-append, all_are}
+use Rattle.owl_tokens.proofs.StopLaws.{longest_closed}
 use Rattle.owl_atom.specs.declared.prefixes.Prefix.{Prefix}
 use Rattle.rdf_terms.specs.Literals.{FitsTag, IsLiteral, LiteralParts, of_datatype, string, with_tag}
 use Rattle.owl_tree.specs.declared.atom.Atom.{Atom}
@@ -32,9 +32,9 @@ use Rattle.fss_terms.specs.declared.term.Term.{Term}
 use Rattle.fss_terms.specs.declared.term.Term.TheVariants as term
 use Rattle.fss_write.specs.Text.{atom_text, bracketed, joined, literal_text, parts, parts_of, string_text}
 use Rattle.owl_writing.specs.Terms.{iri_text, literal_end}
-use Rattle.owl_writing.specs.WrittenTableLaws.{AreKnown}
+use Rattle.owl_writing.proofs.WrittenTableLaws.{AreKnown}
 use Rattle.owl_tokens.specs.Tokens.{Spells}
-use Rattle.owl_writing.specs.CutLaws.{Cuts, cuts_token}
+use Rattle.owl_writing.proofs.CutLaws.{Cuts, cuts_token}
 use Rattle.fss_write.proofs.Pieces.{SaysTerms, says_close, says_open, says_opening, says_space}
 use Rattle.fss_write.proofs.Stops.{Ends, token_longest}
 use Rattle.fss_write.proofs.WrittenIris.{iri_token}

@@ -26,7 +26,7 @@ pub fn add_atom(draft: &mut Draft, prefixes: &Prefixes, atom: &Atom) -> Result<(
 }
 
 /// Adds a literal: a string alone, with its language tag, or with its datatype.
-#[tactic(auto, using(owl_characters::specs::Utf8Laws::size_append))]
+#[tactic(auto, using(owl_characters::proofs::Utf8Laws::size_append))]
 fn add_literal(draft: &mut Draft, prefixes: &Prefixes, literal: &Literal) -> Result<(), WriteFault>
     ensures ok { OnOk result (draft.new ≡ draft.old ++ literal_text prefixes.now literal.now) }
     ensures too_long { IsErrOf result WriteFault.TooLong → IsTooLong (draft.old ++ literal_text prefixes.now literal.now) }
@@ -36,7 +36,7 @@ fn add_literal(draft: &mut Draft, prefixes: &Prefixes, literal: &Literal) -> Res
 }
 
 /// Adds a string with its quotes and escapes.
-#[tactic(auto, using(owl_characters::specs::Utf8Laws::size_append))]
+#[tactic(auto, using(owl_characters::proofs::Utf8Laws::size_append))]
 fn add_string(draft: &mut Draft, form: &str) -> Result<(), WriteFault>
     ensures ok { OnOk result (draft.new ≡ draft.old ++ string_text (chars form.now)) }
     ensures too_long { IsErrOf result WriteFault.TooLong → IsTooLong (draft.old ++ string_text (chars form.now)) }
@@ -47,7 +47,7 @@ fn add_string(draft: &mut Draft, form: &str) -> Result<(), WriteFault>
 }
 
 /// Adds the characters of a string, with a backslash before a quote or a backslash.
-#[tactic(auto, using(owl_characters::specs::Utf8Laws::size_append))]
+#[tactic(auto, using(owl_characters::proofs::Utf8Laws::size_append))]
 fn add_escaped(draft: &mut Draft, form: &str) -> Result<(), WriteFault>
     ensures ok { OnOk result (draft.new ≡ draft.old ++ flat_map character_spelling (chars form.now)) }
     ensures too_long { IsErrOf result WriteFault.TooLong → IsTooLong (draft.old ++ flat_map character_spelling (chars form.now)) }
@@ -58,7 +58,7 @@ fn add_escaped(draft: &mut Draft, form: &str) -> Result<(), WriteFault>
     Ok(())
 }
 
-#[tactic(auto, using(owl_characters::specs::Utf8Laws::size_append))]
+#[tactic(auto, using(owl_characters::proofs::Utf8Laws::size_append))]
 fn add_character(draft: &mut Draft, c: char) -> Result<(), WriteFault>
     ensures ok { OnOk result (draft.new ≡ draft.old ++ character_spelling c) }
     ensures too_long { IsErrOf result WriteFault.TooLong → IsTooLong (draft.old ++ character_spelling c) }

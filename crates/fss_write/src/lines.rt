@@ -19,7 +19,7 @@ use owl_doc::{Doc, Head};
 use owl_writing::{Draft, WriteFault};
 
 /// Adds the lines of a document, of which the names are abbreviated by these prefixes.
-#[tactic(auto, using(owl_characters::specs::Utf8Laws::size_append))]
+#[tactic(auto, using(owl_characters::proofs::Utf8Laws::size_append))]
 pub fn add_document(draft: &mut Draft, prefixes: &Prefixes, doc: &Doc) -> Result<(), WriteFault>
     ensures ok { OnOk result (draft.new ≡ draft.old ++ lines_of prefixes.now (ontology_of doc.now)) }
     ensures too_long { IsErrOf result WriteFault.TooLong → IsTooLong (draft.old ++ lines_of prefixes.now (ontology_of doc.now)) }
@@ -46,7 +46,7 @@ fn add_prefixes(draft: &mut Draft, prefixes: &Prefixes) -> Result<(), WriteFault
     Ok(())
 }
 
-#[tactic(auto, using(owl_characters::specs::Utf8Laws::size_append))]
+#[tactic(auto, using(owl_characters::proofs::Utf8Laws::size_append))]
 fn add_prefix(draft: &mut Draft, name: &str, iri: &Iri) -> Result<(), WriteFault>
     ensures ok { OnOk result (draft.new ≡ draft.old ++ (codes "Prefix(" ++ (chars name.now ++ (codes ":=" ++ (full_iri iri.now ++ codes ")\n"))))) }
     ensures too_long { IsErrOf result WriteFault.TooLong → IsTooLong (draft.old ++ (codes "Prefix(" ++ (chars name.now ++ (codes ":=" ++ (full_iri iri.now ++ codes ")\n"))))) }
@@ -62,7 +62,7 @@ fn add_prefix(draft: &mut Draft, name: &str, iri: &Iri) -> Result<(), WriteFault
 }
 
 /// Adds the line with the name of the ontology.
-#[tactic(auto, using(owl_characters::specs::Utf8Laws::size_append))]
+#[tactic(auto, using(owl_characters::proofs::Utf8Laws::size_append))]
 fn add_header(draft: &mut Draft, head: &Head) -> Result<(), WriteFault>
     ensures ok { OnOk result (draft.new ≡ draft.old ++ header_line (head_of head.now).name) }
     ensures too_long { IsErrOf result WriteFault.TooLong → IsTooLong (draft.old ++ header_line (head_of head.now).name) }
@@ -75,7 +75,7 @@ fn add_header(draft: &mut Draft, head: &Head) -> Result<(), WriteFault>
     draft.add_ascii("\n")
 }
 
-#[tactic(auto, using(owl_characters::specs::Utf8Laws::size_append))]
+#[tactic(auto, using(owl_characters::proofs::Utf8Laws::size_append))]
 fn add_version(draft: &mut Draft, version: &Option<Iri>) -> Result<(), WriteFault>
     ensures ok { OnOk result (draft.new ≡ draft.old ++ version_text version.now) }
     ensures too_long { IsErrOf result WriteFault.TooLong → IsTooLong (draft.old ++ version_text version.now) }
@@ -100,7 +100,7 @@ fn add_imports(draft: &mut Draft, imports: &[Iri]) -> Result<(), WriteFault>
     Ok(())
 }
 
-#[tactic(auto, using(owl_characters::specs::Utf8Laws::size_append))]
+#[tactic(auto, using(owl_characters::proofs::Utf8Laws::size_append))]
 fn add_import(draft: &mut Draft, iri: &Iri) -> Result<(), WriteFault>
     ensures ok { OnOk result (draft.new ≡ draft.old ++ import_line iri.now) }
     ensures too_long { IsErrOf result WriteFault.TooLong → IsTooLong (draft.old ++ import_line iri.now) }
@@ -127,7 +127,7 @@ fn add_items(
     Ok(())
 }
 
-#[tactic(auto, using(owl_characters::specs::Utf8Laws::size_append))]
+#[tactic(auto, using(owl_characters::proofs::Utf8Laws::size_append))]
 fn add_line(
     draft: &mut Draft,
     arena: &Arena,

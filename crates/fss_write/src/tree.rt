@@ -58,7 +58,7 @@ fn add_space(draft: &mut Draft, after_part: bool) -> Result<(), WriteFault>
 }
 
 /// Adds a leaf that stands in a node with the tag `within`.
-#[tactic(auto, using(owl_characters::specs::Utf8Laws::size_append))]
+#[tactic(auto, using(owl_characters::proofs::Utf8Laws::size_append))]
 fn add_leaf(
     draft: &mut Draft,
     prefixes: &Prefixes,
@@ -77,7 +77,7 @@ fn add_leaf(
 }
 
 /// Adds an entity of a declaration, in the brackets of its keyword.
-#[tactic(auto, using(owl_characters::specs::Utf8Laws::size_append))]
+#[tactic(auto, using(owl_characters::proofs::Utf8Laws::size_append))]
 fn add_entity(
     draft: &mut Draft,
     prefixes: &Prefixes,
@@ -109,7 +109,7 @@ pub fn add_item(
 }
 
 /// Adds what stands before the kids of a node.
-#[tactic(auto, using(owl_characters::specs::Utf8Laws::size_append))]
+#[tactic(auto, using(owl_characters::proofs::Utf8Laws::size_append))]
 fn open_node(draft: &mut Draft, tag: Tag) -> Result<(), WriteFault>
     ensures ok { OnOk result (draft.new ≡ draft.old ++ (node_name tag ++ codes "(")) }
     ensures too_long { IsErrOf result WriteFault.TooLong → IsTooLong (draft.old ++ (node_name tag ++ codes "(")) }
@@ -121,7 +121,7 @@ fn open_node(draft: &mut Draft, tag: Tag) -> Result<(), WriteFault>
 /// Adds the parts of a tree that stands in a node with the tag `within`, behind some part or behind none, and tells
 /// whether some part stands there now.
 #[cycle(tree)]
-#[tactic(auto, using(owl_characters::specs::Utf8Laws::size_append))]
+#[tactic(auto, using(owl_characters::proofs::Utf8Laws::size_append))]
 fn add_parts(
     draft: &mut Draft,
     arena: &Arena,
@@ -148,7 +148,7 @@ fn add_parts(
 
 /// The same of a node.
 #[cycle(tree)]
-#[tactic(auto, using(owl_characters::specs::Utf8Laws::size_append))]
+#[tactic(auto, using(owl_characters::proofs::Utf8Laws::size_append))]
 fn add_node_parts(
     draft: &mut Draft,
     arena: &Arena,
@@ -171,7 +171,7 @@ fn add_node_parts(
 
 /// Adds a node with its brackets.
 #[cycle(tree)]
-#[tactic(auto, using(owl_characters::specs::Utf8Laws::size_append))]
+#[tactic(auto, using(owl_characters::proofs::Utf8Laws::size_append))]
 fn add_node(
     draft: &mut Draft,
     arena: &Arena,

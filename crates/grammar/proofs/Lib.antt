@@ -1,3 +1,13 @@
-pub mod Tables
-pub mod Settling
+pub mod ClassSetLaws
+pub mod FeedingLaws
+pub mod GrammarLaws
+pub mod LoweringLaws
+pub mod PageLaws
 pub mod Parsers
+pub mod PartLaws
+pub mod PredictiveLaws
+pub mod ProductiveLaws
+pub mod Settling
+pub mod Tables
+pub mod TokenFeedingLaws
+pub mod YieldLaws

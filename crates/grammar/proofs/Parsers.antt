@@ -4,8 +4,8 @@ use Rattle.grammar.specs.Grammars.{Entry, has_rule}
 use Rattle.grammar.specs.Parsing.{Feeds, NeedsMore, Parsing, Refuses}
 use Rattle.grammar.specs.Predicting.{end_class}
 use Rattle.grammar.specs.Predictions.{AreFollowed, IsPredictive}
-use Rattle.grammar.specs.PredictiveLaws.{followed_start}
-use Rattle.grammar.specs.ProductiveLaws.{IsProductive, lives}
+use Rattle.grammar.proofs.PredictiveLaws.{followed_start}
+use Rattle.grammar.proofs.ProductiveLaws.{IsProductive, lives}
 use Rattle.grammar.specs.Settling.{Finishes, Settles, Steps, needed_first}
 use Rattle.grammar.specs.declared.fault.ParseFault.{ParseFault}
 use Rattle.grammar.specs.declared.symbol.Symbol.{Symbol}

@@ -11,7 +11,7 @@ use Rattle.grammar.specs.Grammars.{Among, Entry, Row, entry}
 use Rattle.grammar.specs.Parsing.{GoesOn, NeedsMore, Refuses}
 use Rattle.grammar.specs.Predicting.{costs, end_class}
 use Rattle.grammar.specs.Predictions.{AreFollowed, IsPredictive}
-use Rattle.grammar.specs.PredictiveLaws.{followed_row, predicted, predicted_row, row_costs}
+use Rattle.grammar.proofs.PredictiveLaws.{followed_row, predicted, predicted_row, row_costs}
 use Rattle.grammar.specs.Settling.{Finishes, RefusesAt, Settles, Steps}
 use Rattle.grammar.specs.Tables.{IsExpanded, IsTaken, NoneIsTaken}
 use Rattle.grammar.specs.declared.fault.ParseFault.{ParseFault}

@@ -5,7 +5,7 @@ use Rattle.std.proofs.lemmas.List.{append_assoc, drop_more, length-take-le, map-
 use Rattle.grammar.specs.Derivations.{Event}
 use Rattle.grammar.specs.Derivations.Event.{Do, Take}
 use Rattle.grammar.specs.Feeding.{DefectAt}
-use Rattle.grammar.specs.FeedingLaws.{defect_at_end, defect_at_token, fed_ends, fed_more, fed_one_way, fed_start}
+use Rattle.grammar.proofs.FeedingLaws.{defect_at_end, defect_at_token, fed_ends, fed_more, fed_one_way, fed_start}
 use Rattle.grammar.specs.Grammars.{has_rule}
 use Rattle.grammar.specs.Parsing.{Ends, Feeds, NeedsMore, Parsing, Refuses, expects}
 use Rattle.grammar.specs.declared.fault.ParseFault.{ParseFault}

@@ -1,4 +1,2 @@
 pub mod ItemsTable
-pub mod ItemsPage
 pub mod Events
-pub mod WorkedCases

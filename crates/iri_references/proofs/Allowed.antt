@@ -7,8 +7,8 @@ use Rattle.std.proofs.lemmas.Bool.{and_parts, cases_Bool, false≢true}
 use Rattle.std.proofs.lemmas.Bool.Decides.{nat_tests}
 use Rattle.std.proofs.lemmas.List.Splits.{slice_split-cons_no, slice_split-cons_yes}
 use Rattle.owl_characters.specs.Iri.{AllAre, IsIri, IsScheme, is_iri_character, is_scheme_character}
-use Rattle.owl_characters.specs.IriLaws.{scheme_characters}
-use Rattle.owl_characters.specs.AllAreLaws.{AllAre-append, AllAre-back, AllAre-weaker, all_are}
+use Rattle.owl_characters.proofs.IriLaws.{scheme_characters}
+use Rattle.owl_characters.proofs.AllAreLaws.{AllAre-append, AllAre-back, AllAre-weaker, all_are}
 use Rattle.iri_references.specs.References.{Parts, before, behind, colon, from_mark, has_authority, has_scheme, hierarchy_of, is_empty, is_scheme, parts_of, slash}
 use Rattle.iri_references.specs.DotSegments.{is_dot_segment, is_double_dot, is_single_dot, last_slash, output_of, segments_of, with_segment, with_segments, without_dot_segments, without_last_segment}
 use Rattle.iri_references.specs.Resolution.{front_of, marked, merged, recomposed, resolved_without_scheme, target, target_by, through_last_slash}

@@ -5,7 +5,7 @@ use Rattle.std.specs.Str.{IsUtf8, chars, encode_utf8_all}
 use Rattle.std.proofs.lemmas.Bool.{false_from_ne_true}
 use Rattle.std.proofs.lemmas.Bool.Decides.{Decides-eqb}
 use Rattle.std.proofs.lemmas.Str.{chars-append, encodes-append, encodes-chars, IsUtf8-from_ascii}
-use Rattle.owl_characters.specs.AsciiLaws.{ascii_bytes, ascii_chars, ascii_text}
+use Rattle.owl_characters.proofs.AsciiLaws.{ascii_bytes, ascii_chars, ascii_text}
 use Rattle.std.proofs.lemmas.Slice.Eq.{starts_is}
 use Rattle.iri_references.specs.References.{authority_of, before, from_mark, has_authority, path_of, slash}
 

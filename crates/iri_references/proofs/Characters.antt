@@ -14,7 +14,7 @@ use Rattle.std.proofs.lemmas.Str.{chars-append, chars-IsAscii, chars_past_char, 
 use Rattle.std.proofs.lemmas.Str.Ascii.{IsAscii-cons, IsAscii-nil}
 use Rattle.std.proofs.lemmas.Str.Pattern.{IsSplitOnceResult, drop_at_char}
 use Rattle.owl_characters.specs.Iri.{is_ascii}
-use Rattle.owl_characters.specs.AsciiLaws.{ascii_bytes}
+use Rattle.owl_characters.proofs.AsciiLaws.{ascii_bytes}
 use Rattle.owl_characters.specs.Order.{text_eq}
 use Rattle.owl_characters.specs.OrderLaws.{same_bytes}
 use Rattle.owl_characters.specs.Names.{begins_with}

@@ -7,7 +7,7 @@ use Rattle.std.proofs.lemmas.Bool.{cases_Bool, eqb-true, not_from_false, or_part
 use Rattle.std.proofs.lemmas.List.{append-nil, append_cancel_left, append_cancel_right}
 use Rattle.std.proofs.lemmas.Option.{none-some}
 use Rattle.std.proofs.lemmas.List.Splits.{slice_split-cons_no, slice_split-cons_yes}
-use Rattle.owl_characters.specs.AllAreLaws.{AllAre-append}
+use Rattle.owl_characters.proofs.AllAreLaws.{AllAre-append}
 use Rattle.owl_characters.specs.Iri.{AllAre, IsIri, is_iri_character}
 use Rattle.owl_characters.specs.Names.{begins_with}
 use Rattle.iri_references.specs.References.{Parts, authority_of, before, behind, colon, from_mark, has_authority, hierarchy_of, is_empty, number_sign, parts_of, path_of, question_mark, slash}

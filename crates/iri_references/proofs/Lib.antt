@@ -1,9 +1,10 @@
-pub mod Characters
-pub mod Marks
-pub mod Paths
-pub mod Targets
 pub mod Allowed
 pub mod Authorities
-pub mod Outputs
-pub mod Rules
+pub mod Characters
 pub mod Fronts
+pub mod Marks
+pub mod Outputs
+pub mod Paths
+pub mod Rules
+pub mod Targets
+pub mod WorkedCases

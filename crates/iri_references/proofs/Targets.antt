@@ -3,7 +3,7 @@ use Rattle.std.proofs.Common.{◌≡◌, ℕ, Bool, true, false, List, [], ◌�
 use Rattle.std.specs.Prelude.{◌==◌, ◌&&◌, ◌||◌, codes, is_none, is_some, unwrap_or}
 use Rattle.std.specs.List.{after_first}
 use Rattle.std.specs.Str.{chars}
-use Rattle.owl_characters.specs.AsciiLaws.{ascii_chars}
+use Rattle.owl_characters.proofs.AsciiLaws.{ascii_chars}
 use denote.Ref.{Bor}
 use Rattle.std.specs.Option.{option_or}
 use Rattle.std.proofs.lemmas.Bool.{false≢true, true≢false}

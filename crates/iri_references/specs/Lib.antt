@@ -3,5 +3,4 @@ pub mod DotSegments
 pub mod DotSegmentRules
 pub mod Resolution
 pub mod Views
-pub mod WorkedCases
 pub mod Bases

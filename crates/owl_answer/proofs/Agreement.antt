@@ -2,14 +2,14 @@
 use Rattle.std.proofs.Common.{◌≡◌, ℕ, Some, List, slice_get, sym, ap, ◌∙◌, subst, arith}
 use Rattle.std.proofs.lemmas.Option.{same_Some}
 use Rattle.owl_close.specs.Imports.{IsFirstMissing, MissesNone}
-use Rattle.owl_close.specs.ImportsLaws.{missing_once}
+use Rattle.owl_close.proofs.ImportsLaws.{missing_once}
 use Rattle.owl_command.specs.Commands.{Request, compares, names_of, shows, translates}
 use Rattle.owl_command.specs.declared.command.Target.{Target as Syntax}
 use Rattle.owl_command.specs.declared.command.Target.TheVariants.{Fss, Ttl}
 use Rattle.owl_documents.specs.Documents.{IsSame, Parsed, Said, a_graph, an_ontology}
 use Rattle.owl_documents.specs.OneWay.{IsSameParsed}
 use Rattle.owl_kind.specs.Kinds.{Entity}
-use Rattle.owl_tree.specs.OntologyLaws.{same_ontology_sym, same_ontology_trans}
+use Rattle.owl_tree.proofs.OntologyLaws.{same_ontology_sym, same_ontology_trans}
 use Rattle.rdf_reverse.specs.declared.fault.ReverseFault.{ReverseFault}
 use Rattle.owl_answer.specs.Outcome.{IsComparison, Outcome, agree, differ, heads_in, missing_import, shown, translation, unsaid_outcome}
 use Rattle.owl_answer.specs.Runs.{AnswersWith, Concludes, IsTranslation, all_say, misses_import, says_nothing}

@@ -2,10 +2,10 @@
 use Rattle.std.proofs.Common.{◌≡◌, ◌≢◌, ℕ, zero, suc, Some, List, [], ◌∷◌, slice_get, refl, ap, subst}
 use Rattle.owl_kind.specs.declared.kind.Kind.{Kind}
 use Rattle.owl_kind.specs.Kinds.{Entity}
-use Rattle.owl_kind.specs.OrderLaws.{one_order}
+use Rattle.owl_kind.proofs.OrderLaws.{one_order}
 use Rattle.owl_close.specs.Imports.{Reaches}
-use Rattle.owl_close.specs.ImportsLaws.{reaches_alike}
-use Rattle.owl_close.specs.UnreachedLaws.{DifferUnreached, reaches_unreached, unreached_back}
+use Rattle.owl_close.proofs.ImportsLaws.{reaches_alike}
+use Rattle.owl_close.proofs.UnreachedLaws.{DifferUnreached, reaches_unreached, unreached_back}
 use Rattle.owl_documents.specs.Documents.{DeclaresAs, Parsed}
 use Rattle.owl_documents.specs.OneWay.{AreSame, IsSameParsed}
 use Rattle.owl_answer.specs.KindsAt.{AreClosureKinds, AreOwnKinds, DeclaresAt, IsDeclaredInClosure}

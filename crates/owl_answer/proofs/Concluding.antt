@@ -1,6 +1,6 @@
 -- What is concluded of documents that are read as the same is one.
 use Rattle.std.proofs.Common.{◌≡◌, ℕ, List}
-use Rattle.owl_close.specs.ImportsLaws.{alike_back, first_missing_alike, missing_alike, reaches_alike}
+use Rattle.owl_close.proofs.ImportsLaws.{alike_back, first_missing_alike, missing_alike, reaches_alike}
 use Rattle.owl_command.specs.Commands.{Request, compares, shows, translates}
 use Rattle.owl_documents.specs.Documents.{Parsed}
 use Rattle.owl_documents.specs.OneWay.{AreSame, IsSameParsed}

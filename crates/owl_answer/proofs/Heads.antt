@@ -1,7 +1,7 @@
 -- The heads of documents that are read as the same are the same.
 use Rattle.std.proofs.Common.{ℕ, zero, suc, List, [], ◌∷◌}
-use Rattle.owl_close.specs.ImportsLaws.{AreAlike}
-use Rattle.owl_close.specs.UnreachedLaws.{AreAlikeBut}
+use Rattle.owl_close.proofs.ImportsLaws.{AreAlike}
+use Rattle.owl_close.proofs.UnreachedLaws.{AreAlikeBut}
 use Rattle.owl_documents.specs.Documents.{Parsed}
 use Rattle.owl_documents.specs.OneWay.{AreSame}
 use Rattle.owl_answer.specs.Outcome.{heads_in}

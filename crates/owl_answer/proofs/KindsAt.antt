@@ -6,7 +6,7 @@ use Rattle.std.proofs.lemmas.Option.{same_Some}
 use Rattle.owl_kind.specs.declared.kind.Kind.{Kind}
 use Rattle.owl_kind.specs.Kinds.{Entity, IsDeclared}
 use Rattle.owl_kind.specs.Order.{AreOrdered}
-use Rattle.owl_list.specs.AscendingLaws.{in_cases, in_head, in_none}
+use Rattle.owl_list.proofs.AscendingLaws.{in_cases, in_head, in_none}
 use Rattle.owl_documents.specs.Documents.{DeclaresAs, Parsed}
 use Rattle.owl_close.specs.Imports.{AreReached}
 use Rattle.owl_answer.specs.KindsAt.{AddsAt, AddsOf, AreClosureKinds, AreDeclaredAt, AreOwnKinds, DeclaresAt}

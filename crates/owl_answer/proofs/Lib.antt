@@ -9,6 +9,7 @@ pub mod Same
 pub mod Sayings
 pub mod TurtleOnce
 pub mod Turtles
+pub mod TypingLaws
 pub mod Typings
 pub mod UnderKinds
 pub mod Unreached

@@ -9,13 +9,13 @@ use Rattle.owl_documents.specs.OneWay.{IsSameParsed}
 use Rattle.owl_kind.specs.declared.kind.Kind.{Kind}
 use Rattle.owl_kind.specs.Kinds.{Entity, IsDeclared}
 use Rattle.owl_tree.specs.Ontologies.{Head, IsSameHead, IsSameOntology, Ontology, OntologyName, canonical_list}
-use Rattle.owl_tree.specs.OntologyLaws.{same_ontology_is_equal_form, same_ontology_refl, same_ontology_sym}
+use Rattle.owl_tree.proofs.OntologyLaws.{same_ontology_is_equal_form, same_ontology_refl, same_ontology_sym}
 use Rattle.owl_tree.specs.Trees.{Tree}
 use Rattle.rdf_graph.specs.declared.triple.Triple.{Triple}
-use Rattle.rdf_normal.specs.DeclaredLaws.{declares_same}
+use Rattle.rdf_normal.proofs.DeclaredLaws.{declares_same}
 use Rattle.rdf_normal.specs.NormalForms.{is_about, normal_form, settled, spread}
 use Rattle.rdf_reverse.specs.Reverse.{Finds, FindsFirst, IsHeaderFault, IsSaid, IsUnsaid, Step, bad_header, no_header, of_depths, of_header, of_kinds, of_names, of_nodes, of_numbers, of_parts, of_reach, of_reifications, of_statements, of_weights, steps, two_headers}
-use Rattle.rdf_reverse.specs.ReverseLaws.{never_both, said_one_way, unsaid_one_way}
+use Rattle.rdf_reverse.proofs.ReverseLaws.{never_both, said_one_way, unsaid_one_way}
 use Rattle.rdf_reverse.specs.declared.fault.ReverseFault.{ReverseFault}
 use Rattle.rdf_reverse.specs.declared.fault.ReverseFault.TheVariants.{Memory}
 use Rattle.rdf_scans.specs.Outlines.{declarations as declared_by}

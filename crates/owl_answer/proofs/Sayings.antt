@@ -5,20 +5,20 @@ use Rattle.owl_arena.specs.Shared.{heaviest}
 use Rattle.owl_doc.specs.Entities.{AreWellTyped, declarations, declared_in, entities, entities_of}
 use Rattle.owl_kind.specs.Kinds.{Entity}
 use Rattle.owl_tree.specs.Ontologies.{IsOntology, Ontology, canonical_list, canonical_ontology, ontology_weight}
-use Rattle.owl_tree.specs.OntologyLaws.{equivalent_lists}
+use Rattle.owl_tree.proofs.OntologyLaws.{equivalent_lists}
 use Rattle.owl_tree.specs.Trees.{Tree, kids_of}
 use Rattle.owl_documents.specs.Documents.{Said}
 use Rattle.rdf_graph.specs.declared.triple.Triple.{Triple}
 use Rattle.rdf_mapping.specs.Graphs.{graph_of}
 use Rattle.rdf_meaning.specs.Statements.{Says}
-use Rattle.rdf_normal.specs.DeclaredLaws.{DeclaresIn, declared_by, declares_before, declares_it, form_declares}
+use Rattle.rdf_normal.proofs.DeclaredLaws.{DeclaresIn, declared_by, declares_before, declares_it, form_declares}
 use Rattle.rdf_normal.specs.NormalForms.{normal_form, unsettled_annotations, unsettled_axioms}
-use Rattle.rdf_normal.specs.ShapedLaws.{normal_is_ontology}
-use Rattle.rdf_normal.specs.TidiedLaws.{settled_form}
-use Rattle.rdf_reverse.specs.DeclaringLaws.{declares_stated}
-use Rattle.rdf_reverse.specs.WithinLaws.{said_within}
+use Rattle.rdf_normal.proofs.ShapedLaws.{normal_is_ontology}
+use Rattle.rdf_normal.proofs.TidiedLaws.{settled_form}
+use Rattle.rdf_reverse.proofs.DeclaringLaws.{declares_stated}
+use Rattle.rdf_reverse.proofs.WithinLaws.{said_within}
 use Rattle.rdf_scans.specs.Outlines.{declarations as graph_declarations}
-use Rattle.rdf_states.specs.NormalStatesLaws.{form_axioms_typed, form_notes_typed, form_says}
+use Rattle.rdf_states.proofs.NormalStatesLaws.{form_axioms_typed, form_notes_typed, form_says}
 use Rattle.rdf_sayable.specs.Parts.{of_axiom}
 use Rattle.rdf_sayable.specs.Sayable.{CanSayAll}
 use Rattle.owl_answer.specs.Outcome.{IsSuccess, Outcome}

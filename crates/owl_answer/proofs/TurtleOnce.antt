@@ -9,18 +9,18 @@ use Rattle.owl_doc.specs.Counts.{subtrees_of}
 use Rattle.owl_kind.specs.Kinds.{Entity}
 use Rattle.owl_list.specs.Ascending.{ascending}
 use Rattle.owl_tree.specs.Ontologies.{IsSameOntology, Ontology, canonical_ontology}
-use Rattle.owl_tree.specs.OntologyLaws.{same_ontology_is_equal_form}
+use Rattle.owl_tree.proofs.OntologyLaws.{same_ontology_is_equal_form}
 use Rattle.owl_tree.specs.Order.{tree_cmp}
 use Rattle.owl_tree.specs.Trees.{kids_of, weight}
 use Rattle.owl_documents.specs.Documents.{IsSame, Said}
 use Rattle.rdf_normal.specs.NormalForms.{absorbed_count}
-use Rattle.rdf_sayable.specs.SayableLaws.{not_all_said, unsayable_once}
+use Rattle.rdf_sayable.proofs.SayableLaws.{not_all_said, unsayable_once}
 use Rattle.owl_answer.specs.Outcome.{Outcome, done_line, shown, translation}
 use Rattle.owl_answer.specs.Refusals.{two_kinds, undeclared, unsayable}
 use Rattle.owl_answer.specs.Summary.{count_line, name_lines}
 use Rattle.owl_answer.specs.Typing.{DeclareSame}
-use Rattle.owl_kind.specs.OrderLaws.{clash_once}
-use Rattle.owl_answer.specs.TypingLaws.{not_all_typed, same_kinds_apart, same_kinds_clash, same_kinds_typed, same_kinds_untyped, same_ontology_typed, same_ontology_untyped, untyped_once}
+use Rattle.owl_kind.proofs.OrderLaws.{clash_once}
+use Rattle.owl_answer.proofs.TypingLaws.{not_all_typed, same_kinds_apart, same_kinds_clash, same_kinds_typed, same_kinds_untyped, same_ontology_typed, same_ontology_untyped, untyped_once}
 use Rattle.owl_answer.specs.TurtleOutcome.{IsFormTold, IsFunctionalTranslation, IsGraphTold, IsTold, IsTurtleTranslation, IsTyped, IsTypingRefusal, canonical_said, clashes, few, graph_translation, heavy, ill_typed, light, many, not_typed, ready, turtle_form, unsaid, untyped, well_typed}
 use Rattle.owl_answer.proofs.Wanting.{limited_more, limited_once}
 

@@ -4,7 +4,7 @@ use Rattle.std.specs.List.{AllByRecursion}
 use Rattle.std.specs.Str.{encode_utf8_all}
 use Rattle.owl_characters.specs.Limit.{most_bytes}
 use Rattle.owl_arena.specs.Held.{AreHeld, Held, trees_at}
-use Rattle.owl_arena.specs.HeldLaws.{entry_at}
+use Rattle.owl_arena.proofs.HeldLaws.{entry_at}
 use Rattle.owl_arena.specs.Shared.{AreShared, deepest, heaviest}
 use Rattle.owl_atom.specs.declared.prefixes.Prefix.{Prefix}
 use Rattle.owl_kind.specs.Kinds.{Entity}
@@ -22,7 +22,7 @@ use Rattle.rdf_sayable.specs.Sayable.{CanSayAll, IsFirstUnsayable}
 use Rattle.rdf_normal.specs.NormalForms.{absorbed_count, normal_form}
 use Rattle.rdf_mapping.specs.Graphs.{graph_of}
 use Rattle.rdf_reverse.specs.Reverse.{AreShallow}
-use Rattle.rdf_states.specs.EndLaws.{all_both}
+use Rattle.rdf_states.proofs.EndLaws.{all_both}
 use Rattle.ttl_grammar.specs.Documents.{ReadsTurtle}
 use Rattle.ttl_write.specs.Text.{turtle_text}
 use Rattle.owl_command.specs.declared.status.Status.TheVariants.{Done}

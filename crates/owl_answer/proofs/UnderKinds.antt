@@ -16,7 +16,7 @@ use Rattle.owl_documents.specs.declared.document.Document.{Document}
 use Rattle.owl_documents.specs.declared.document.Document.TheVariants.{Ontology}
 use Rattle.owl_kind.specs.Kinds.{Entity}
 use Rattle.owl_list.specs.Ascending.{IsAscending}
-use Rattle.owl_list.specs.AscendingLaws.{all_in, all_pushed, head_below, in_cases, in_head, in_tail, tail_ascends}
+use Rattle.owl_list.proofs.AscendingLaws.{all_in, all_pushed, head_below, in_cases, in_head, in_tail, tail_ascends}
 use Rattle.owl_tree.specs.Ontologies.{Head}
 use Rattle.rdf_graph.specs.declared.triple.Triple.{Triple}
 use Rattle.rdf_reverse.specs.Reverse.{IsReverseFault, IsUnsaid}

@@ -1,7 +1,7 @@
 -- What a document says that the main one does not reach changes nothing.
 use Rattle.std.proofs.Common.{ℕ, List, subst}
 use Rattle.owl_close.specs.Imports.{Reaches}
-use Rattle.owl_close.specs.UnreachedLaws.{DifferUnreached, first_missing_unreached, none_missing_unreached, reaches_unreached, unreached_back}
+use Rattle.owl_close.proofs.UnreachedLaws.{DifferUnreached, first_missing_unreached, none_missing_unreached, reaches_unreached, unreached_back}
 use Rattle.owl_command.specs.Commands.{Request, compares, shows, translates}
 use Rattle.owl_documents.specs.Documents.{Parsed}
 use Rattle.owl_kind.specs.Kinds.{Entity}

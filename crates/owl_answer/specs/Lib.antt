@@ -7,6 +7,5 @@ pub mod Refusals
 pub mod Summary
 pub mod TurtleOutcome
 pub mod Typing
-pub mod TypingLaws
 pub mod UnderKinds
 pub mod Unreached

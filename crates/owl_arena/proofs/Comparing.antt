@@ -10,7 +10,7 @@ use Rattle.std.proofs.lemmas.Bool.Decides.{nat_tests}
 use Rattle.std.proofs.lemmas.Cmp.{tied_itself}
 use Rattle.owl_tree.specs.Order.{kids_cmp, tag_cmp, tree_cmp}
 use Rattle.owl_tree.specs.OrderLaws.{only_equal_trees_tie, then_nothing, trees_total}
-use Rattle.owl_tree.specs.TreeLaws.{kids_of_list_of}
+use Rattle.owl_tree.proofs.TreeLaws.{kids_of_list_of}
 use Rattle.owl_tree.specs.Trees.{Tree, kids_in, kids_of, leaf, node}
 use Rattle.owl_arena.specs.Differences.{differ_or, first_difference}
 use Rattle.owl_arena.specs.Roots.{roots_cmp}

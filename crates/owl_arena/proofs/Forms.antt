@@ -6,11 +6,11 @@ use Rattle.std.specs.Cmp.Lexicographic.{pointwise}
 use Rattle.owl_tree.specs.OrderLaws.{same_atom, same_tag}
 use Rattle.owl_arena.specs.declared.nodes.Form.{Form}
 use Rattle.owl_arena.specs.declared.nodes.Form.TheVariants as form
-use Rattle.owl_arena.specs.HeldLaws.{below_later, same_kids}
+use Rattle.owl_arena.proofs.HeldLaws.{below_later, same_kids}
 use Rattle.owl_arena.specs.Held.{trees_at}
 use Rattle.owl_arena.specs.Nodes.{AreKidsBelow, IsSameForm, tree_of}
 use Rattle.owl_arena.specs.Shared.{HaveOneNumber}
-use Rattle.owl_tree.specs.TreeLaws.{kids_of_only}
+use Rattle.owl_tree.proofs.TreeLaws.{kids_of_only}
 use Rattle.owl_tree.specs.Trees.{Tree, kids_of}
 use Rattle.owl_arena.specs.contracts.expr_id.ExprIdPartialEq.TheImpl as ids
 use Rattle.owl_arena.specs.contracts.nodes.FormPartialEq.TheImpl as derived

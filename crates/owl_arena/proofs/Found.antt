@@ -10,7 +10,7 @@ use Rattle.owl_arena.specs.Growth.{Lacks}
 use Rattle.owl_arena.specs.Held.{tree_at}
 use Rattle.owl_arena.specs.Nodes.{tree_of, grown, AreKidsBelow, Differs, HasForm, IsMeasured, IsArena, IsSameForm}
 use Rattle.owl_arena.specs.Shared.{AreShared, IsEntry, most_trees}
-use Rattle.owl_arena.specs.HeldLaws.{shared_more}
+use Rattle.owl_arena.proofs.HeldLaws.{shared_more}
 use Rattle.owl_arena.proofs.Forms.{kids_below_later, same_tree, same_tree_form}
 use Rattle.owl_arena.proofs.Grown.{below_at_node, grown_more, length_of_trees, measured_more, order_more, tree_at_node}
 

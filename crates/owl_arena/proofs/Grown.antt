@@ -6,7 +6,7 @@ use Rattle.owl_arena.specs.declared.nodes.Form.{Form}
 use Rattle.owl_arena.specs.declared.nodes.Form.TheVariants as form
 use Rattle.owl_arena.specs.declared.nodes.Node.{Node}
 use Rattle.owl_arena.specs.Held.{tree_at}
-use Rattle.owl_arena.specs.HeldLaws.{AgreeBelow, more_agrees, trees_agree}
+use Rattle.owl_arena.proofs.HeldLaws.{AgreeBelow, more_agrees, trees_agree}
 use Rattle.owl_arena.specs.Nodes.{tree_of, grown, AreKidsBelow, HaveKidsBefore, IsMeasured, AreMeasured, IsArena}
 
 tree_agrees : (n : ℕ) (ts us : List Tree) → AgreeBelow n ts us → (f : Form) → AreKidsBelow n f → tree_of ts f ≡ tree_of us f

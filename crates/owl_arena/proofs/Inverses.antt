@@ -3,10 +3,10 @@ use Rattle.std.proofs.Common.{◌≡◌, ◌↔◌, ◌⊎◌, inl, inr, ◌<◌
 use Rattle.std.specs.Prelude.{nat_eq}
 use Rattle.std.proofs.lemmas.Bool.{and_from, and_parts, eq-eqb, eqb-true, or_cases, or_left, or_right}
 use Rattle.owl_tree.specs.Equivalence.{IsEquivalent}
-use Rattle.owl_tree.specs.EquivalenceLaws.{equivalent_refl, equivalent_sym, equivalent_trans}
+use Rattle.owl_tree.proofs.EquivalenceLaws.{equivalent_refl, equivalent_sym, equivalent_trans}
 use Rattle.owl_tree.specs.Shape.{AreAtMostTwo}
 use Rattle.owl_tree.specs.ShapeTests.{AreLikeEither}
-use Rattle.owl_tree.specs.ShapeTestLaws.{none_at_most_two, some_at_most_two}
+use Rattle.owl_tree.proofs.ShapeTestLaws.{none_at_most_two, some_at_most_two}
 use Rattle.owl_tree.specs.Trees.{Tree}
 use Rattle.owl_arena.specs.Held.{AreHeld, tree_at, trees_at}
 use Rattle.owl_arena.specs.Members.{are_at_most_two, are_either, are_one_other, other_from}

@@ -7,7 +7,7 @@ use Rattle.owl_tree.specs.declared.tag.Tag.{Tag}
 use Rattle.owl_tree.specs.declared.row.AtomSort.{AtomSort}
 use Rattle.owl_tree.specs.Rows.{Row, Leaf, Node, row_of, takes}
 use Rattle.owl_tree.specs.Shape.{IsShaped}
-use Rattle.owl_tree.specs.TreeLaws.{list_of_kids_of}
+use Rattle.owl_tree.proofs.TreeLaws.{list_of_kids_of}
 use Rattle.owl_tree.specs.Trees.{Tree, leaf, depth, kids_in, kids_of, most_depth, sum_weight, tag_of, weight}
 use Rattle.owl_arena.specs.declared.expr_id.ExprId.{ExprId}
 use Rattle.owl_arena.specs.declared.nodes.Form.{Form}

@@ -4,6 +4,7 @@ pub mod Differences
 pub mod Forms
 pub mod Found
 pub mod Grown
+pub mod HeldLaws
 pub mod Inverses
 pub mod Kids
 pub mod Ordering

@@ -12,8 +12,8 @@ use Rattle.std.specs.Option.{option_cmp}
 use Rattle.std.specs.Ordering.{eq_by_cmp, is_eq, nat_cmp, ordering_then}
 use Rattle.std.proofs.lemmas.Cmp.{nat_eq_equiv, nat_cmp_total, on_total, then_total, tied_itself}
 use Rattle.owl_list.specs.Ascending.{ascending, HoldSame}
-use Rattle.owl_list.specs.ArrangedLaws.{sorted_once}
-use Rattle.owl_list.specs.AscendingLaws.{all_ascending, ascending_holds, map_ascending}
+use Rattle.owl_list.proofs.ArrangedLaws.{sorted_once}
+use Rattle.owl_list.proofs.AscendingLaws.{all_ascending, ascending_holds, map_ascending}
 use Rattle.owl_tree.specs.Canonical.{arranged_from}
 use Rattle.owl_tree.specs.Order.{tree_cmp}
 use Rattle.owl_tree.specs.OrderLaws.{only_equal_trees_tie, then_second, trees_total}

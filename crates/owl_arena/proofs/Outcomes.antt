@@ -2,16 +2,16 @@
 use Rattle.std.proofs.Common.{◌≡◌, ◌<◌, ◌≤◌, List, [], ◌∷◌, ℕ, sym, ap, ◌∙◌, subst}
 use Rattle.owl_tree.specs.declared.tag.Tag.{Tag}
 use Rattle.owl_tree.specs.Canonical.{canonical, arranged}
-use Rattle.owl_tree.specs.CanonicalLaws.{canonical_again, canonical_depth, node_of_forms}
+use Rattle.owl_tree.proofs.CanonicalLaws.{canonical_again, canonical_depth, node_of_forms}
 use Rattle.owl_tree.specs.Rows.{row_of, set_start}
 use Rattle.owl_tree.specs.Shape.{AreShaped, FitsRow, IsShaped}
-use Rattle.owl_tree.specs.ShapeLaws.{canonical_shape}
-use Rattle.owl_tree.specs.TreeLaws.{list_of_kids_of}
+use Rattle.owl_tree.proofs.ShapeLaws.{canonical_shape}
+use Rattle.owl_tree.proofs.TreeLaws.{list_of_kids_of}
 use Rattle.owl_tree.specs.Trees.{Tree, depth, kids_of, node, weight}
 use Rattle.owl_arena.specs.Growth.{IsTooDeep, IsTooHeavy, IsWithin}
 use Rattle.owl_arena.specs.Held.{AreHeld, node_over, trees_at}
 use Rattle.owl_arena.specs.Shared.{AreShared, IsEntry, deepest, heaviest}
-use Rattle.owl_arena.specs.HeldLaws.{entry_at, kids_canonical}
+use Rattle.owl_arena.proofs.HeldLaws.{entry_at, kids_canonical}
 
 -- kids that are there are shaped and canonical
 kids_shaped : (ts : List Tree) → AreShared ts → (ids : List ℕ) → AreHeld ts ids → AreShaped (kids_of (trees_at ts ids))

@@ -6,11 +6,11 @@ use Rattle.std.proofs.lemmas.Bool.{eq-eqb, ne_eqb}
 use Rattle.std.proofs.lemmas.List.{drop_all, length-drop, length-map}
 use Rattle.owl_tree.specs.declared.tag.Tag.TheVariants as tag
 use Rattle.owl_tree.specs.Places.{admits_at, admits_from, counts}
-use Rattle.owl_tree.specs.PlacesLaws.{fits_by_place}
+use Rattle.owl_tree.proofs.PlacesLaws.{fits_by_place}
 use Rattle.owl_tree.specs.Rows.{Row, fits}
 use Rattle.owl_tree.specs.Shape.{HasKeyProperty}
 use Rattle.owl_tree.specs.ShapeTests.{IsKeyGroup}
-use Rattle.owl_tree.specs.ShapeTestLaws.{group_told, key_behind}
+use Rattle.owl_tree.proofs.ShapeTestLaws.{group_told, key_behind}
 use Rattle.owl_tree.specs.Trees.{Tree, kids_in, tag_of}
 use Rattle.owl_arena.specs.Held.{tree_at, trees_at}
 use Rattle.owl_arena.specs.Members.{are_either, are_one_other, other_from, tags_at}

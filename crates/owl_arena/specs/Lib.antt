@@ -4,7 +4,6 @@ pub mod Growth
 pub mod Nodes
 pub mod Mixes
 pub mod Chains
-pub mod HeldLaws
 pub mod Roots
 pub mod InOrder
 pub mod Members

@@ -275,7 +275,7 @@ impl Arena {
     }
 
     /// How many trees there are, no two of which are equivalent.
-    #[tactic(auto, using(crate::proofs::Grown::length_of_trees, crate::specs::HeldLaws::tells_equivalence))]
+    #[tactic(auto, using(crate::proofs::Grown::length_of_trees, crate::proofs::HeldLaws::tells_equivalence))]
     pub fn distinct(&self) -> usize
         ensures trees { result ≡ length self.now.trees }
         ensures shared { AreShared self.now.trees }
@@ -294,7 +294,7 @@ impl Arena {
     }
 
     /// The node of a number.
-    #[tactic(auto, using(crate::proofs::Grown::length_of_trees, crate::proofs::Grown::tree_at_node, crate::proofs::Grown::below_at_node, crate::proofs::Grown::measured_at_node, crate::specs::HeldLaws::entry_at))]
+    #[tactic(auto, using(crate::proofs::Grown::length_of_trees, crate::proofs::Grown::tree_at_node, crate::proofs::Grown::below_at_node, crate::proofs::Grown::measured_at_node, crate::proofs::HeldLaws::entry_at))]
     fn node_at(&self, id: ExprId) -> &Node
         requires { id < length self.now.trees }
         ensures tree { tree_of self.now.trees result.now.form ≡ tree_at self.now.trees id }

@@ -17,10 +17,10 @@ use Rattle.owl_doc.specs.declared.head.Head as held
 use Rattle.owl_doc.specs.Documents.{Document, IsAnnotationAt, IsAxiomAt, IsBegun, IsDocument, PassesWeight, nothing_yet, ontology_of, weight_at, with_axiom, with_name, with_note}
 use Rattle.owl_doc.specs.Heads.{name_of}
 use Rattle.owl_list.specs.Ascending.{AreApart, HoldSame}
-use Rattle.owl_list.specs.AscendingLaws.{all_in, ascending_same, in_cases, in_map, in_none, same_map}
+use Rattle.owl_list.proofs.AscendingLaws.{all_in, ascending_same, in_cases, in_map, in_none, same_map}
 use Rattle.owl_tree.specs.Canonical.{canonical}
 use Rattle.owl_tree.specs.Ontologies.{Ontology, canonical_list, canonical_ontology, list_weight, ontology_weight}
-use Rattle.owl_tree.specs.OntologyLaws.{canonical_same_ontology, same_ontology_weight}
+use Rattle.owl_tree.proofs.OntologyLaws.{canonical_same_ontology, same_ontology_weight}
 use Rattle.owl_tree.specs.Order.{tree_cmp}
 use Rattle.owl_tree.specs.OrderLaws.{only_equal_trees_tie, trees_total}
 use Rattle.owl_tree.specs.declared.tag.Tag.TheVariants as tag

@@ -4,11 +4,11 @@ use Rattle.std.specs.List.{sum_by}
 use Rattle.std.proofs.lemmas.List.Sums.{sum_by-append, sum_by-cons}
 use Rattle.std.proofs.lemmas.List.Elements.{Contains-append_cases, Contains-append_left, Contains-append_right}
 use Rattle.owl_arena.specs.Held.{AreHeld, tree_at, trees_at}
-use Rattle.owl_arena.specs.HeldLaws.{kids_canonical}
+use Rattle.owl_arena.proofs.HeldLaws.{kids_canonical}
 use Rattle.owl_arena.specs.Shared.{AreShared}
 use Rattle.owl_doc.specs.Documents.{weight_at}
 use Rattle.owl_list.specs.Ascending.{AreApart}
-use Rattle.owl_list.specs.AscendingLaws.{all_from, all_in, ascending_holds, from_map, in_cases, in_head, in_map, in_none, in_tail}
+use Rattle.owl_list.proofs.AscendingLaws.{all_from, all_in, ascending_holds, from_map, in_cases, in_head, in_map, in_none, in_tail}
 use Rattle.owl_tree.specs.Canonical.{canonical}
 use Rattle.owl_tree.specs.Ontologies.{canonical_list, list_weight}
 use Rattle.owl_tree.specs.Order.{tree_cmp}

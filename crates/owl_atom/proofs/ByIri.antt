@@ -12,11 +12,11 @@ use Rattle.std.proofs.lemmas.Cmp.{nat_cmp_total, on_total, then_total}
 use Rattle.std.proofs.lemmas.List.Elements.{Contains-append_left, Contains-push, Contains-push_cases}
 use Rattle.std.proofs.lemmas.Option.{get_or_from_slice_get, same_Some, slice_get_within}
 use Rattle.std.proofs.lemmas.Str.{IsCharBoundary-at_seam, IsUtf8-take, encodes-append, encodes-chars}
-use Rattle.owl_characters.specs.Utf8Laws.{scalars_behind}
+use Rattle.owl_characters.proofs.Utf8Laws.{scalars_behind}
 use Rattle.std.proofs.lemmas.List.{append_cancel_left}
 use Rattle.std.proofs.lemmas.List.Sorted.{Contains-permutation}
 use Rattle.owl_list.specs.Ascending.{ascending}
-use Rattle.owl_list.specs.AscendingLaws.{ascending_ascends, ascending_holds, in_map, in_none}
+use Rattle.owl_list.proofs.AscendingLaws.{ascending_ascends, ascending_holds, in_map, in_none}
 use Rattle.owl_characters.specs.Order.{text_cmp}
 use Rattle.owl_characters.specs.OrderLaws.{same_texts, texts_total}
 use Rattle.owl_atom.specs.declared.by_iri.ByIri.{ByIri}

@@ -10,8 +10,8 @@ use Rattle.std.proofs.lemmas.Str.{encodes-chars}
 use Rattle.owl_characters.specs.Iri.{is_ascii}
 use Rattle.owl_characters.specs.Order.{text_eq}
 use Rattle.owl_characters.specs.OrderLaws.{unequal}
-use Rattle.owl_characters.specs.AsciiLaws.{ascii_chars, ascii_bytes}
-use Rattle.owl_characters.specs.NameLaws.{written_name}
+use Rattle.owl_characters.proofs.AsciiLaws.{ascii_chars, ascii_bytes}
+use Rattle.owl_characters.proofs.NameLaws.{written_name}
 use Rattle.owl_atom.specs.Prefixes.{AreAscending, IsTable, iri_of, fixed, fixed_prefixes}
 use Rattle.rdf_terms.specs.Vocabulary.{owl, rdf, rdfs, xsd}
 use Rattle.owl_atom.specs.declared.prefixes.Prefix.{Prefix}

@@ -5,8 +5,8 @@ use Rattle.std.proofs.lemmas.Bool.{true≢false}
 use Rattle.std.proofs.lemmas.Bool.Decides.{leb_tells, nat_tests}
 use Rattle.std.proofs.lemmas.List.{drop-drop, get_or-drop}
 use Rattle.std.proofs.lemmas.Str.{encodes-chars}
-use Rattle.owl_characters.specs.AllAreLaws.{AllAre-weaker, all_are}
-use Rattle.owl_characters.specs.AsciiLaws.{ascii_bytes, ascii_chars}
+use Rattle.owl_characters.proofs.AllAreLaws.{AllAre-weaker, all_are}
+use Rattle.owl_characters.proofs.AsciiLaws.{ascii_bytes, ascii_chars}
 use Rattle.std.specs.Str.{IsUtf8, chars, encode_utf8_all}
 use Rattle.std.specs.Str.Pattern.{LacksTextAt}
 use Rattle.std.proofs.lemmas.List.{append_cancel_left}

@@ -1,2 +1,11 @@
+pub mod AllAreLaws
+pub mod AsciiLaws
 pub mod Characters
+pub mod CutLaws
+pub mod IriLaws
+pub mod LanguageTagLaws
+pub mod NameCharacterLaws
+pub mod NameLaws
+pub mod ResultLaws
 pub mod Utf8Bytes
+pub mod Utf8Laws

@@ -6,12 +6,3 @@ pub mod Utf8
 pub mod Limit
 pub mod Feeding
 pub mod OrderLaws
-pub mod Utf8Laws
-pub mod AllAreLaws
-pub mod AsciiLaws
-pub mod CutLaws
-pub mod IriLaws
-pub mod NameLaws
-pub mod LanguageTagLaws
-pub mod NameCharacterLaws
-pub mod ResultLaws

@@ -9,9 +9,9 @@ use Rattle.std.proofs.lemmas.List.Elements.{Contains-append_left, Contains-push,
 use Rattle.std.proofs.lemmas.Map.Keys.{IsDistinct-push}
 use Rattle.std.proofs.lemmas.Map.Views.{Contains-from_any}
 use Rattle.owl_close.specs.Imports.{Names, NamesNone}
-use Rattle.owl_close.specs.ImportsLaws.{named_once}
+use Rattle.owl_close.proofs.ImportsLaws.{named_once}
 use Rattle.owl_close.specs.Searches.{AddsImported, IsImported, with_place}
-use Rattle.owl_list.specs.AscendingLaws.{all_later, all_pushed}
+use Rattle.owl_list.proofs.AscendingLaws.{all_later, all_pushed}
 use Rattle.owl_tree.specs.Ontologies.{Head}
 
 -- one turn of a loop over a list

@@ -1,6 +1,8 @@
 pub mod Adding
+pub mod ImportsLaws
 pub mod Lacking
 pub mod Places
 pub mod Reaching
 pub mod Refusing
+pub mod UnreachedLaws
 pub mod WorkedCases

@@ -16,7 +16,7 @@ use Rattle.owl_doc.specs.Heads.{head_of}
 use Rattle.owl_doc.specs.declared.head.Head as held
 use Rattle.owl_close.proofs.Adding.{one_further}
 use Rattle.owl_list.specs.Ascending.{ascending}
-use Rattle.owl_list.specs.AscendingLaws.{all_from, all_in, all_later, all_pushed, ascending_ascends, ascending_holds, in_head}
+use Rattle.owl_list.proofs.AscendingLaws.{all_from, all_in, all_later, all_pushed, ascending_ascends, ascending_holds, in_head}
 use Rattle.owl_tree.specs.Ontologies.{Head}
 
 some_within : (hs : List Head) (place : ℕ) (P : Head → Type 0) → IsSomeAnd (slice_get hs place) P → place < length hs

@@ -5,7 +5,7 @@ use Rattle.std.specs.List.{AllByRecursion}
 use Rattle.std.proofs.lemmas.Bool.{cases_order}
 use Rattle.std.proofs.lemmas.List.{get_or-take, get_or_default, length-map, length-take-le}
 use Rattle.std.proofs.lemmas.Map.Keys.{below_from_sorted}
-use Rattle.owl_list.specs.AscendingLaws.{all_in}
+use Rattle.owl_list.proofs.AscendingLaws.{all_in}
 use Rattle.owl_doc.specs.Heads.{head_of}
 use Rattle.owl_doc.specs.declared.head.Head as held
 use Rattle.owl_close.specs.Imports.{AreReached, IsFirstMissing, IsMissing, MissesNone, heads_of}

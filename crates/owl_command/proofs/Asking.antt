@@ -5,7 +5,7 @@ use Rattle.std.specs.Str.{encode_utf8_all}
 use Rattle.std.proofs.Math.Seq.{take-length}
 use Rattle.std.proofs.lemmas.List.{map-append}
 use Rattle.owl_command.specs.Commands.{AreNames, IsAmong, Asks, HasNoCommand, IsName, compares, flag_words, shows, translates, translation_words}
-use Rattle.owl_command.specs.CommandsLaws.{flag_is_no_name, show_is_not_same, target_once, verb}
+use Rattle.owl_command.proofs.CommandsLaws.{flag_is_no_name, show_is_not_same, target_once, verb}
 use Rattle.owl_command.specs.WordParts.{AreTwoNames, IsStripped, NameNone, NameWith}
 use Rattle.owl_command.specs.declared.command.Target.{Target}
 

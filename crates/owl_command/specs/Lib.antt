@@ -1,4 +1,3 @@
 pub mod Commands
-pub mod CommandsLaws
 pub mod Status
 pub mod WordParts

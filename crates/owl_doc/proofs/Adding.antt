@@ -3,7 +3,7 @@ use Rattle.std.proofs.Common.{◌≡◌, ◌↔◌, ◌<◌, ◌≤◌, ◌+◌,
 use Rattle.std.specs.List.{AllByRecursion, sum_by}
 use Rattle.std.proofs.lemmas.List.{map-append}
 use Rattle.std.proofs.lemmas.List.Sums.{sum_by_push}
-use Rattle.owl_list.specs.AscendingLaws.{all_pushed}
+use Rattle.owl_list.proofs.AscendingLaws.{all_pushed}
 use Rattle.owl_tree.specs.Ontologies.{IsAnnotation, IsAxiom}
 use Rattle.owl_tree.specs.Trees.{Tree, weight}
 use Rattle.owl_doc.specs.declared.builder.Builder.TheInside.{Inside}

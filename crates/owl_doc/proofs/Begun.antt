@@ -8,7 +8,7 @@ use Rattle.owl_arena.specs.declared.grow.Grow.{Grow}
 use Rattle.owl_doc.specs.Documents.{Document, IsBegun, total_weight, with_arena}
 use Rattle.owl_arena.specs.Growth.{Adds}
 use Rattle.owl_arena.specs.Held.{AreHeld, Held, trees_at}
-use Rattle.owl_arena.specs.HeldLaws.{held_more, kids_stay}
+use Rattle.owl_arena.proofs.HeldLaws.{held_more, kids_stay}
 use Rattle.owl_doc.specs.Kept.{IsKeptBegun, begun_of}
 use Rattle.owl_arena.specs.Shared.{heaviest}
 

@@ -9,7 +9,7 @@ use Rattle.owl_kind.specs.declared.kind.Kind.{Kind}
 use Rattle.owl_kind.specs.Kinds.{Entity, IsDeclared}
 use Rattle.owl_doc.specs.Entities.{AddsAll, AddsSome, declaration, declarations, declared_kind, declared_over, entity_of, kind_of}
 use Rattle.owl_arena.specs.Held.{tree_at, trees_at}
-use Rattle.owl_list.specs.AscendingLaws.{in_cases, in_head, in_none}
+use Rattle.owl_list.proofs.AscendingLaws.{in_cases, in_head, in_none}
 use Rattle.owl_tree.specs.declared.atom.Atom.{Atom}
 use Rattle.owl_tree.specs.declared.tag.Tag.{Tag}
 use Rattle.owl_tree.specs.declared.tag.Tag.TheVariants as tag

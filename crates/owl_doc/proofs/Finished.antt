@@ -5,16 +5,16 @@ use Rattle.std.specs.declared.cmp.Ordering.TheVariants.{Less, Equal, Greater}
 use Rattle.std.specs.List.{sum_by}
 use Rattle.std.proofs.lemmas.List.Sums.{sum_by-cons}
 use Rattle.owl_list.specs.Ascending.{AreApart, ascending, by_order, put}
-use Rattle.owl_list.specs.AscendingLaws.{all_in, ascending_holds, from_map, in_head, in_tail}
+use Rattle.owl_list.proofs.AscendingLaws.{all_in, ascending_holds, from_map, in_head, in_tail}
 use Rattle.owl_characters.specs.Order.{text_cmp}
 use Rattle.owl_tree.specs.Ontologies.{IsOntology, Ontology, canonical_list, canonical_ontology, list_weight, ontology_weight}
-use Rattle.owl_tree.specs.OntologyLaws.{canonical_is_ontology, canonical_list_again, canonical_ontology_again}
+use Rattle.owl_tree.proofs.OntologyLaws.{canonical_is_ontology, canonical_list_again, canonical_ontology_again}
 use Rattle.owl_tree.specs.Order.{tree_cmp}
 use Rattle.owl_tree.specs.OrderLaws.{only_equal_trees_tie, trees_total}
 use Rattle.owl_tree.specs.Trees.{Tree, weight}
 use Rattle.owl_doc.specs.Documents.{Document, IsBegun, IsDocument, ontology_of, total_weight, weight_at}
 use Rattle.owl_arena.specs.Held.{AreHeld, tree_at, trees_at}
-use Rattle.owl_arena.specs.HeldLaws.{kids_canonical}
+use Rattle.owl_arena.proofs.HeldLaws.{kids_canonical}
 use Rattle.owl_arena.specs.Shared.{AreShared, HaveOneNumber, heaviest}
 
 -- an element that is not there is added to the sum where it is put

@@ -11,9 +11,9 @@ use Rattle.owl_arena.specs.Held.{tree_at, trees_at}
 use Rattle.owl_kind.specs.declared.kind.Kind.{Kind}
 use Rattle.owl_kind.specs.Kinds.{Entity, HasKind}
 use Rattle.owl_doc.specs.Entities.{AreWellTyped, FindsUndeclared, IsFirstUndeclared, entities, entities_at, entities_of, entity_seen}
-use Rattle.owl_list.specs.AscendingLaws.{all_in, in_head}
+use Rattle.owl_list.proofs.AscendingLaws.{all_in, in_head}
 use Rattle.owl_tree.specs.declared.atom.Atom.{Atom}
-use Rattle.owl_tree.specs.TreeLaws.{kids_of_list_of}
+use Rattle.owl_tree.proofs.TreeLaws.{kids_of_list_of}
 use Rattle.owl_tree.specs.Trees.{Tree, leaf, node, atom_in, kids_in, kids_of, tag_of}
 
 pub leaf_is : (t : Tree) (a : Atom) → Some a ≡ atom_in t → leaf (tag_of t) a ≡ t

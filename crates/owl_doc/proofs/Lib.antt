@@ -2,6 +2,7 @@ pub mod Adding
 pub mod Begun
 pub mod Collections
 pub mod Declaring
+pub mod EntityLaws
 pub mod Finished
 pub mod FirstUndeclared
 pub mod MarkedTrees

@@ -12,11 +12,11 @@ use Rattle.owl_doc.specs.Marks.{AddsParts, HasMark, IsClosedFrom, IsMarked, Mark
 use Rattle.owl_arena.specs.Shared.{HaveOneNumber}
 use Rattle.owl_doc.proofs.Marking.{kids_are_parts}
 use Rattle.owl_list.specs.Ascending.{AreApart, HoldSame, ascending}
-use Rattle.owl_list.specs.AscendingLaws.{apart_as_long, all_from, all_in, all_map, in_cases, in_head, in_map, in_none, in_tail}
+use Rattle.owl_list.proofs.AscendingLaws.{apart_as_long, all_from, all_in, all_map, in_cases, in_head, in_map, in_none, in_tail}
 use Rattle.owl_tree.specs.Ontologies.{Ontology, canonical_list}
 use Rattle.owl_tree.specs.Order.{tree_cmp}
 use Rattle.owl_tree.specs.OrderLaws.{only_equal_trees_tie, trees_total}
-use Rattle.owl_tree.specs.TreeLaws.{list_of_kids_of}
+use Rattle.owl_tree.proofs.TreeLaws.{list_of_kids_of}
 use Rattle.owl_tree.specs.Trees.{Tree, Kids, leaf, node, no_kids, kid, kids_in, kids_of, list_of}
 
 -- the trees at whose places the marks are set

@@ -7,7 +7,7 @@ use Rattle.std.proofs.lemmas.List.Elements.{Contains-append_cases, Contains-appe
 use Rattle.owl_doc.specs.Counts.{subtrees, subtrees_of}
 use Rattle.owl_arena.specs.Held.{tree_at, trees_at}
 use Rattle.owl_doc.specs.Marks.{AddsParts, HasMark, IsClosedFrom, IsMarked}
-use Rattle.owl_list.specs.AscendingLaws.{all_from, all_in, all_later, all_map, in_cases, in_head, in_map, in_none, in_tail}
+use Rattle.owl_list.proofs.AscendingLaws.{all_from, all_in, all_later, all_map, in_cases, in_head, in_map, in_none, in_tail}
 use Rattle.owl_tree.specs.Trees.{Tree, Kids, leaf, node, no_kids, kid, kids_in, kids_of, list_of}
 
 pub set_marks : (marks : List Bool) (id place : ℕ) → id < length marks → IsMarked (slice_set marks id true) place ↔ (IsMarked marks place ⊎ (id ≡ place))

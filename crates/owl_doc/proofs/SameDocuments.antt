@@ -4,7 +4,7 @@ use Rattle.std.specs.Prelude.{◌↔◌, IsTrue}
 use Rattle.owl_doc.specs.Documents.{Document, IsDocument, ontology_of}
 use Rattle.owl_arena.specs.Held.{Held, trees_at}
 use Rattle.owl_tree.specs.Ontologies.{Head, IsSameOntology, Ontology}
-use Rattle.owl_tree.specs.OntologyLaws.{same_ontology_is_equal_form}
+use Rattle.owl_tree.proofs.OntologyLaws.{same_ontology_is_equal_form}
 
 -- documents say the same exactly where these parts are equal
 pub record HaveSameParts (d e : Document) : Type 0 where

@@ -7,7 +7,7 @@ use Rattle.std.specs.Option.{option_eq, option_map}
 use Rattle.std.proofs.lemmas.List.{get_or-map}
 use Rattle.owl_doc.specs.Roots.{HaveSameRoot}
 use Rattle.owl_tree.specs.Trees.{Tree, leaf, node, tag_of, atom_in, kids_in, kids_of}
-use Rattle.owl_tree.specs.TreeLaws.{kids_of_list_of}
+use Rattle.owl_tree.proofs.TreeLaws.{kids_of_list_of}
 
 -- the least number above all of the list
 abbrev pub above : List ℕ → ℕ

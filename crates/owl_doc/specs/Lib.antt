@@ -4,7 +4,6 @@ pub mod Documents
 pub mod Closures
 pub mod Counts
 pub mod Entities
-pub mod EntityLaws
 pub mod Rules
 pub mod Collections
 pub mod Kept

@@ -13,8 +13,8 @@ use Rattle.owl_list.specs.Ascending.{HoldSame}
 use Rattle.owl_tree.specs.Ontologies.{Head, IsSameHead}
 use Rattle.rdf_graph.specs.declared.term.Term.{Term}
 use Rattle.rdf_graph.specs.declared.triple.Triple.{Triple}
-use Rattle.rdf_meaning.specs.ListLaws.{same_only}
-use Rattle.rdf_meaning.specs.StatementLaws.{one_head}
+use Rattle.rdf_meaning.proofs.ListLaws.{same_only}
+use Rattle.rdf_meaning.proofs.StatementLaws.{one_head}
 use Rattle.rdf_meaning.specs.Statements.{IsHeadOf, headers}
 use Rattle.rdf_scans.specs.Outlines.{IsOutlineFault}
 use Rattle.rdf_scans.specs.declared.fault.OutlineFault.{OutlineFault}

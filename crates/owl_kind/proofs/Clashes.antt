@@ -18,8 +18,8 @@ use Rattle.owl_kind.specs.declared.kind.Kind.TheVariants.{Class, Datatype, Objec
 use Rattle.owl_kind.specs.Kinds.{HasBoth, HasClash, IsFirstClash, SharesKinds}
 use Rattle.owl_kind.specs.Marks.{Entry, HasMark, IsTable, clashes, clashing, declared_by, is_of, is_of_both, least_that_clashes, lesser, marks_at}
 use Rattle.owl_kind.proofs.Declarations.{declared_at, declared_of_marks, has_kind, marked_entry, marks_of_entry}
-use Rattle.owl_list.specs.AscendingLaws.{all_in, from_map, in_cases, in_head, in_map, in_none, in_tail}
-use Rattle.owl_list.specs.FilterLaws.{IsKept, from_filter, in_filter}
+use Rattle.owl_list.proofs.AscendingLaws.{all_in, from_map, in_cases, in_head, in_map, in_none, in_tail}
+use Rattle.owl_list.proofs.FilterLaws.{IsKept, from_filter, in_filter}
 
 has_both : (es : List Entry) → IsTable es → (iri : List ℕ) (a b : Kind) → (is_of_both (iri, marks_at es iri) a b ≡ true) ↔ HasBoth (declared_by es) a b iri
 has_both es t iri a b =

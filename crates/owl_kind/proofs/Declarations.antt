@@ -15,8 +15,8 @@ use Rattle.owl_kind.specs.declared.marks.Marks.{Marks}
 use Rattle.owl_kind.specs.Kinds.{Entity, HasKind, IsDeclared, is_built_in}
 use Rattle.owl_kind.specs.Marks.{Entry, HasMark, IsTable, all_kinds, declared_as, declared_by, entities_of, is_marked, is_of, marked, marks_at, no_marks}
 use Rattle.owl_kind.specs.Order.{entity_cmp}
-use Rattle.owl_kind.specs.OrderLaws.{entities_total, only_equal_entities_tie}
-use Rattle.owl_list.specs.AscendingLaws.{ascending_holds, in_head, in_none}
+use Rattle.owl_kind.proofs.OrderLaws.{entities_total, only_equal_entities_tie}
+use Rattle.owl_list.proofs.AscendingLaws.{ascending_holds, in_head, in_none}
 use Rattle.owl_kind.proofs.Found.{from_joined, joined_from, only}
 
 -- equal texts are one

@@ -1,4 +1,5 @@
-pub mod Found
-pub mod Declarations
-pub mod Clashes
 mod Ordered
+pub mod Clashes
+pub mod Declarations
+pub mod Found
+pub mod OrderLaws

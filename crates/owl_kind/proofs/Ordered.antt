@@ -6,9 +6,9 @@ use Rattle.std.proofs.Common.{refl, ap, ◌∙◌, subst}
 use Rattle.owl_kind.specs.Kinds.{IsDeclared}
 use Rattle.owl_kind.specs.Marks.{Entry, HasMark, IsTable, declared_by, entities_of}
 use Rattle.owl_kind.specs.Order.{AreOrdered, entity_cmp}
-use Rattle.owl_kind.specs.OrderLaws.{entities_total}
+use Rattle.owl_kind.proofs.OrderLaws.{entities_total}
 use Rattle.owl_kind.proofs.Declarations.{declared_of_marks}
-use Rattle.owl_list.specs.AscendingLaws.{ascending_ascends, in_head, in_none}
+use Rattle.owl_list.proofs.AscendingLaws.{ascending_ascends, in_head, in_none}
 
 pub declared_in_order : (es : List Entry) → AreOrdered (declared_by es)
 declared_in_order es = ascending_ascends entity_cmp entities_total (entities_of es)

@@ -1,4 +1,3 @@
 pub mod Kinds
 pub mod Marks
 pub mod Order
-pub mod OrderLaws

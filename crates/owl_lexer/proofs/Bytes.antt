@@ -9,22 +9,20 @@ use Rattle.std.proofs.lemmas.Str.{encode_ascii, length-encode}
 use lib.Utf8.{low_scalar}
 use Rattle.owl_characters.specs.Feeding.{BeginsNone, Feeding, IsUnfinished, Steps}
 use Rattle.owl_characters.specs.declared.utf8_step.Utf8Step.TheVariants.{Char}
-use Rattle.owl_characters.specs.Utf8.{is_mark, mark_size}
-use Rattle.owl_characters.specs.Utf8.{BeginsNoCharacter, Decodes, size}
+use Rattle.owl_characters.specs.Utf8.{is_mark, mark_size, BeginsNoCharacter, Decodes, size}
 use Rattle.owl_lexer.specs.declared.fault.LexFault.{LexFault}
 use Rattle.owl_lexer.specs.declared.fault.LexFault.TheVariants.{BadUtf8}
 use Rattle.owl_lexer.specs.Automata.{Automaton, Spells}
 use Rattle.owl_lexer.specs.BytesGiving.{BegunBytes, ContinuesBytes, CutsBehindMark, EndsBytesAt, GivesBytes, GivesSomeBytes}
-use Rattle.owl_lexer.specs.BytesLaws.{decodes_first, decodes_none}
+use Rattle.owl_lexer.proofs.BytesLaws.{decodes_first, decodes_none}
 use Rattle.owl_lexer.specs.Cutting.{Cuts, Lexeme, Stops}
-use Rattle.owl_lexer.specs.DecodingLaws.{decode}
+use Rattle.owl_lexer.proofs.DecodingLaws.{decode}
 use Rattle.owl_lexer.specs.Giving.{Begun, Continues, EndsAt, Gives, GivesSome, end_of}
-use Rattle.owl_characters.specs.Utf8Laws.{size_append}
-use Rattle.owl_lexer.specs.GivingLaws.{gives_held}
+use Rattle.owl_characters.proofs.Utf8Laws.{size_append}
+use Rattle.owl_lexer.proofs.GivingLaws.{gives_held}
 use Rattle.owl_lexer.specs.Hands.{IsFrontOf, Finishes, FinishesBadly, IsReady, Refuses, Takes, begun_of}
 use Rattle.owl_lexer.specs.Lexing.{KeepsEnd}
-use Rattle.owl_lexer.specs.LexingLaws.{bytes_of}
-use Rattle.owl_lexer.specs.Sources.{IsOpen, TurnsBack, RefusesBytes, TakesBytes, begun_in, bytes_in}
+use Rattle.owl_lexer.specs.Sources.{bytes_of, IsOpen, TurnsBack, RefusesBytes, TakesBytes, begun_in, bytes_in}
 use Rattle.owl_lexer.specs.declared.hand.Front.{Front}
 use Rattle.owl_lexer.specs.declared.hand.Hand.{Hand}
 use Rattle.owl_lexer.specs.declared.placed.Placed.{Placed}

@@ -3,13 +3,12 @@ use Rattle.std.proofs.Common.{◌≡◌, ℕ, suc, ◌+◌, ◌<◌, Option, Lis
 use Rattle.std.proofs.lemmas.List.{append-nil, length-append}
 use Rattle.std.proofs.Math.Seq.{take-suc}
 use Rattle.owl_lexer.specs.declared.fault.LexFault.{LexFault}
-use Rattle.owl_lexer.specs.AddingLaws.{added_both}
+use Rattle.owl_lexer.proofs.AddingLaws.{added_both}
 use Rattle.owl_lexer.specs.Automata.{Automaton}
 use Rattle.owl_lexer.specs.BytesGiving.{BegunBytes, EndsBytesAt, GivesSomeBytes}
-use Rattle.owl_lexer.specs.BytesLaws.{ends_behind_bytes, gives_both_bytes, some_behind_bytes}
+use Rattle.owl_lexer.proofs.BytesLaws.{ends_behind_bytes, gives_both_bytes, some_behind_bytes}
 use Rattle.owl_lexer.specs.Lexing.{EndWith}
-use Rattle.owl_lexer.specs.LexingLaws.{bytes_of}
-use Rattle.owl_lexer.specs.Sources.{Moves, RefusesBytes, TakesBytes, begun_in}
+use Rattle.owl_lexer.specs.Sources.{bytes_of, Moves, RefusesBytes, TakesBytes, begun_in}
 use Rattle.owl_lexer.specs.declared.placed.Placed.{Placed}
 use Rattle.owl_lexer.specs.declared.source.Source.{Source}
 use Rattle.owl_lexer.proofs.Ends.{keeps_both}

@@ -4,20 +4,20 @@ use Rattle.std.proofs.lemmas.List.{append_assoc, append-nil, length-append, leng
 use Rattle.std.specs.List.{All}
 use Rattle.std.specs.Prelude.{Result, Ok, Err, OnOk}
 use Rattle.owl_characters.specs.Utf8.{size}
-use Rattle.owl_characters.specs.Utf8Laws.{size_append}
+use Rattle.owl_characters.proofs.Utf8Laws.{size_append}
 use Rattle.owl_lexer.specs.declared.fault.LexFault.{LexFault}
 use Rattle.owl_lexer.specs.declared.fault.LexFault.TheVariants.{BadToken, Memory}
 use Rattle.owl_lexer.specs.Adding.{placed_at, tokens_of}
-use Rattle.owl_lexer.specs.AddingLaws.{added_both}
+use Rattle.owl_lexer.proofs.AddingLaws.{added_both}
 use Rattle.owl_lexer.specs.Retaking.{AddsCut, CutsFront, HoldsAgain, IsLostRun, MayFollow, RefusesAgain, Settles, begun_with, coming}
 use Rattle.owl_lexer.specs.Automata.{Automaton, Spells}
 use Rattle.owl_lexer.specs.Cutting.{BeginsNone, Cuts, Lexeme, Stops}
 use Rattle.owl_lexer.specs.Giving.{Begun, Continues}
-use Rattle.owl_lexer.specs.GivingLaws.{comes_before, front_of}
+use Rattle.owl_lexer.proofs.GivingLaws.{comes_before, front_of}
 use Rattle.owl_lexer.specs.Hands.{Finishes, FinishesBadly, IsFrontOf, IsReady, begun_of}
 use Rattle.owl_lexer.specs.Holding.{IsLost}
-use Rattle.owl_lexer.specs.HoldingLaws.{none_first}
-use Rattle.owl_lexer.specs.TotalLaws.{cut}
+use Rattle.owl_lexer.proofs.HoldingLaws.{none_first}
+use Rattle.owl_lexer.proofs.TotalLaws.{cut}
 use Rattle.owl_lexer.specs.declared.again.Again.{Again}
 use Rattle.owl_lexer.specs.declared.hand.Front.{Front}
 use Rattle.owl_lexer.specs.declared.hand.Hand.{Hand}

@@ -7,7 +7,7 @@ use Rattle.std.proofs.lemmas.Str.{encodes-append}
 use Rattle.owl_lexer.specs.BytesGiving.{BegunBytes}
 use Rattle.owl_lexer.specs.Hands.{EndsIn}
 use Rattle.owl_lexer.specs.Lexing.{Begun, EndWith, KeepsEnd}
-use Rattle.owl_lexer.specs.LexingLaws.{bytes_of}
+use Rattle.owl_lexer.specs.Sources.{bytes_of}
 
 -- ---- characters
 

@@ -5,14 +5,14 @@ use Rattle.std.proofs.lemmas.List.{append_assoc, append-nil, drop_all, length-ap
 use Rattle.std.proofs.Math.Seq.{drop-cons}
 use Rattle.std.proofs.lemmas.Str.{len_utf8_bounds}
 use Rattle.owl_characters.specs.Utf8.{size}
-use Rattle.owl_characters.specs.Utf8Laws.{size_append}
+use Rattle.owl_characters.proofs.Utf8Laws.{size_append}
 use Rattle.owl_lexer.specs.declared.fault.LexFault.{LexFault}
 use Rattle.owl_lexer.specs.declared.fault.LexFault.TheVariants.{BadToken, Memory}
 use Rattle.owl_lexer.specs.Adding.{placed_at, tokens_of}
 use Rattle.owl_lexer.specs.Automata.{Automaton}
 use Rattle.owl_lexer.specs.Cutting.{Lexeme}
 use Rattle.owl_lexer.specs.Giving.{Begun, EndsAt, Gives, GivesSome}
-use Rattle.owl_lexer.specs.GivingLaws.{behind_front, ends_front, ends_here, ends_some, front_of, gives_front, gives_held, some_front, some_none}
+use Rattle.owl_lexer.proofs.GivingLaws.{behind_front, ends_front, ends_here, ends_some, front_of, gives_front, gives_held, some_front, some_none}
 use Rattle.owl_lexer.specs.Hands.{IsFrontOf, IsReady, Refuses, Takes, begun_of}
 use Rattle.owl_lexer.specs.declared.hand.Front.{Front}
 use Rattle.owl_lexer.specs.declared.hand.Hand.{Hand}

@@ -8,11 +8,11 @@ use Rattle.std.specs.Str.{IsAscii, all_scalars, encode_utf8_all}
 use Rattle.std.proofs.lemmas.Bool.{and_from, and_parts}
 use Rattle.std.proofs.lemmas.Str.{encodes-IsAscii}
 use Rattle.owl_characters.specs.Utf8.{size}
-use Rattle.owl_characters.specs.Utf8Laws.{size_append, size_is}
+use Rattle.owl_characters.proofs.Utf8Laws.{size_append, size_is}
 use Rattle.owl_lexer.specs.Automata.{Automaton, kind_at}
 use Rattle.owl_lexer.specs.Hands.{AreRun, IsFrontOf, IsReady}
 use Rattle.owl_lexer.specs.Holding.{IsFront, LeadsTo}
-use Rattle.owl_lexer.specs.HoldingLaws.{front_all, front_more, leads_on, none_more}
+use Rattle.owl_lexer.proofs.HoldingLaws.{front_all, front_more, leads_on, none_more}
 use Rattle.owl_lexer.specs.Languages.{IsLanguage, IsLexemeWith}
 use Rattle.owl_lexer.specs.Languages.IsLexemeWith.{token, space, comment}
 use Rattle.owl_lexer.specs.declared.hand.Front.{Front}

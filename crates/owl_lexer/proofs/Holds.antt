@@ -6,21 +6,21 @@ use Rattle.std.specs.Str.{all_scalars, encode_utf8_all}
 use Rattle.std.proofs.lemmas.Bool.{both_ways, not-true}
 use Rattle.std.proofs.lemmas.List.{append_assoc, length-append, take-append-drop}
 use Rattle.std.proofs.lemmas.Str.{encode_same, len_utf8_bounds, length-encode}
-use Rattle.owl_characters.specs.CutLaws.{overhang_or_within}
+use Rattle.owl_characters.proofs.CutLaws.{overhang_or_within}
 use Rattle.owl_characters.specs.Iri.{AllAre}
 use Rattle.owl_characters.specs.Utf8.{Decodes, size}
-use Rattle.owl_characters.specs.Utf8Laws.{size_append}
+use Rattle.owl_characters.proofs.Utf8Laws.{size_append}
 use Rattle.owl_lexer.specs.Automata.{Automaton, run}
-use Rattle.owl_lexer.specs.BytesLaws.{no_whole}
-use Rattle.owl_lexer.specs.HoldingLaws.{front_of_front, run-append, run-none}
+use Rattle.owl_lexer.proofs.BytesLaws.{no_whole}
+use Rattle.owl_lexer.proofs.HoldingLaws.{front_of_front, run-append, run-none}
 use Rattle.owl_lexer.specs.Languages.{BeginsNoGap, IsLanguage, IsPrompt, IsLexemeWith}
 use Rattle.owl_lexer.specs.Languages.IsLexemeWith.{token, space, comment}
 use Rattle.owl_lexer.specs.Lexing.{HoldsNoEnd, HoldsNone, OneEnds, SplitsBehind}
-use Rattle.owl_lexer.specs.LexingLaws.{all_decoded}
+use Rattle.owl_lexer.proofs.LexingLaws.{all_decoded}
 use Rattle.owl_lexer.specs.Sources.{IsOpen, IsPart, bytes_in}
 use Rattle.owl_lexer.specs.Splitting.{BeginsToken, IsComment, IsGap, OneEndsFrom, SplitsFrom, is_comment_start, is_line_end, is_space}
 use Rattle.owl_lexer.specs.Words.{HoldsOne}
-use Rattle.owl_lexer.specs.WordLaws.{holds_encoded, holds_within}
+use Rattle.owl_lexer.proofs.WordLaws.{holds_encoded, holds_within}
 use Rattle.owl_lexer.specs.declared.fault.LexFault.{LexFault}
 use Rattle.owl_lexer.specs.declared.placed.Placed.{Placed}
 use Rattle.owl_lexer.specs.declared.source.Source.{Source}

@@ -10,14 +10,14 @@ use Rattle.std.specs.Option.{option_eq}
 use lib.Dec.{eqb}
 use Rattle.std.specs.Char.{len_utf8}
 use Rattle.owl_characters.specs.Utf8.{size}
-use Rattle.owl_characters.specs.Utf8Laws.{size_append}
+use Rattle.owl_characters.proofs.Utf8Laws.{size_append}
 use Rattle.owl_lexer.proofs.Feeding.{parted}
 use Rattle.owl_lexer.specs.Giving.{end_of}
 use Rattle.owl_lexer.specs.Retaking.{AreKept, HoldsAgain, IsLostRun, MayFollow, begun_with, coming}
 use Rattle.owl_lexer.specs.Automata.{Automaton, Spells, kind_at, run, step_from}
 use Rattle.owl_lexer.specs.Hands.{IsFrontOf, IsReady}
 use Rattle.owl_lexer.specs.Holding.{IsBarren, IsLost, NoneBeyond}
-use Rattle.owl_lexer.specs.HoldingLaws.{nowhere_barren, run-append, run-none, stuck_barren}
+use Rattle.owl_lexer.proofs.HoldingLaws.{nowhere_barren, run-append, run-none, stuck_barren}
 use Rattle.owl_lexer.specs.declared.again.Again.{Again}
 use Rattle.owl_lexer.specs.declared.again.LostRun.{LostRun}
 use Rattle.owl_lexer.specs.declared.hand.Front.{Front}

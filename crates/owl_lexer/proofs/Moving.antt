@@ -8,19 +8,19 @@ use Rattle.std.proofs.Math.Seq.{take-add}
 use Rattle.std.proofs.lemmas.List.Elements.{All-nil}
 use Rattle.std.proofs.lemmas.Str.{encodes-append}
 use Rattle.owl_characters.specs.Utf8.{BeginsNoCharacter, size}
-use Rattle.owl_characters.specs.Utf8Laws.{size_append}
+use Rattle.owl_characters.proofs.Utf8Laws.{size_append}
 use Rattle.owl_lexer.specs.Adding.{tokens_of}
 use Rattle.owl_lexer.specs.Automata.{Automaton, Spells}
 use Rattle.owl_lexer.specs.BytesGiving.{AddsLastBytes, BegunBytes, ContinuesBytes, CutsBehindMark, EndsBytesAt, GivesBytes, GivesSomeBytes, end_of_bytes}
-use Rattle.owl_lexer.specs.BytesLaws.{none_decoded}
+use Rattle.owl_lexer.proofs.BytesLaws.{none_decoded}
 use Rattle.owl_lexer.specs.Cutting.{Cuts, Lexeme, Stops}
-use Rattle.owl_lexer.specs.DecodingLaws.{decode}
+use Rattle.owl_lexer.proofs.DecodingLaws.{decode}
 use Rattle.owl_lexer.specs.Giving.{Begun, Continues}
 use Rattle.owl_lexer.specs.Hands.{EndsIn, IsReady}
 use Rattle.owl_lexer.specs.Lexing.{KeepsEnd}
-use Rattle.owl_lexer.specs.LexingLaws.{bytes_of, comes}
+use Rattle.owl_lexer.specs.Sources.{bytes_of, EndsAgain, EndsBytesBadly, EndsSomeAgain, IsOpen, IsOpenWith, IsPart, Moves, RefusesBytes, TakesAgain, TakesBytes, TurnsBack, begun_in, begun_with_again}
+use Rattle.owl_lexer.proofs.LexingLaws.{comes}
 use Rattle.owl_lexer.specs.Retaking.{AddsCut, AreKept, IsLostRun, MayFollow, RefusesAgain, Settles, begun_with, coming}
-use Rattle.owl_lexer.specs.Sources.{EndsAgain, EndsBytesBadly, EndsSomeAgain, IsOpen, IsOpenWith, IsPart, Moves, RefusesBytes, TakesAgain, TakesBytes, TurnsBack, begun_in, begun_with_again}
 use Rattle.owl_lexer.specs.declared.again.Again.{Again}
 use Rattle.owl_lexer.specs.declared.fault.LexFault.{LexFault}
 use Rattle.owl_lexer.specs.declared.fault.LexFault.TheVariants.{BadUtf8, Memory}

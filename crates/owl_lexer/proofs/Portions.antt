@@ -4,8 +4,7 @@ use Rattle.std.specs.Prelude.{Result, Ok, Err, IfOk, IsSome, OnOk}
 use Rattle.owl_lexer.specs.Automata.{Automaton}
 use Rattle.owl_lexer.specs.Languages.{IsLanguage, IsPrompt}
 use Rattle.owl_lexer.specs.Lexing.{HoldsNoEnd, HoldsNone}
-use Rattle.owl_lexer.specs.LexingLaws.{bytes_of}
-use Rattle.owl_lexer.specs.Sources.{IsOpenWith, bytes_with}
+use Rattle.owl_lexer.specs.Sources.{bytes_of, IsOpenWith, bytes_with}
 use Rattle.owl_lexer.specs.declared.again.Again.{Again}
 use Rattle.owl_lexer.specs.declared.source.Source.{Source}
 use Rattle.owl_lexer.proofs.Holds.{holds_no_end, holds_none}

@@ -6,18 +6,18 @@ use Rattle.std.proofs.Math.Seq.{take-add}
 use Rattle.std.specs.Str.{all_scalars, encode_utf8_all}
 use Rattle.owl_characters.specs.Feeding.{Feeding}
 use Rattle.owl_characters.specs.Utf8.{Decodes, size}
-use Rattle.owl_characters.specs.Utf8Laws.{size_append}
+use Rattle.owl_characters.proofs.Utf8Laws.{size_append}
 use Rattle.owl_lexer.specs.Automata.{Automaton, Spells}
 use Rattle.owl_lexer.specs.declared.fault.LexFault.{LexFault}
 use Rattle.owl_lexer.specs.declared.fault.LexFault.TheVariants.{Memory}
 use Rattle.owl_lexer.specs.BytesGiving.{BegunBytes, ContinuesBytes, EndsBytesAt, GivesBytes, GivesSomeBytes}
-use Rattle.owl_lexer.specs.BytesLaws.{ends_behind_bytes, some_behind_bytes}
-use Rattle.owl_lexer.specs.AddingLaws.{added_both}
+use Rattle.owl_lexer.proofs.BytesLaws.{ends_behind_bytes, some_behind_bytes}
+use Rattle.owl_lexer.proofs.AddingLaws.{added_both}
 use Rattle.owl_lexer.specs.declared.hand.Hand.{Hand}
 use Rattle.owl_lexer.specs.Cutting.{Cuts}
 use Rattle.owl_lexer.specs.Hands.{HoldsRun, Refuses, Takes, begun_of}
 use Rattle.owl_lexer.specs.Lexing.{KeepsEnd}
-use Rattle.owl_lexer.specs.LexingLaws.{comes, decodes_all}
+use Rattle.owl_lexer.proofs.LexingLaws.{comes, decodes_all}
 use Rattle.owl_lexer.specs.Sources.{IsOpen, RefusesBytes, TakesBytes, begun_in, bytes_in}
 use Rattle.owl_lexer.specs.declared.placed.Placed.{Placed}
 use Rattle.owl_lexer.specs.declared.source.Source.{Source}

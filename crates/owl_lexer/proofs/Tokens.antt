@@ -3,16 +3,16 @@ use Rattle.std.proofs.Common.{◌≡◌, ℕ, ◌+◌, Option, None, Some, List,
 use Rattle.std.specs.Str.{encode_utf8_all}
 use Rattle.std.proofs.lemmas.List.{length-append}
 use Rattle.owl_characters.specs.Utf8.{size}
-use Rattle.owl_characters.specs.Utf8Laws.{size_is}
+use Rattle.owl_characters.proofs.Utf8Laws.{size_is}
 use Rattle.owl_lexer.specs.Adding.{tokens_of}
-use Rattle.owl_lexer.specs.AddingLaws.{tokens-append}
+use Rattle.owl_lexer.proofs.AddingLaws.{tokens-append}
 use Rattle.owl_lexer.specs.Automata.{Automaton}
 use Rattle.owl_lexer.specs.BytesGiving.{AddsBytes, AddsSomeBytes, AddsSomeLastBytes, BegunBytes, end_of_bytes}
 use Rattle.owl_lexer.specs.Languages.{AreSpelled, IsLanguage}
 use Rattle.owl_lexer.specs.Lexing.{Adds, AddsSome, AddsSomeLast, Begun, Continues, end_of, nothing_begun}
-use Rattle.owl_lexer.specs.LexingLaws.{IsSound, always_split, bytes_of, comes, lexemes_continue, split_spelled}
-use Rattle.owl_lexer.specs.OneWayLaws.{same_continues}
-use Rattle.owl_lexer.specs.Sources.{EndsAgain, EndsBytesBadly, EndsPieces, EndsPiecesBadly, EndsSomeAgain, EndsSomePieces, IsOpenWith, RefusesBytes, RefusesPiece, TakesAgain, TakesPiece, begun_with_again, bytes_with}
+use Rattle.owl_lexer.specs.Sources.{bytes_of, EndsAgain, EndsBytesBadly, EndsPieces, EndsPiecesBadly, EndsSomeAgain, EndsSomePieces, IsOpenWith, RefusesBytes, RefusesPiece, TakesAgain, TakesPiece, begun_with_again, bytes_with}
+use Rattle.owl_lexer.proofs.LexingLaws.{IsSound, always_split, comes, lexemes_continue, split_spelled}
+use Rattle.owl_lexer.proofs.OneWayLaws.{same_continues}
 use Rattle.owl_lexer.specs.declared.again.Again.{Again}
 use Rattle.owl_lexer.specs.declared.fault.LexFault.{LexFault}
 use Rattle.owl_lexer.specs.declared.placed.Placed.{Placed}

@@ -7,7 +7,7 @@ use Rattle.owl_lexer.specs.declared.fault.LexFault.TheVariants.{Memory}
 use Rattle.owl_lexer.specs.Automata.{Automaton}
 use Rattle.owl_lexer.specs.BytesGiving.{AddsBytes, AddsBytesUpTo, AddsLastBytes, AddsSomeBytes, AddsSomeLastBytes, BegunBytes, ContinuesBytes, end_of_bytes, nothing_begun}
 use Rattle.std.specs.Char.{IsScalar, len_utf8}
-use Rattle.std.specs.Str.{all_scalars}
+use Rattle.std.specs.Str.{all_scalars, encode_utf8_all}
 use Rattle.owl_lexer.specs.Adding.{tokens_of}
 use Rattle.owl_lexer.specs.Cutting.{Lexeme}
 use Rattle.owl_lexer.specs.Hands.{IsReady}
@@ -15,9 +15,12 @@ use Rattle.owl_lexer.specs.Retaking.{AreKept, coming}
 use Rattle.owl_lexer.specs.declared.again.Again.{Again}
 use Rattle.owl_lexer.specs.Languages.{AreSpelled}
 use Rattle.owl_lexer.specs.Lexing.{Adds, AddsLast, AddsSome, AddsSomeLast, AddsToEnd, Begun, EndsAt, KeepsEnd, end_of, nothing_begun as nothing_left}
-use Rattle.owl_lexer.specs.LexingLaws.{bytes_of}
 use Rattle.owl_lexer.specs.declared.placed.Placed.{Placed}
 use Rattle.owl_lexer.specs.declared.source.Source.{Source}
+
+-- the same, as bytes alone
+abbrev pub bytes_of : BegunBytes → Begun
+bytes_of begun = record { at = begun.at; held = encode_utf8_all begun.held ++ begun.bytes; fresh = begun.fresh }
 
 -- the bytes are none, or a proper front of a character
 abbrev pub IsPart : List ℕ → Type 0

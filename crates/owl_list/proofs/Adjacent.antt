@@ -8,7 +8,7 @@ use Rattle.std.specs.Ordering.{is_lt}
 use Rattle.std.specs.Cmp.{IsTotalOrder}
 use Rattle.std.proofs.lemmas.Map.Keys.{sorted_from_all_adjacent}
 use Rattle.owl_list.specs.Ascending.{IsAscending}
-use Rattle.owl_list.specs.AscendingLaws.{nothing_ascends}
+use Rattle.owl_list.proofs.AscendingLaws.{nothing_ascends}
 
 is_less : (o : Ordering) → is_lt o ≡ true → o ≡ Less
 is_less Less e = refl

@@ -1,1 +1,5 @@
 pub mod Adjacent
+pub mod ArrangedLaws
+pub mod AscendingLaws
+pub mod FilterLaws
+pub mod LentLaws

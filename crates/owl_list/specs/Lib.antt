@@ -1,5 +1,1 @@
-pub mod ArrangedLaws
 pub mod Ascending
-pub mod AscendingLaws
-pub mod FilterLaws
-pub mod LentLaws

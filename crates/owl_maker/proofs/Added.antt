@@ -5,9 +5,9 @@ use Rattle.std.proofs.lemmas.Bool.{cases_lt, false≢true}
 use Rattle.std.proofs.lemmas.List.{map-append}
 use Rattle.owl_arena.specs.Growth.{Adds, Lacks}
 use Rattle.owl_arena.specs.Held.{AreHeld, tree_at, trees_at}
-use Rattle.owl_arena.specs.HeldLaws.{entry_at}
+use Rattle.owl_arena.proofs.HeldLaws.{entry_at}
 use Rattle.owl_arena.specs.Shared.{AreShared}
-use Rattle.owl_list.specs.AscendingLaws.{all_in, from_map, in_cases, in_head, in_map, in_none, in_tail}
+use Rattle.owl_list.proofs.AscendingLaws.{all_in, from_map, in_cases, in_head, in_map, in_none, in_tail}
 use Rattle.owl_tree.specs.Canonical.{canonical}
 use Rattle.owl_tree.specs.Trees.{Tree, weight}
 use Rattle.owl_doc.specs.Documents.{Document, IsBegun, PassesWeight, with_axiom, with_note}

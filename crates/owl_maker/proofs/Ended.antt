@@ -8,7 +8,7 @@ use Rattle.owl_doc.specs.Documents.{Document, IsAnnotationAt, IsAxiomAt, IsBegun
 use Rattle.owl_doc.specs.declared.fault.AddFault.{AddFault}
 use Rattle.owl_doc.specs.declared.fault.AddFault.TheVariants as add
 use Rattle.owl_tree.specs.Canonical.{canonical}
-use Rattle.owl_tree.specs.CanonicalLaws.{canonical_tag}
+use Rattle.owl_tree.proofs.CanonicalLaws.{canonical_tag}
 use Rattle.owl_tree.specs.Trees.{Tree, tag_of}
 use Rattle.owl_maker.specs.declared.fault.MakeFault.{MakeFault}
 use Rattle.owl_maker.specs.declared.fault.MakeFault.TheVariants.{TooHeavy}

@@ -5,13 +5,13 @@ use Rattle.std.proofs.lemmas.Bool.{false≢true}
 use Rattle.std.proofs.lemmas.List.{map-append}
 use Rattle.std.proofs.lemmas.List.Elements.{Contains-append_left, Contains-append_right}
 use Rattle.owl_arena.specs.Shared.{deepest}
-use Rattle.owl_list.specs.AscendingLaws.{in_cases, in_head, in_map, in_none}
+use Rattle.owl_list.proofs.AscendingLaws.{in_cases, in_head, in_map, in_none}
 use Rattle.owl_tree.specs.declared.tag.Tag.TheVariants as tag
 use Rattle.owl_tree.specs.Canonical.{arranged, canonical, canonicals}
-use Rattle.owl_tree.specs.CanonicalLaws.{arranged_holds, canonicals_kids_of}
+use Rattle.owl_tree.proofs.CanonicalLaws.{arranged_holds, canonicals_kids_of}
 use Rattle.owl_tree.specs.Rows.{is_group, row_of, set_start}
 use Rattle.owl_tree.specs.Shape.{AreShaped, FitsRow, HasKeyProperty, IsShaped}
-use Rattle.owl_tree.specs.TreeLaws.{list_of_kids_of}
+use Rattle.owl_tree.proofs.TreeLaws.{list_of_kids_of}
 use Rattle.owl_tree.specs.Trees.{Tree, depth, kids_of, most_depth, sum_weight, weight}
 use Rattle.owl_maker.specs.declared.parts.Outline.{Outline}
 use Rattle.owl_maker.specs.Constructs.{AreSound, Constructs, Item, Work, has_any, is_key_group, shut_in}

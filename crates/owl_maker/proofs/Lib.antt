@@ -1,9 +1,10 @@
-pub mod Keys
+pub mod Acts
+pub mod Added
+pub mod Ended
 pub mod Follow
+pub mod Keys
+pub mod MakerLaws
+pub mod Shut
+pub mod Shutting
 pub mod Stacks
 pub mod Tops
-pub mod Added
-pub mod Acts
-pub mod Shutting
-pub mod Ended
-pub mod Shut

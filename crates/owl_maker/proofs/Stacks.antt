@@ -4,7 +4,7 @@ use Rattle.std.specs.Prelude.{List, [], ◌∷◌, ◌++◌, length, map, revers
 use Rattle.std.proofs.lemmas.List.{length-append, map-append, reverse-append}
 use Rattle.std.proofs.lemmas.Option.{get_or_from_slice_get}
 use Rattle.owl_arena.specs.Held.{AreHeld, tree_at, trees_at}
-use Rattle.owl_arena.specs.HeldLaws.{held_more, kids_stay, more_agrees}
+use Rattle.owl_arena.proofs.HeldLaws.{held_more, kids_stay, more_agrees}
 use Rattle.owl_tree.specs.Trees.{Tree}
 use Rattle.owl_maker.specs.declared.parts.Open as parts
 use Rattle.owl_maker.specs.Kept.{AreAllHeld, IsHeldIn, numbers_in, outlines_in}

@@ -6,11 +6,11 @@ use Rattle.owl_arena.specs.Held.{trees_at}
 use Rattle.owl_tree.specs.declared.tag.Tag.{Tag}
 use Rattle.owl_tree.specs.declared.tag.Tag.TheVariants as tag
 use Rattle.owl_tree.specs.Canonical.{canonical}
-use Rattle.owl_tree.specs.CanonicalLaws.{canonical_depth, canonical_node}
+use Rattle.owl_tree.proofs.CanonicalLaws.{canonical_depth, canonical_node}
 use Rattle.owl_tree.specs.OrderLaws.{same_number}
 use Rattle.owl_tree.specs.Rows.{is_tag}
 use Rattle.owl_tree.specs.Shape.{HasKeyProperty, IsShaped}
-use Rattle.owl_tree.specs.ShapeLaws.{canonical_shape}
+use Rattle.owl_tree.proofs.ShapeLaws.{canonical_shape}
 use Rattle.owl_tree.specs.Tags.{number_of}
 use Rattle.owl_tree.specs.Trees.{Tree, depth, kids_of, node}
 use Rattle.owl_maker.specs.declared.parts.Open as parts

@@ -2,4 +2,3 @@ pub mod Constructs
 pub mod Makings
 pub mod Steps
 pub mod Kept
-pub mod MakerLaws

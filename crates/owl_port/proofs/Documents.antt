@@ -4,7 +4,7 @@ use Rattle.std.specs.Prelude.{position, unwrap_or}
 use Rattle.std.specs.Option.{option_or, option_map}
 use Rattle.std.specs.Str.{bytes_eq}
 use Rattle.std.proofs.lemmas.List.Folds.{find-append}
-use Rattle.owl_port.specs.ByNameLaws.{absent, carried, same_name, other_name}
+use Rattle.owl_port.proofs.ByNameLaws.{absent, carried, same_name, other_name}
 use Rattle.owl_port.specs.Outside.{raised, before}
 use Rattle.owl_port.specs.MemShelf.{Kept, document_in}
 

@@ -1,2 +1,3 @@
+pub mod ByNameLaws
 pub mod Documents
 pub mod Taken

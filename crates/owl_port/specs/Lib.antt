@@ -1,4 +1,3 @@
 pub mod MemShelf
 pub mod MemSink
 pub mod Outside
-pub mod ByNameLaws

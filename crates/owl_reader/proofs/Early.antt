@@ -10,23 +10,23 @@ use Rattle.grammar.specs.Derivations.{Event}
 use Rattle.grammar.specs.Grammars.{Entry, has_rule}
 use Rattle.grammar.specs.Parsing.{Parsing}
 use Rattle.grammar.specs.Predicting.{is_predictive}
-use Rattle.grammar.specs.PredictiveLaws.{predictive}
-use Rattle.owl_characters.specs.AsciiLaws.{ascii_bytes}
-use Rattle.owl_characters.specs.CutLaws.{same_seam}
+use Rattle.grammar.proofs.PredictiveLaws.{predictive}
+use Rattle.owl_characters.proofs.AsciiLaws.{ascii_bytes}
+use Rattle.owl_characters.proofs.CutLaws.{same_seam}
 use Rattle.owl_characters.specs.Iri.{is_ascii}
 use Rattle.owl_characters.specs.Utf8.{Decodes, behind_mark, is_mark, mark_size, size}
-use Rattle.owl_characters.specs.Utf8Laws.{scalars_behind, size_append, size_is}
-use Rattle.owl_lexer.specs.BytesLaws.{same_decoded}
+use Rattle.owl_characters.proofs.Utf8Laws.{scalars_behind, size_append, size_is}
+use Rattle.owl_lexer.proofs.BytesLaws.{same_decoded}
 use Rattle.owl_lexer.specs.Lexing.{Begun, Continues, EndWith, HoldsNoEnd, Lexing, OneEnds, SplitsBehind}
 use Rattle.owl_lexer.specs.Splitting.{IsLongest, OneEndsFrom, Splits, SplitsFrom, is_space}
 use Rattle.owl_lexer.specs.Words.{HoldsOne}
-use Rattle.owl_lexer.specs.WordLaws.{holds_within}
+use Rattle.owl_lexer.proofs.WordLaws.{holds_within}
 use Rattle.owl_lexer.specs.declared.fault.LexFault.{LexFault}
 use Rattle.owl_lexer.specs.declared.placed.Placed.{Placed}
 use Rattle.owl_reader.specs.Defects.{Begin, HasDefectBeforeSpace, HasNoneBeforeSpace, IsRefused, end_from, end_in}
 use Rattle.owl_reader.specs.Early.{TellsEarly}
-use Rattle.owl_reader.specs.OneDefectLaws.{Fronts, fronts, never_taken}
-use Rattle.owl_reader.specs.OneDefectLaws.Fronts.{alike, later, sooner}
+use Rattle.owl_reader.proofs.OneDefectLaws.{Fronts, fronts, never_taken}
+use Rattle.owl_reader.proofs.OneDefectLaws.Fronts.{alike, later, sooner}
 use Rattle.owl_reader.specs.Readings.{IsOpen, Reading}
 use Rattle.owl_reader.specs.Steps.{Step, tokens_in}
 use Rattle.owl_reader.specs.Syntaxes.{HoldsQuotes, Rules}

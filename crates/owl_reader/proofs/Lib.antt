@@ -1,6 +1,9 @@
+mod Early
 mod Lists
+mod Reporting
+mod Streams
 mod Taking
 mod Tokens
-mod Streams
-mod Reporting
-mod Early
+pub mod FedLaws
+pub mod OneDefectLaws
+pub mod SameStepsLaws

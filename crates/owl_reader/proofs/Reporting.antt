@@ -5,7 +5,7 @@ use Rattle.std.proofs.lemmas.Bool.{cases_lt}
 use Rattle.std.proofs.Math.Nat.{min-le_left}
 use Rattle.std.proofs.Math.Seq.{take-append-add}
 use Rattle.grammar.specs.Derivations.{Event}
-use Rattle.grammar.specs.FeedingLaws.{fed_start}
+use Rattle.grammar.proofs.FeedingLaws.{fed_start}
 use Rattle.grammar.specs.Grammars.{Entry, has_rule}
 use Rattle.grammar.specs.Parsing.{Parsing, expects}
 use Rattle.grammar.specs.Predicting.{is_predictive, is_productive}

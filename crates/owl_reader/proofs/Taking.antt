@@ -3,13 +3,13 @@ use Rattle.std.proofs.Common.{◌≡◌, ◌≢◌, ℕ, Bool, Option, None, Som
 use Rattle.std.proofs.lemmas.List.{append_assoc, append-nil, map-append}
 use Rattle.grammar.specs.Derivations.{Derives, DerivesOf, Event}
 use Rattle.grammar.specs.Derivations.Event.{Do, Take}
-use Rattle.grammar.specs.FeedingLaws.{fed_ends, fed_more, fed_needs, fed_refuses}
+use Rattle.grammar.proofs.FeedingLaws.{fed_ends, fed_more, fed_needs, fed_refuses}
 use Rattle.grammar.specs.Grammars.{Entry}
 use Rattle.grammar.specs.Lowering.{lower}
 use Rattle.grammar.specs.Parsing as parsing
 use Rattle.grammar.specs.Parsing.{Feeds, NeedsMore, Parsing, Refuses}
 use Rattle.grammar.specs.TokenFeeding.{FedTokens}
-use Rattle.grammar.specs.TokenFeedingLaws.{fed_token, tokens_derive}
+use Rattle.grammar.proofs.TokenFeedingLaws.{fed_token, tokens_derive}
 use Rattle.grammar.specs.declared.fault.ParseFault.{ParseFault}
 use Rattle.grammar.specs.declared.fault.ParseFault.TheVariants as parse
 use Rattle.grammar.specs.declared.symbol.Symbol.TheVariants.{Rule}

@@ -6,6 +6,3 @@ pub mod Defects
 pub mod Standing
 pub mod Readings
 pub mod Early
-pub mod SameStepsLaws
-pub mod OneDefectLaws
-pub mod FedLaws

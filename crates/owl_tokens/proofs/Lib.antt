@@ -1,0 +1,3 @@
+pub mod StopLaws
+pub mod TokenLaws
+pub mod WorkedCases

@@ -8,7 +8,7 @@ use Rattle.owl_characters.specs.Iri.{is_among, is_iri_character}
 use Rattle.owl_characters.specs.Names.{base_ranges, in_ranges, is_base, is_colon, is_dot, is_escapable, part_ranges, start_ranges}
 use Rattle.owl_lexer.specs.Grammars.{CharacterSet, is_in_ranges, test_of}
 use Rattle.owl_lexer.specs.Grammars.CharacterSet.{inside}
-use Rattle.owl_lexer.specs.PatternLaws.{Agree, agree_at, each_is, is_index, matches_as, uses_only, word_of}
+use Rattle.owl_lexer.proofs.PatternLaws.{Agree, agree_at, each_is, is_index, matches_as, uses_only, word_of}
 use Rattle.owl_lexer.specs.Patterns.{Matches, Pattern}
 use Rattle.owl_lexer.specs.Splitting.{is_comment_start, is_line_end, is_space}
 use Rattle.owl_tokens.specs.FunctionalGrammar.{functional_grammar}

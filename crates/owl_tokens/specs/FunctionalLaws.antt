@@ -2,8 +2,8 @@
 use Rattle.std.specs.Prelude.{◌≡◌, true, refl}
 use Rattle.owl_lexer.specs.Automata.{Knows}
 use Rattle.owl_lexer.specs.Grammars.{IsLexeme}
-use Rattle.owl_lexer.specs.TableLaws.{table_knows}
-use Rattle.owl_lexer.specs.TableTests.{check_table}
+use Rattle.owl_lexer.proofs.TableLaws.{table_knows}
+use Rattle.owl_lexer.proofs.TableCheckLaws.{check_table}
 use Rattle.owl_tokens.specs.FunctionalGrammar.{functional_grammar}
 use Rattle.owl_tokens.specs.FunctionalOrigin.{functional_origin}
 use Rattle.owl_tokens.specs.FunctionalTable.{functional_automaton, functional_table}

@@ -1,6 +1,6 @@
 -- How the table of Functional-Style Syntax came about; `tools/make_table.py` made it.
 use Rattle.std.specs.Prelude.{[], ◌∷◌}
-use Rattle.owl_lexer.specs.TableTests.{Origin}
+use Rattle.owl_lexer.proofs.TableCheckLaws.{Origin}
 
 unfoldable pub functional_origin : Origin
 functional_origin = record {

@@ -5,12 +5,12 @@ use Rattle.std.specs.Char.{is_ascii_digit}
 use Rattle.std.specs.List.{AllByRecursion}
 use Rattle.owl_characters.specs.Iri.{is_among}
 use Rattle.owl_characters.specs.Names.{IsRunOf}
-use Rattle.owl_lexer.specs.GapTestLaws.{Stand, spelled_exactly, table_is_language, table_is_prompt}
-use Rattle.owl_lexer.specs.GapTests.{check_gaps, check_quiet}
+use Rattle.owl_lexer.proofs.GapTestLaws.{Stand, spelled_exactly, table_is_language, table_is_prompt}
+use Rattle.owl_lexer.proofs.GapCheckLaws.{check_gaps, check_quiet}
 use Rattle.owl_lexer.specs.Grammars.{IsLexeme, Terminal, test_of}
 use Rattle.owl_lexer.specs.Languages.{IsLanguage, IsPrompt}
 use Rattle.owl_lexer.specs.Languages.IsLexemeWith.{token}
-use Rattle.owl_lexer.specs.PatternLaws.{Means, each_is, mark_is, one_is, run_is}
+use Rattle.owl_lexer.proofs.PatternLaws.{Means, each_is, mark_is, one_is, run_is}
 use Rattle.owl_tokens.specs.CharacterLaws.{◌also◌, functional_tests}
 use Rattle.owl_tokens.specs.FunctionalGrammar.{equals_mark, functional_grammar, non_negative_integer}
 use Rattle.owl_tokens.specs.FunctionalLaws.{functional_knows}

@@ -9,7 +9,6 @@ pub mod FunctionalLaws
 pub mod ManchesterLaws
 pub mod Tokens
 pub mod Values
-pub mod WorkedCases
 pub mod CharacterLaws
 pub mod NamePatternLaws
 pub mod StringPatternLaws
@@ -18,5 +17,3 @@ pub mod SharedSpellingLaws
 pub mod FunctionalSpellingLaws
 pub mod ManchesterSpellings
 pub mod ManchesterSpellingLaws
-pub mod TokenLaws
-pub mod StopLaws

@@ -2,8 +2,8 @@
 use Rattle.std.specs.Prelude.{◌≡◌, true, refl}
 use Rattle.owl_lexer.specs.Automata.{Knows}
 use Rattle.owl_lexer.specs.Grammars.{IsLexeme}
-use Rattle.owl_lexer.specs.TableLaws.{table_knows}
-use Rattle.owl_lexer.specs.TableTests.{check_table}
+use Rattle.owl_lexer.proofs.TableLaws.{table_knows}
+use Rattle.owl_lexer.proofs.TableCheckLaws.{check_table}
 use Rattle.owl_tokens.specs.ManchesterGrammar.{manchester_grammar}
 use Rattle.owl_tokens.specs.ManchesterOrigin.{manchester_origin}
 use Rattle.owl_tokens.specs.ManchesterTable.{manchester_automaton, manchester_table}

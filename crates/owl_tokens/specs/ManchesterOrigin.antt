@@ -1,6 +1,6 @@
 -- How the table of Manchester Syntax came about; `tools/make_table.py` made it.
 use Rattle.std.specs.Prelude.{[], ◌∷◌}
-use Rattle.owl_lexer.specs.TableTests.{Origin}
+use Rattle.owl_lexer.proofs.TableCheckLaws.{Origin}
 
 unfoldable pub manchester_origin : Origin
 manchester_origin = record {

@@ -12,10 +12,10 @@ use Rattle.owl_characters.specs.Names.{IsRunOf}
 use Rattle.owl_tokens.specs.CharacterLaws.{◌also◌, manchester_agrees, manchester_tests, manchester_words}
 use Rattle.owl_tokens.specs.ManchesterGrammar.{close_brace, close_bracket, comma, decimal_literal, equals_mark, integer_literal, manchester_grammar, open_brace, open_bracket, plus}
 use Rattle.owl_tokens.specs.ManchesterSpellings.{IsDecimal, IsInteger, SpellsManchester}
-use Rattle.owl_lexer.specs.PatternLaws.{IsOne, Means, class_is, is_index, mark_is, mark_then, one_as, run_is, word_of}
+use Rattle.owl_lexer.proofs.PatternLaws.{IsOne, Means, class_is, is_index, mark_is, mark_then, one_as, run_is, word_of}
 use Rattle.owl_tokens.specs.SharedPatterns.{digit, dot, greater, hyphen, less}
-use Rattle.owl_lexer.specs.GapTestLaws.{Stand, spelled_exactly, table_is_language, table_is_prompt}
-use Rattle.owl_lexer.specs.GapTests.{check_gaps, check_quiet}
+use Rattle.owl_lexer.proofs.GapTestLaws.{Stand, spelled_exactly, table_is_language, table_is_prompt}
+use Rattle.owl_lexer.proofs.GapCheckLaws.{check_gaps, check_quiet}
 use Rattle.owl_lexer.specs.Languages.{IsLanguage, IsPrompt}
 use Rattle.owl_lexer.specs.Languages.IsLexemeWith.{token}
 use Rattle.owl_tokens.specs.ManchesterLaws.{manchester_knows}

@@ -9,10 +9,10 @@ use Rattle.std.proofs.Math.Seq.{drop-append_seam, take-append_seam}
 use Rattle.std.proofs.lemmas.Bool.{both_ways, cond-false, cond-true, lt-ltb, not_from_false, or_cases, or_left, or_right}
 use Rattle.std.proofs.lemmas.List.{append_assoc, length-append}
 use Rattle.owl_characters.specs.Iri.{AllAre, is_among}
-use Rattle.owl_characters.specs.NameLaws.{ends_in_dot-append, prefix_inner}
+use Rattle.owl_characters.proofs.NameLaws.{ends_in_dot-append, prefix_inner}
 use Rattle.owl_characters.specs.Names.{AreLocalPieces, IsNameFrom, IsPieceOf, IsPrefixName, Piece, ends_in_dot, ends_in_plain_dot, is_base, is_colon, is_dot, is_inner, is_label_start, is_local_inner, is_local_start, is_part, is_start, piece_spelling, piece_text}
 use Rattle.owl_characters.specs.Names.{plain, percent as hexadecimals, escaped}
-use Rattle.owl_lexer.specs.PatternLaws.{AreItems, Ends, IsOne, Means, Spelled, class_is, items_are, mark_is, mark_then, one_then, singles}
+use Rattle.owl_lexer.proofs.PatternLaws.{AreItems, Ends, IsOne, Means, Spelled, class_is, items_are, mark_is, mark_then, one_then, singles}
 use Rattle.owl_lexer.specs.Patterns.{Matches, Pattern}
 use Rattle.owl_lexer.specs.Patterns.Pattern.{both, either}
 use Rattle.owl_lexer.specs.PatternWords.{◌or◌, ◌then◌, maybe}

@@ -5,11 +5,11 @@ use Rattle.std.specs.Prelude.{◌==◌, codes}
 use Rattle.std.specs.List.{AllByRecursion, list_all}
 use Rattle.std.proofs.lemmas.Bool.{and_parts, eqb-true, or_cases}
 use Rattle.owl_characters.specs.Names.{IsNameFrom, is_start}
-use Rattle.owl_lexer.specs.GapTestLaws.{Stand}
+use Rattle.owl_lexer.proofs.GapTestLaws.{Stand}
 use Rattle.owl_lexer.specs.Grammars.{IsLexemeOf, Terminal}
 use Rattle.owl_lexer.specs.Languages.{IsLexemeWith}
 use Rattle.owl_lexer.specs.Languages.IsLexemeWith.{token, space, comment as comment_text}
-use Rattle.owl_lexer.specs.PatternLaws.{Means, class_is, comment_is, is_index, mark_is, mark_then, matches_as, run_is, uses_only}
+use Rattle.owl_lexer.proofs.PatternLaws.{Means, class_is, comment_is, is_index, mark_is, mark_then, matches_as, run_is, uses_only}
 use Rattle.owl_lexer.specs.Patterns.{Matches}
 use Rattle.owl_tokens.specs.CharacterLaws.{◌also◌, SharedTests, shared, shared_words}
 use Rattle.owl_tokens.specs.NamePatternLaws.{abbreviated_is, blank_is, prefix_value, text_value, word_is}

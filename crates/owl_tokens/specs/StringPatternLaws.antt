@@ -9,7 +9,7 @@ use Rattle.std.proofs.Math.Seq.{take-append_seam}
 use Rattle.std.proofs.lemmas.Bool.{cases_Bool, cond-false, cond-true, not-true, not_from_false}
 use Rattle.std.proofs.lemmas.List.{append_assoc, length-append}
 use Rattle.owl_characters.specs.Iri.{AllAre, IsScheme, is_among, is_iri_character, is_scheme_character}
-use Rattle.owl_lexer.specs.PatternLaws.{IsOne, Means, Spelled, all_are, class_is, many_are, mark_is, mark_then, one_as, one_then}
+use Rattle.owl_lexer.proofs.PatternLaws.{IsOne, Means, Spelled, all_are, class_is, many_are, mark_is, mark_then, one_as, one_then}
 use Rattle.owl_lexer.specs.Patterns.{Matches, Pattern}
 use Rattle.owl_lexer.specs.Patterns.Pattern.{many}
 use Rattle.owl_lexer.specs.PatternWords.{◌or◌, ◌then◌}

@@ -8,7 +8,7 @@ use Rattle.std.proofs.lemmas.List.{append-nil}
 use Rattle.std.proofs.lemmas.List.Splits.{join_with_byte-slice_split, slice_split-cons_no, slice_split-cons_yes}
 use Rattle.owl_characters.specs.Iri.{AllAre}
 use Rattle.owl_characters.specs.Names.{AreSubtags, IsLanguageTag, IsRunOf, is_hyphen}
-use Rattle.owl_lexer.specs.PatternLaws.{IsOne, Means, Spelled, class_is, many_are, mark_then, one_as, run_is}
+use Rattle.owl_lexer.proofs.PatternLaws.{IsOne, Means, Spelled, class_is, many_are, mark_then, one_as, run_is}
 use Rattle.owl_lexer.specs.Patterns.{Matches, Pattern}
 use Rattle.owl_lexer.specs.Patterns.Pattern.{many}
 use Rattle.owl_lexer.specs.PatternWords.{◌or◌, ◌then◌, some}

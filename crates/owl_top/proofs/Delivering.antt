@@ -11,7 +11,7 @@ use Rattle.owl_answer.specs.Answers.{HasNoText, IsAnswered, IsFound, IsWrittenFo
 use Rattle.owl_command.specs.declared.status.Status.{Status}
 use Rattle.owl_command.specs.declared.status.Status.TheVariants.{Done, No, Words, Document as NoDocument, Target, Limit, ReadFailed, WriteFailed, Memory}
 use Rattle.owl_top.proofs.Causes.{fault_in}
-use Rattle.owl_command.specs.CommandsLaws.{asks_once}
+use Rattle.owl_command.proofs.CommandsLaws.{asks_once}
 use Rattle.owl_top.proofs.Requests.{no_command_the, outcome_the}
 
 -- what was put is a front of what was to be put, also where it is all

@@ -1,7 +1,7 @@
 -- What is answered to what words ask for is what is answered to them.
 use Rattle.std.proofs.Common.{◌≡◌, ℕ, List, codes, refl, sym, subst}
 use Rattle.owl_command.specs.Commands.{Asks, HasNoCommand, Request}
-use Rattle.owl_command.specs.CommandsLaws.{asks_once}
+use Rattle.owl_command.proofs.CommandsLaws.{asks_once}
 use Rattle.owl_documents.specs.Documents.{Contents}
 use Rattle.owl_answer.specs.Outcome.{IsTheOutcome, Outcome, refused}
 use Rattle.owl_answer.specs.Runs.{Becomes, IsOutcome, no_command, of_request}

@@ -12,7 +12,7 @@ use Rattle.std.proofs.lemmas.Bool.{cases_lt, leb-true}
 use Rattle.std.specs.Str.{IsUtf8, bytes_eq, chars, encode_utf8_all}
 use Rattle.std.specs.Prelude.{nat_le, ◌&&◌}
 use Rattle.std.proofs.lemmas.Str.{encodes-chars}
-use Rattle.owl_characters.specs.AsciiLaws.{ascii_bytes, ascii_chars}
+use Rattle.owl_characters.proofs.AsciiLaws.{ascii_bytes, ascii_chars}
 use Rattle.owl_characters.specs.Iri.{is_ascii}
 use Rattle.owl_tree.specs.declared.tag.Tag.{Tag}
 use Rattle.owl_tree.specs.declared.tag.Tag.TheVariants as tag

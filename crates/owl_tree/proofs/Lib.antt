@@ -1,2 +1,9 @@
+pub mod CanonicalLaws
+pub mod EquivalenceLaws
 pub mod Keywords
+pub mod OntologyLaws
+pub mod PlacesLaws
+pub mod ShapeLaws
+pub mod ShapeTestLaws
+pub mod TreeLaws
 pub mod WorkedCases

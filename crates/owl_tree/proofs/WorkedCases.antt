@@ -4,7 +4,7 @@ use lib.Pointwise.{pointwise}
 use Rattle.std.specs.Prelude.{◌≡◌, ◌⊎◌, ℕ, List, [], ◌∷◌, ◌++◌, None, codes, IsTrue, Bool, true, false, nat_eq, map, Contains}
 use Rattle.std.proofs.Common.{◌∙◌, ap, arith, inl, inr, refl, subst, sym}
 use Rattle.std.specs.Cmp.{unsigned_Decides}
-use Rattle.owl_list.specs.AscendingLaws.{all_in, in_none}
+use Rattle.owl_list.proofs.AscendingLaws.{all_in, in_none}
 use Rattle.owl_characters.specs.Iri.{IsIri, is_iri_character}
 use Rattle.owl_tree.specs.declared.atom.Atom.{Atom}
 use Rattle.owl_tree.specs.declared.atom.Atom.TheVariants as atom

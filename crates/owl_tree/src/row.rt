@@ -351,7 +351,7 @@ impl Tag {
     /// two or more have to be written. Two counts are no part of a row: at most
     /// two members of InverseObjectProperties (Structural Specification,
     /// section 9.2.4), and at least one property in HasKey (section 9.5).
-    #[tactic(auto, using(crate::specs::PlacesLaws::fits_by_place, crate::specs::PlacesLaws::from_end))]
+    #[tactic(auto, using(crate::proofs::PlacesLaws::fits_by_place, crate::proofs::PlacesLaws::from_end))]
     pub fn fits(self, kids: &[Tag]) -> bool
         ensures { result ≡ fits (row_of self) kids.now }
     {

@@ -1,3 +1,11 @@
-pub mod Sizes
-pub mod ShortIris
+pub mod AbbreviationLaws
+pub mod CharacterLaws
+pub mod CutLaws
+pub mod DraftLaws
+pub mod PlainLocalLaws
 pub mod SetTables
+pub mod ShortIris
+pub mod Sizes
+pub mod TableLaws
+pub mod WorkedCases
+pub mod WrittenTableLaws

@@ -7,8 +7,8 @@ use Rattle.owl_characters.specs.OrderLaws.{equal}
 use Rattle.owl_atom.specs.declared.prefixes.Prefix.{Prefix}
 use Rattle.owl_atom.specs.PrefixLaws.{tables_are_told_by_names}
 use Rattle.owl_atom.specs.Prefixes.{IsTable, prefix_in}
-use Rattle.owl_writing.specs.DraftLaws.{taken_one}
-use Rattle.owl_writing.specs.TableLaws.{set_prefix, with_prefix_sets}
+use Rattle.owl_writing.proofs.DraftLaws.{taken_one}
+use Rattle.owl_writing.proofs.TableLaws.{set_prefix, with_prefix_sets}
 use Rattle.owl_writing.specs.Tables.{with_prefix}
 
 -- where a name is given an IRI and all other look-ups stay, the table is that with the prefix

@@ -4,11 +4,11 @@ use Rattle.std.specs.Prelude.{slice_get}
 use Rattle.std.proofs.Math.Seq.{drop-append_seam}
 use Rattle.std.specs.Str.{all_scalars, chars, encode_utf8_all}
 use Rattle.std.proofs.lemmas.Str.{chars-encodes, encodes-append}
-use Rattle.owl_characters.specs.Utf8Laws.{scalars_behind}
+use Rattle.owl_characters.proofs.Utf8Laws.{scalars_behind}
 use Rattle.owl_atom.specs.declared.prefixes.Prefix.{Prefix}
 use Rattle.owl_atom.specs.Prefixes.{AreAscending, Shortens}
 use Rattle.owl_writing.specs.Terms.{iri_text, shortened_by}
-use Rattle.owl_writing.specs.AbbreviationLaws.{best_is_shortest, shortest_local}
+use Rattle.owl_writing.proofs.AbbreviationLaws.{best_is_shortest, shortest_local}
 
 -- the text of an IRI that a prefix shortens
 pub short_text : (prefixes : List Prefix) (iri : List ℕ) (place begin : ℕ) → AreAscending prefixes → (s : Shortens prefixes iri place begin) → iri_text prefixes iri ≡ s.prefix.name ++ (codes ":" ++ s.local)

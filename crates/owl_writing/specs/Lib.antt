@@ -2,11 +2,3 @@ pub mod Abbreviations
 pub mod Terms
 pub mod Tables
 pub mod Limits
-pub mod AbbreviationLaws
-pub mod PlainLocalLaws
-pub mod TableLaws
-pub mod WrittenTableLaws
-pub mod DraftLaws
-pub mod CharacterLaws
-pub mod WorkedCases
-pub mod CutLaws

@@ -54,7 +54,7 @@ impl Draft {
     }
 
     /// Whether so many bytes more are within the limit.
-    #[tactic(auto, using(owl_characters::specs::Utf8Laws::size_is))]
+    #[tactic(auto, using(owl_characters::proofs::Utf8Laws::size_is))]
     fn has_room(&self, bytes: usize) -> bool
         ensures { IsTrue result ↔ (size self.now + bytes ≤ most_bytes) }
     {
@@ -62,7 +62,7 @@ impl Draft {
     }
 
     /// Adds these characters.
-    #[tactic(auto, using(owl_characters::specs::Utf8Laws::size_append, crate::proofs::Sizes::size_chars))]
+    #[tactic(auto, using(owl_characters::proofs::Utf8Laws::size_append, crate::proofs::Sizes::size_chars))]
     pub fn add(&mut self, part: &str) -> Result<(), WriteFault>
         ensures ok { OnOk result (self.new ≡ self.old ++ chars part.now) }
         ensures too_long { IsErrOf result WriteFault.TooLong → IsTooLong (self.old ++ chars part.now) }
@@ -88,7 +88,7 @@ impl Draft {
     }
 
     /// Adds a character.
-    #[tactic(auto, using(owl_characters::specs::Utf8Laws::size_append))]
+    #[tactic(auto, using(owl_characters::proofs::Utf8Laws::size_append))]
     pub fn push(&mut self, c: char) -> Result<(), WriteFault>
         ensures ok { OnOk result (self.new ≡ self.old ++ c ∷ []) }
         ensures too_long { IsErrOf result WriteFault.TooLong → IsTooLong (self.old ++ c ∷ []) }
@@ -103,7 +103,7 @@ impl Draft {
     }
 
     /// The text.
-    #[tactic(auto, using(owl_characters::specs::Utf8Laws::size_is))]
+    #[tactic(auto, using(owl_characters::proofs::Utf8Laws::size_is))]
     pub fn into_text(self) -> Text
         ensures text { result ≡ self }
         ensures within { length (encode_utf8_all result) ≤ most_bytes }

@@ -18,7 +18,7 @@ const STRING: &str = "http://www.w3.org/2001/XMLSchema#string";
 
 impl Draft {
     /// Adds an IRI in full, between `<` and `>` (Structural Specification, section 2.4; RDF 1.1 Turtle, section 2.4).
-    #[tactic(auto, using(owl_characters::specs::Utf8Laws::size_append))]
+    #[tactic(auto, using(owl_characters::proofs::Utf8Laws::size_append))]
     pub fn add_full_iri(&mut self, iri: &Iri) -> Result<(), WriteFault>
         ensures ok { OnOk result (self.new ≡ self.old ++ full_iri iri.now) }
         ensures too_long { IsErrOf result WriteFault.TooLong → IsTooLong (self.old ++ full_iri iri.now) }
@@ -42,7 +42,7 @@ impl Draft {
     }
 
     /// Adds an IRI by the prefix at this place, with the local part that begins at this byte.
-    #[tactic(auto, using(owl_characters::specs::Utf8Laws::size_append))]
+    #[tactic(auto, using(owl_characters::proofs::Utf8Laws::size_append))]
     fn add_short_iri(
         &mut self,
         prefixes: &Prefixes,
@@ -61,7 +61,7 @@ impl Draft {
     }
 
     /// Adds an abbreviated IRI.
-    #[tactic(auto, using(owl_characters::specs::Utf8Laws::size_append))]
+    #[tactic(auto, using(owl_characters::proofs::Utf8Laws::size_append))]
     fn add_name(&mut self, prefix: &str, local: &str) -> Result<(), WriteFault>
         ensures ok { OnOk result (self.new ≡ self.old ++ (chars prefix.now ++ (codes ":" ++ chars local.now))) }
         ensures too_long { IsErrOf result WriteFault.TooLong → IsTooLong (self.old ++ (chars prefix.now ++ (codes ":" ++ chars local.now))) }
@@ -72,7 +72,7 @@ impl Draft {
     }
 
     /// Adds the label of a blank node, behind `_:` (Structural Specification, section 5.6.2; RDF 1.1 Turtle, section 2.6).
-    #[tactic(auto, using(owl_characters::specs::Utf8Laws::size_append))]
+    #[tactic(auto, using(owl_characters::proofs::Utf8Laws::size_append))]
     pub fn add_label(&mut self, label: &Label) -> Result<(), WriteFault>
         ensures ok { OnOk result (self.new ≡ self.old ++ label_text label.now) }
         ensures too_long { IsErrOf result WriteFault.TooLong → IsTooLong (self.old ++ label_text label.now) }
@@ -98,7 +98,7 @@ impl Draft {
     }
 
     /// Adds a language tag.
-    #[tactic(auto, using(owl_characters::specs::Utf8Laws::size_append))]
+    #[tactic(auto, using(owl_characters::proofs::Utf8Laws::size_append))]
     fn add_tag(&mut self, tag: &str) -> Result<(), WriteFault>
         ensures ok { OnOk result (self.new ≡ self.old ++ (codes "@" ++ chars tag.now)) }
         ensures too_long { IsErrOf result WriteFault.TooLong → IsTooLong (self.old ++ (codes "@" ++ chars tag.now)) }
@@ -108,7 +108,7 @@ impl Draft {
     }
 
     /// Adds the datatype of a literal without a tag, unless it is xsd:string.
-    #[tactic(auto, using(owl_characters::specs::Utf8Laws::size_append))]
+    #[tactic(auto, using(owl_characters::proofs::Utf8Laws::size_append))]
     fn add_datatype(&mut self, prefixes: &Prefixes, datatype: &Iri) -> Result<(), WriteFault>
         ensures ok { OnOk result (self.new ≡ self.old ++ literal_end prefixes.now datatype.now None) }
         ensures too_long { IsErrOf result WriteFault.TooLong → IsTooLong (self.old ++ literal_end prefixes.now datatype.now None) }

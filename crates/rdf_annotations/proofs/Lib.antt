@@ -1,8 +1,9 @@
+mod Ahead
+mod Naming
 mod Numbering
 mod Passing
 mod Placing
 mod Reifying
 mod Saying
 mod Setting
-mod Naming
-mod Ahead
+pub mod AnnotationLaws

@@ -18,7 +18,7 @@ use Rattle.rdf_meaning.specs.declared.role.Role.TheVariants as role
 use Rattle.rdf_meaning.specs.Nodes.{is_blank, is_role, nodes_of, role_of, subjects_of}
 use Rattle.rdf_meaning.specs.Statements.{noters}
 use Rattle.rdf_roles.specs.Tables.{RoleTable, blank_nodes, labels_in}
-use Rattle.rdf_annotations.specs.AnnotationLaws.{filter_twice}
+use Rattle.rdf_annotations.proofs.AnnotationLaws.{filter_twice}
 use Rattle.rdf_annotations.specs.Noters.{AnnotatesAt, AreNoters, AreNotersUpTo, AreNumbersOf, is_noter, numbers_at, numbers_of, shown, term_at, with_number}
 
 abbrev blanks : List (List ℕ) → List Term

@@ -14,7 +14,7 @@ use Rattle.std.proofs.lemmas.Cmp.{tied_itself}
 use Rattle.std.proofs.lemmas.List.{get_or_default}
 use Rattle.std.proofs.lemmas.Option.{get_or_from_slice_get, same_Some, slice_get-get_or, slice_get_within}
 use Rattle.owl_list.specs.Ascending.{IsAscending}
-use Rattle.owl_list.specs.AscendingLaws.{all_in, head_below, tail_ascends}
+use Rattle.owl_list.proofs.AscendingLaws.{all_in, head_below, tail_ascends}
 
 at_most_two : (o : Ordering) → ordering_index o ≤ 2
 at_most_two Less = omega arith

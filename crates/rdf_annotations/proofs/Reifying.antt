@@ -4,9 +4,9 @@ use Rattle.std.specs.List.{filter, list_any}
 use Rattle.std.proofs.Common.{arith, refl, sym, ap, ◌∙◌, subst}
 use Rattle.std.proofs.lemmas.Bool.{and_from, and_parts}
 use Rattle.std.proofs.lemmas.Option.{get_or_from_slice_get, slice_get_within}
-use Rattle.owl_list.specs.AscendingLaws.{all_in}
+use Rattle.owl_list.proofs.AscendingLaws.{all_in}
 use Rattle.rdf_faults.specs.Faults.{IsBadNode}
-use Rattle.rdf_faults.specs.DecidedFormLaws.{decided_formed}
+use Rattle.rdf_faults.proofs.DecidedFormLaws.{decided_formed}
 use Rattle.rdf_faults.specs.DecidedLaws.{stable}
 use Rattle.rdf_faults.specs.Formed.{IsFormedAs}
 use Rattle.rdf_graph.specs.declared.term.Term.{Term}
@@ -16,15 +16,15 @@ use Rattle.rdf_meaning.specs.declared.role.Role.{Role}
 use Rattle.rdf_meaning.specs.declared.role.Role.TheVariants as role
 use Rattle.rdf_meaning.specs.declared.word.Word.TheVariants as word
 use Rattle.rdf_meaning.specs.Nodes.{chosen, is_own, is_role, is_same, is_structural, of_subject, role_of}
-use Rattle.rdf_meaning.specs.NodeLaws.{from_subject, own_term, same_iri_term, same_term}
-use Rattle.rdf_meaning.specs.RowLaws.{own_role, same_role}
+use Rattle.rdf_meaning.proofs.NodeLaws.{from_subject, own_term, same_iri_term, same_term}
+use Rattle.rdf_meaning.proofs.RowLaws.{own_role, same_role}
 use Rattle.rdf_meaning.specs.Statements.{IsReification, notes_of, reifies}
 use Rattle.rdf_rows.specs.Chosen.{IsReificationOf, objects_with, the_only}
-use Rattle.rdf_rows.specs.NodeTripleLaws.{only_is, reification_is}
+use Rattle.rdf_rows.proofs.NodeTripleLaws.{only_is, reification_is}
 use Rattle.rdf_roles.specs.Refusals.{AreNodesFormed, HaveForms}
 use Rattle.rdf_roles.specs.Tables.{blank_nodes}
 use Rattle.rdf_roles.specs.Ways.{reifies_with}
-use Rattle.rdf_annotations.specs.AnnotationLaws.{same_filter}
+use Rattle.rdf_annotations.proofs.AnnotationLaws.{same_filter}
 use Rattle.rdf_annotations.specs.Noters.{AnnotatesAt, IsPlaceNoted, IsPlaceOf, IsPlaceReified, has_annotation, is_noter}
 
 abbrev has_some : List Triple → Bool

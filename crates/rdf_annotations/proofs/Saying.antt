@@ -7,20 +7,20 @@ use Rattle.std.proofs.lemmas.List.{get_or-drop, length-drop, map-append}
 use Rattle.std.proofs.lemmas.List.Elements.{Contains-append_right, filter-append}
 use Rattle.std.proofs.lemmas.Option.{get_or_from_slice_get, slice_get_within}
 use Rattle.owl_kind.specs.Kinds.{Entity}
-use Rattle.owl_list.specs.AscendingLaws.{in_head}
+use Rattle.owl_list.proofs.AscendingLaws.{in_head}
 use Rattle.owl_tree.specs.declared.tag.Tag.TheVariants as tag
 use Rattle.owl_tree.specs.Trees.{Tree, kids_of, node}
 use Rattle.rdf_graph.specs.declared.term.Term.{Term}
 use Rattle.rdf_graph.specs.declared.triple.Triple.{Triple}
 use Rattle.rdf_graph.specs.Graphs.{subject_at}
-use Rattle.rdf_graph.specs.SubjectLaws.{triples_between}
+use Rattle.rdf_graph.proofs.SubjectLaws.{triples_between}
 use Rattle.rdf_meaning.specs.Statements.{Annotates, no_note, note, AreSets, no_set, set, IsNoteOf, annotated, is_annotation_triple, notes, notes_of}
 use Rattle.tree_stores.specs.declared.fault.TreeFault.{TreeFault}
 use Rattle.tree_stores.specs.Stores.{AreStanding, IsTreeFault, Keeps, StandFor}
-use Rattle.tree_stores.specs.StoreLaws.{both_stand, keeps_all, keeps_more, stand_still}
+use Rattle.tree_stores.proofs.StoreLaws.{both_stand, keeps_all, keeps_more, stand_still}
 use Rattle.rdf_annotations.specs.declared.annotations.Said.{Said}
 use Rattle.rdf_annotations.specs.Annotations.{AreAnnotations, IsFaultOfSome, IsNotedTree, an_annotation}
-use Rattle.rdf_annotations.specs.AnnotationLaws.{fault_of_some}
+use Rattle.rdf_annotations.proofs.AnnotationLaws.{fault_of_some}
 use Rattle.rdf_annotations.specs.Held.{AddsAnnotations, IsSaid}
 
 module _ (g : List Triple) (k : List Entity) where

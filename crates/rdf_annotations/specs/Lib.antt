@@ -1,4 +1,3 @@
 pub mod Annotations
-pub mod AnnotationLaws
 pub mod Noters
 pub mod Held

@@ -3,13 +3,13 @@ use Rattle.std.specs.Prelude.{◌≡◌, ◌↔◌, ◌<◌, ◌+◌, ℕ, Bool,
 use Rattle.std.proofs.Common.{refl, sym, ap, ◌∙◌, subst, arith}
 use Rattle.std.proofs.lemmas.Bool.{both_ways}
 use Rattle.std.proofs.lemmas.Option.{same_Some, slice_get-get_or}
-use Rattle.owl_list.specs.AscendingLaws.{all_in}
+use Rattle.owl_list.proofs.AscendingLaws.{all_in}
 use Rattle.owl_kind.specs.Kinds.{Entity}
 use Rattle.rdf_graph.specs.declared.triple.Triple.{Triple}
 use Rattle.rdf_meaning.specs.Nodes.{is_structural}
 use Rattle.rdf_faults.specs.Asked.{IsTyped}
 use Rattle.rdf_faults.specs.Faults.{IsUntypedPart}
-use Rattle.rdf_roles.specs.FirstLaws.{HoldsNowhereBelow, holds_for_none, nowhere_below_next}
+use Rattle.rdf_roles.proofs.FirstLaws.{HoldsNowhereBelow, holds_for_none, nowhere_below_next}
 use Rattle.rdf_roles.specs.Refusals.{IsFirstUntyped}
 
 module _ (g : List Triple) (k : List Entity) where

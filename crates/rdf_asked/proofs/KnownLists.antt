@@ -12,19 +12,19 @@ use Rattle.rdf_graph.specs.declared.term.Term.TheVariants.{Iri, Blank}
 use Rattle.rdf_graph.specs.declared.triple.Triple.{Triple}
 use Rattle.rdf_meaning.specs.declared.role.Role.TheVariants as role
 use Rattle.rdf_meaning.specs.declared.word.Word.TheVariants as word
-use Rattle.rdf_meaning.specs.DenotationLaws.{no_nil}
-use Rattle.rdf_meaning.specs.ListLaws.{same_only}
+use Rattle.rdf_meaning.proofs.DenotationLaws.{no_nil}
+use Rattle.rdf_meaning.proofs.ListLaws.{same_only}
 use Rattle.rdf_meaning.specs.Nodes.{chosen, nil_iri, role_of}
 use Rattle.rdf_faults.specs.Asked.{HasElements, no_element, element, IsListOf}
-use Rattle.rdf_faults.specs.BelowLaws.{elements_are}
+use Rattle.rdf_faults.proofs.BelowLaws.{elements_are}
 use Rattle.rdf_asked.specs.declared.elements.Element.{Element}
 use Rattle.rdf_asked.specs.declared.elements.Element.TheVariants.{OfSort, Key}
 use Rattle.rdf_asked.specs.declared.listed.Listed.{Listed}
 use Rattle.rdf_asked.specs.Elements.{is_element}
 use Rattle.rdf_asked.specs.Listed.{AreKnownLists, IsKnownAt, IsListed, told}
-use Rattle.rdf_roles.specs.NodeLaws.{keys_are}
+use Rattle.rdf_roles.proofs.NodeLaws.{keys_are}
 use Rattle.rdf_roles.specs.Tables.{IsTableOf, RoleTable}
-use Rattle.rdf_asked.specs.ListedLaws.{IsWalked, all_behind, all_more}
+use Rattle.rdf_asked.proofs.ListedLaws.{IsWalked, all_behind, all_more}
 
 -- what is told of a list is told by its elements
 nil_is_list : (g : List Triple) (test : Term → Bool) → IsListOf g test 0 (Iri nil_iri)

@@ -1,5 +1,6 @@
+pub mod FirstUntyped
+pub mod KnownLists
+pub mod ListedLaws
 pub mod OfSort
 pub mod Suited
-pub mod KnownLists
-pub mod FirstUntyped
 pub mod TypedNodes

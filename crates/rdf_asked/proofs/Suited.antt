@@ -4,7 +4,7 @@ use Rattle.std.specs.List.{AllByRecursion}
 use Rattle.std.proofs.Common.{inl, inr, sym, ◌∙◌, subst}
 use Rattle.std.proofs.lemmas.Bool.{both_ways}
 use Rattle.std.proofs.lemmas.List.{take_more}
-use Rattle.owl_list.specs.AscendingLaws.{all_from, all_in, in_cases, in_head, in_map, in_none, in_tail}
+use Rattle.owl_list.proofs.AscendingLaws.{all_from, all_in, in_cases, in_head, in_map, in_none, in_tail}
 use Rattle.owl_kind.specs.Kinds.{Entity}
 use Rattle.rdf_graph.specs.declared.term.Term.{Term}
 use Rattle.rdf_graph.specs.declared.triple.Triple.{Triple}
@@ -12,14 +12,14 @@ use Rattle.rdf_meaning.specs.declared.role.Role.{Role}
 use Rattle.rdf_meaning.specs.declared.role.Role.TheVariants as role
 use Rattle.rdf_meaning.specs.Denotation.{Fits, of_node}
 use Rattle.rdf_meaning.specs.Nodes.{carries_some, of_subject, role_of}
-use Rattle.rdf_meaning.specs.NodeLaws.{from_subject, in_subject}
+use Rattle.rdf_meaning.proofs.NodeLaws.{from_subject, in_subject}
 use Rattle.rdf_meaning.specs.Rows.{Row}
 use Rattle.rdf_faults.specs.Asked.{IsAskedFor, suited, IsTypedAs, Suits, SuitsProperties, by_property, rows}
 use Rattle.rdf_faults.specs.DecidedLaws.{HasSome}
 use Rattle.rdf_rows.specs.Fits.{FitsRow}
-use Rattle.rdf_rows.specs.NodeTripleLaws.{fits_is}
+use Rattle.rdf_rows.proofs.NodeTripleLaws.{fits_is}
 use Rattle.rdf_asked.specs.Asking.{IsSuited, IsTold, SuitsProperty}
-use Rattle.rdf_asked.specs.ListedLaws.{all_more}
+use Rattle.rdf_asked.proofs.ListedLaws.{all_more}
 
 -- loops
 

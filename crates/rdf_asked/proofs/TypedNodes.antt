@@ -4,7 +4,7 @@ use Rattle.std.specs.List.{AllByRecursion}
 use Rattle.std.proofs.Common.{inl, inr, sym, ap, ◌∙◌, subst}
 use Rattle.std.proofs.lemmas.List.{get_or_default}
 use Rattle.std.proofs.lemmas.Option.{same_Some}
-use Rattle.owl_list.specs.AscendingLaws.{all_from, all_in, in_cases, in_head, in_map, in_none, in_tail}
+use Rattle.owl_list.proofs.AscendingLaws.{all_from, all_in, in_cases, in_head, in_map, in_none, in_tail}
 use Rattle.owl_kind.specs.Kinds.{Entity}
 use denote.Ref.{Bor}
 use Rattle.rdf_graph.specs.declared.term.Term.{Term}
@@ -13,7 +13,7 @@ use Rattle.rdf_meaning.specs.declared.role.Role.{Role}
 use Rattle.rdf_meaning.specs.declared.role.Role.TheVariants as role
 use Rattle.rdf_meaning.specs.Denotation.{Fits, of_node}
 use Rattle.rdf_meaning.specs.Nodes.{of_subject, role_of}
-use Rattle.rdf_meaning.specs.NodeLaws.{in_subject}
+use Rattle.rdf_meaning.proofs.NodeLaws.{in_subject}
 use Rattle.rdf_meaning.specs.declared.row.Row as held
 use Rattle.rdf_meaning.specs.Rows.{Row, axiom_rows, node_rows, row_seen}
 use Rattle.rdf_faults.specs.Asked.{IsAskedFor, suited, IsTypedAs, Suits, rows}

@@ -2,4 +2,3 @@ pub mod Sorts
 pub mod Elements
 pub mod Listed
 pub mod Asking
-pub mod ListedLaws

@@ -1,0 +1,15 @@
+pub mod AgreeLaws
+pub mod AxiomKidLaws
+pub mod DrawnLaws
+pub mod EndLaws
+pub mod MemberLaws
+pub mod NormalAxiomLaws
+pub mod PartReadLaws
+pub mod Placed
+pub mod PlacedLaws
+pub mod ReadBackLaws
+pub mod ReadLaws
+pub mod RowStandLaws
+pub mod SayableTreeLaws
+pub mod StatedLaws
+pub mod WellDrawnLaws

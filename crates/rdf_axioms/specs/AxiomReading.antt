@@ -14,7 +14,7 @@ use Rattle.rdf_meaning.specs.Denotation.{of_node, of_triple}
 use Rattle.rdf_meaning.specs.Statements.{IsAxiomWith}
 use Rattle.rdf_sayable.specs.Parts.{leaves}
 use Rattle.rdf_sayable.specs.Sayable.{AreSayable}
-use Rattle.rdf_normal.specs.AgainLaws.{IsPlain}
+use Rattle.rdf_normal.specs.Tidied.{IsPlain}
 use Rattle.rdf_mapping.specs.Drawing.{Statement, linked, linked_back, looped, standing, unsaid, statement_of}
 use Rattle.rdf_mapping.specs.Forms.{arc_nodes, blank, link, nodes, term_of}
 use Rattle.rdf_mapping.specs.Frames.{IsForeign, IsOfNode, KeepsArcs}

@@ -4,7 +4,7 @@ use Rattle.std.specs.Prelude.{Contains, map, min, nat_le, not, ◌&&◌, Option,
 use Rattle.std.specs.List.{filter, list_all, list_any}
 use Rattle.std.proofs.lemmas.Bool.{and_from, and_parts, both_ways, cases_Bool, cond-false, cond-true, eq-eqb, leb-true}
 use Rattle.std.proofs.lemmas.Option.{none-some, same_Some}
-use Rattle.owl_list.specs.AscendingLaws.{in_head, in_tail}
+use Rattle.owl_list.proofs.AscendingLaws.{in_head, in_tail}
 use Rattle.owl_tree.specs.declared.row.Sort.{Sort}
 use Rattle.owl_tree.specs.declared.row.Sort.TheVariants as sort
 use Rattle.owl_tree.specs.declared.row.Rest.{Rest}
@@ -20,15 +20,15 @@ use Rattle.rdf_meaning.specs.declared.row.Site.TheVariants.{LinkedBy}
 use Rattle.rdf_meaning.specs.declared.row.Want.{Want}
 use Rattle.rdf_meaning.specs.declared.row.Want.TheVariants.{One, Many, Whole, Keys, Declared}
 use Rattle.rdf_meaning.specs.declared.word.Word.{Word}
-use Rattle.owl_list.specs.FilterLaws.{from_filter}
-use Rattle.rdf_meaning.specs.ListLaws.{only_one}
+use Rattle.owl_list.proofs.FilterLaws.{from_filter}
+use Rattle.rdf_meaning.proofs.ListLaws.{only_one}
 use Rattle.rdf_meaning.specs.Rows.{Row, axiom_rows}
 use Rattle.rdf_meaning.specs.RowShapes.{ways_behind, ways_of_rows}
 use Rattle.rdf_normal.specs.OneTriple.{lists_members}
 use Rattle.rdf_mapping.specs.Drawing.{first_row, fit, is_pair, row_for}
 use Rattle.rdf_mapping.specs.LinkedLaws.{two_parts}
 use Rattle.rdf_mapping.specs.RowForLaws.{HasRowIn, front_fits, parts_for, row_by_way}
-use Rattle.rdf_mapping.specs.WrittenLaws.{first_in}
+use Rattle.rdf_mapping.proofs.WrittenLaws.{first_in}
 
 -- What stands behind the annotations of an axiom.
 

@@ -1,17 +1,2 @@
 pub mod AxiomReading
-pub mod Placed
-pub mod PlacedLaws
 pub mod AxiomRows
-pub mod SayableTrees
-pub mod EndLaws
-pub mod DrawnLaws
-pub mod MemberLaws
-pub mod StatedLaws
-pub mod RowStandLaws
-pub mod AxiomKidLaws
-pub mod WellDrawnLaws
-pub mod PartReadLaws
-pub mod ReadLaws
-pub mod AgreeLaws
-pub mod ReadBackLaws
-pub mod NormalAxiomLaws

@@ -9,13 +9,13 @@ use Rattle.std.proofs.lemmas.List.{length-append, length-map}
 use Rattle.std.proofs.lemmas.List.Elements.{Contains-append_cases, Contains-append_left, Contains-append_right}
 use Rattle.std.proofs.lemmas.List.Sums.{sum_by-cons}
 use Rattle.owl_list.specs.Ascending.{AreApart}
-use Rattle.owl_list.specs.AscendingLaws.{all_from, all_map, ascending_holds, from_map, in_none}
-use Rattle.owl_list.specs.FilterLaws.{in_filter}
+use Rattle.owl_list.proofs.AscendingLaws.{all_from, all_map, ascending_holds, from_map, in_none}
+use Rattle.owl_list.proofs.FilterLaws.{in_filter}
 use Rattle.owl_tree.specs.Ontologies.{Ontology}
 use Rattle.owl_tree.specs.Order.{tree_cmp}
 use Rattle.owl_tree.specs.OrderLaws.{only_equal_trees_tie, trees_total}
 use Rattle.owl_tree.specs.Trees.{Tree}
-use Rattle.rdf_graph.specs.GraphLaws.{set_holds}
+use Rattle.rdf_graph.proofs.GraphLaws.{set_holds}
 use Rattle.rdf_graph.specs.declared.triple.Triple.{Triple}
 use Rattle.rdf_mapping.specs.Drawing.{Statement, linked, linked_back, looped, standing, unsaid}
 use Rattle.rdf_mapping.specs.FormLaws.{apart, subjects, wider}
@@ -25,7 +25,7 @@ use Rattle.rdf_mapping.specs.GraphEntries.{made_nodes}
 use Rattle.rdf_mapping.specs.GroupFrames.{group_nodes}
 use Rattle.rdf_mapping.specs.Graphs.{Group, axiom_notes, bare, bare_axioms, graph_of, group_of, group_triples, groups_of, head_triples, header_nodes, header_term, labels_of, made_triples, notes_from, statement_nodes, statement_triples}
 use Rattle.rdf_mapping.specs.Notes.{Notes, note_nodes, note_triples}
-use Rattle.rdf_mapping.specs.WholeFrameLaws.{fresh_named_apart}
+use Rattle.rdf_mapping.proofs.WholeFrameLaws.{fresh_named_apart}
 use Rattle.blank_labels.specs.FreshLabels.{fresh_name}
 use Rattle.rdf_counts.specs.Counts.{drawn, groups_drawn, statement_drawn}
 use Rattle.rdf_counts.proofs.Apart.{both_apart, many, triples_apart}

@@ -7,8 +7,8 @@ use Rattle.std.proofs.lemmas.Bool.{and_parts, both_ways}
 use Rattle.std.proofs.lemmas.Slice.Eq.{bytes_eq-Decides}
 use lib.Utf8.{encode}
 use Rattle.owl_list.specs.Ascending.{AreApart}
-use Rattle.owl_list.specs.AscendingLaws.{in_cases, in_head, in_none, in_tail}
-use Rattle.owl_list.specs.FilterLaws.{from_filter}
+use Rattle.owl_list.proofs.AscendingLaws.{in_cases, in_head, in_none, in_tail}
+use Rattle.owl_list.proofs.FilterLaws.{from_filter}
 use Rattle.owl_tree.specs.declared.tag.Tag.{Tag}
 use Rattle.owl_tree.specs.declared.tag.Tag.TheVariants as tag
 use Rattle.owl_tree.specs.Rows.{is_tag}
@@ -21,16 +21,16 @@ use Rattle.rdf_meaning.specs.declared.row.Site.{Site}
 use Rattle.rdf_meaning.specs.declared.row.Site.TheVariants.{Node, TypedBy, OtherType, LinkedBy, OtherLink}
 use Rattle.rdf_meaning.specs.declared.row.Want.{Want}
 use Rattle.rdf_meaning.specs.declared.row.Want.TheVariants.{One, Many, Whole, Keys, Declared, Mark, True}
-use Rattle.rdf_meaning.specs.ListLaws.{passes}
+use Rattle.rdf_meaning.proofs.ListLaws.{passes}
 use Rattle.rdf_meaning.specs.Nodes.{type_iri}
 use Rattle.rdf_meaning.specs.Words.{is_type, word_iri}
 use Rattle.rdf_meaning.specs.Rows.{Row, axiom_rows, node_rows}
 use Rattle.rdf_mapping.specs.Drawing.{Kid, Placed, Statement, linked, linked_back, looped, standing, unsaid, arc_iri, arcs_of, between, by_kids, by_predicate, by_triple, facet_arcs, forms_of, is_pair, kid_of, kids_seen, listed, loop_at, loop_by, node_form, placed, placed_at, placed_by, row_for, singles, stated, stated_by, statement_of, tags_of}
 use Rattle.rdf_mapping.specs.Forms.{Form, plain, made, twice, Arcs, no_arcs, arc, first_iri, list_form, rest_iri}
-use Rattle.rdf_mapping.specs.NodeDrawingLaws.{row_form}
-use Rattle.rdf_mapping.specs.RowDrawingLaws.{all_drop, all_take}
-use Rattle.rdf_mapping.specs.TreeSortLaws.{facet_form}
-use Rattle.rdf_mapping.specs.WrittenLaws.{first_in}
+use Rattle.rdf_mapping.proofs.NodeDrawingLaws.{row_form}
+use Rattle.rdf_mapping.proofs.RowDrawingLaws.{all_drop, all_take}
+use Rattle.rdf_mapping.proofs.TreeSortLaws.{facet_form}
+use Rattle.rdf_mapping.proofs.WrittenLaws.{first_in}
 
 abbrev pub predicates : Arcs → List (List ℕ)
 predicates no_arcs = []

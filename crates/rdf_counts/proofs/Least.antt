@@ -5,7 +5,7 @@ use Rattle.std.specs.List.{filter, list_all, sum_by}
 use Rattle.std.proofs.lemmas.Bool.{and_parts, both_ways, or_cases}
 use Rattle.std.proofs.lemmas.List.{drop-map, length-map, length-take-le}
 use Rattle.std.proofs.lemmas.List.Sums.{sum_by-cons, sum_by-take-drop}
-use Rattle.owl_list.specs.FilterLaws.{from_filter}
+use Rattle.owl_list.proofs.FilterLaws.{from_filter}
 use Rattle.owl_tree.specs.declared.tag.Tag.{Tag}
 use Rattle.owl_tree.specs.declared.tag.Tag.TheVariants as tag
 use Rattle.owl_tree.specs.declared.row.Sort.{Sort}
@@ -21,13 +21,13 @@ use Rattle.rdf_meaning.specs.declared.row.Want.{Want}
 use Rattle.rdf_meaning.specs.declared.row.Want.TheVariants.{One, Many, Whole, Keys, Declared, Mark, True}
 use Rattle.rdf_meaning.specs.declared.row.Site.{Site}
 use Rattle.rdf_meaning.specs.declared.row.Site.TheVariants.{Node, TypedBy, OtherType, LinkedBy}
-use Rattle.rdf_meaning.specs.ListLaws.{passes}
+use Rattle.rdf_meaning.proofs.ListLaws.{passes}
 use Rattle.rdf_meaning.specs.Nodes.{type_iri}
 use Rattle.rdf_meaning.specs.Rows.{Row, axiom_rows, node_rows}
 use Rattle.rdf_mapping.specs.Drawing.{Kid, Placed, arcs_of, between, fit, node_form, stated, forms_of, listed, placed, placed_at, row_for, singles, tags_of, takes_one}
 use Rattle.rdf_mapping.specs.Forms.{Form, plain, twice, list_form}
-use Rattle.rdf_mapping.specs.NodeDrawingLaws.{row_form, same_tag}
-use Rattle.rdf_mapping.specs.WrittenLaws.{first_in}
+use Rattle.rdf_mapping.proofs.NodeDrawingLaws.{row_form, same_tag}
+use Rattle.rdf_mapping.proofs.WrittenLaws.{first_in}
 use Rattle.rdf_counts.specs.Counts.{arcs_drawn, drawn, is_left_out, kids_drawn, statement_drawn}
 
 -- Lists: two triples for each element.

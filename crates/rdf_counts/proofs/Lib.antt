@@ -1,6 +1,7 @@
-pub mod Keyed
 pub mod Apart
-pub mod Least
-pub mod Within
+pub mod ArenaLaws
 pub mod Groups
+pub mod Keyed
+pub mod Least
 pub mod Taking
+pub mod Within

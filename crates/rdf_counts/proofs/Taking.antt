@@ -11,7 +11,7 @@ use Rattle.rdf_meaning.specs.declared.row.Row as held
 use Rattle.rdf_meaning.specs.Rows.{Row, axiom_rows, node_rows, row_seen}
 use Rattle.rdf_mapping.specs.Arenas.{kids_at, tags_at}
 use Rattle.rdf_mapping.specs.Drawing.{Kid, by_kids, form_of, kid_of, node_form, row_for, singles, stated_by}
-use Rattle.rdf_counts.specs.ArenaLaws.{form_at, found_row, more_kids_by_row, tags_seen}
+use Rattle.rdf_counts.proofs.ArenaLaws.{form_at, found_row, more_kids_by_row, tags_seen}
 use Rattle.rdf_counts.specs.Counts.{Takes, drawn, is_left_out, kids_drawn, statement_drawn}
 use Rattle.rdf_counts.proofs.Least.{node_least, stated_least}
 

@@ -4,7 +4,7 @@ use Rattle.std.specs.Prelude.{Contains}
 use Rattle.std.proofs.lemmas.List.{length-append}
 use Rattle.std.proofs.lemmas.List.Elements.{Contains-append_cases, Contains-append_left, Contains-append_right}
 use Rattle.owl_list.specs.Ascending.{AreApart}
-use Rattle.owl_list.specs.AscendingLaws.{in_cases, in_head, in_none, in_tail}
+use Rattle.owl_list.proofs.AscendingLaws.{in_cases, in_head, in_none, in_tail}
 
 module _ {X : Type 0} where
   -- what stands before an element, and behind it

@@ -3,13 +3,13 @@ use Rattle.std.specs.Prelude.{◌≡◌, ◌⊎◌, ℕ, Bool, true, nat_eq, Lis
 use Rattle.std.specs.List.{AllByRecursion}
 use Rattle.std.proofs.Common.{inl, inr, sym, subst, arith}
 use Rattle.std.proofs.lemmas.Bool.{both_ways, cases_Bool, eq-eqb, eqb-true}
-use Rattle.owl_list.specs.AscendingLaws.{in_cases, in_head, in_none, in_tail}
+use Rattle.owl_list.proofs.AscendingLaws.{in_cases, in_head, in_none, in_tail}
 use Rattle.rdf_graph.specs.declared.term.Term.{Term}
-use Rattle.rdf_meaning.specs.ListLaws.{nothing_else, same_front}
+use Rattle.rdf_meaning.proofs.ListLaws.{nothing_else, same_front}
 use Rattle.rdf_meaning.specs.declared.role.Role.{Role}
 use Rattle.rdf_meaning.specs.Nodes.{is_role, is_same}
-use Rattle.rdf_meaning.specs.NodeLaws.{own_term, same_term}
-use Rattle.rdf_meaning.specs.RowLaws.{own_role, same_role}
+use Rattle.rdf_meaning.proofs.NodeLaws.{own_term, same_term}
+use Rattle.rdf_meaning.proofs.RowLaws.{own_role, same_role}
 
 abbrev pub Decided : Type 0 → Type 0
 Decided A = A ⊎ (A → ⊥)

@@ -4,7 +4,7 @@ use Rattle.std.specs.List.{AllByRecursion, list_all}
 use Rattle.std.proofs.Common.{inl, inr, refl, sym, ap, ◌∙◌, subst, arith}
 use Rattle.std.proofs.lemmas.Bool.{both_ways, not-true, or_cases, or_left, or_right}
 use Rattle.std.proofs.lemmas.List.{length-append}
-use Rattle.owl_list.specs.AscendingLaws.{all_from, all_in}
+use Rattle.owl_list.proofs.AscendingLaws.{all_from, all_in}
 use Rattle.owl_kind.specs.Kinds.{Entity}
 use Rattle.owl_tree.specs.Rows.{admits}
 use Rattle.owl_tree.specs.Tags.{number_of}
@@ -14,7 +14,7 @@ use Rattle.owl_tree.specs.Trees.{Tree}
 use Rattle.rdf_graph.specs.declared.term.Term.{Term}
 use Rattle.rdf_graph.specs.declared.term.Term.TheVariants.{Iri}
 use Rattle.rdf_graph.specs.declared.triple.Triple.{Triple}
-use Rattle.rdf_meaning.specs.ListLaws.{only_one, passes, same_only}
+use Rattle.rdf_meaning.proofs.ListLaws.{only_one, passes, same_only}
 use Rattle.rdf_meaning.specs.declared.role.Role.{Role}
 use Rattle.rdf_meaning.specs.declared.role.Role.TheVariants as role
 use Rattle.rdf_meaning.specs.declared.word.Word.TheVariants as word
@@ -26,10 +26,10 @@ use Rattle.rdf_meaning.specs.declared.row.Site.TheVariants.{Node, TypedBy, Other
 use Rattle.rdf_meaning.specs.declared.row.Want.{Want}
 use Rattle.rdf_meaning.specs.declared.row.Want.TheVariants.{One, Many, Whole, Keys, Declared, Mark, True}
 use Rattle.rdf_meaning.specs.Nodes.{chosen, nil_iri, role_of}
-use Rattle.rdf_meaning.specs.NodeLaws.{in_chosen}
+use Rattle.rdf_meaning.proofs.NodeLaws.{in_chosen}
 use Rattle.rdf_meaning.specs.Rows.{Row, axiom_rows, node_rows}
 use Rattle.rdf_meaning.specs.Denotation.{AreKeys, no_key, object_key, data_key, Bearer, of_node, Denotes, by_itself, by_row, by_list, by_whole, by_keys, by_declaration, mark, is_true, Lists, no_cell, cell, number_leaf, select, simple}
-use Rattle.rdf_meaning.specs.DenotationLaws.{no_nil, one_is, itself, with_row}
+use Rattle.rdf_meaning.proofs.DenotationLaws.{no_nil, one_is, itself, with_row}
 use Rattle.rdf_faults.specs.Asked.{HasElements, no_element, element, IsListOf, IsMet, is_key, is_of_sort, is_place_of, role_gives, Suits}
 use Rattle.rdf_faults.specs.Formed.{HasForm, HasFormAt, HasLength, no_element as no_length, one_more, IsShort}
 use Rattle.rdf_faults.specs.Meant.{HasPart}

@@ -6,7 +6,7 @@ use Rattle.std.specs.Str.{bytes_eq}
 use Rattle.std.proofs.Common.{arith, inl, inr, refl, subst, sym, ap, ◌∙◌}
 use Rattle.std.proofs.lemmas.Bool.{and_from, and_parts, both_ways, eqb-true, not-true, or_cases}
 use Rattle.std.proofs.lemmas.Slice.Eq.{bytes_eq-Decides}
-use Rattle.owl_list.specs.AscendingLaws.{all_in, in_cases, in_none}
+use Rattle.owl_list.proofs.AscendingLaws.{all_in, in_cases, in_none}
 use Rattle.rdf_terms.specs.Vocabulary.{is_reserved, owl, rdf}
 use Rattle.owl_kind.specs.declared.kind.Kind.TheVariants as kind
 use Rattle.owl_kind.specs.Kinds.{Entity, annotation_properties, is_built_in}
@@ -15,7 +15,7 @@ use Rattle.owl_tree.specs.declared.row.Sort.TheVariants as sort
 use Rattle.rdf_graph.specs.declared.term.Term.{Term}
 use Rattle.rdf_graph.specs.declared.term.Term.TheVariants.{Iri, Blank}
 use Rattle.rdf_graph.specs.declared.triple.Triple.{Triple}
-use Rattle.rdf_meaning.specs.ListLaws.{nothing_else, passes, some_passes}
+use Rattle.rdf_meaning.proofs.ListLaws.{nothing_else, passes, some_passes}
 use Rattle.rdf_meaning.specs.declared.role.Role.{Role}
 use Rattle.rdf_meaning.specs.declared.role.Role.TheVariants as role
 use Rattle.rdf_meaning.specs.declared.word.Word.{Word}
@@ -29,10 +29,10 @@ use Rattle.rdf_meaning.specs.Kinds.{has_kind}
 use Rattle.rdf_meaning.specs.Nodes.{carries, chosen, is_facet, is_structural, marks_role, nil_iri, role_of, roles_of, words_of}
 use Rattle.rdf_meaning.specs.Rows.{Row, axiom_rows, node_rows}
 use Rattle.rdf_meaning.specs.RowTests.{is_place, is_site}
-use Rattle.rdf_meaning.specs.RowLaws.{own_site, same_place}
+use Rattle.rdf_meaning.proofs.RowLaws.{own_site, same_place}
 use Rattle.rdf_meaning.specs.Denotation.{Fits, axiom_predicates, of_node, select, simple, site_of, times}
 use Rattle.rdf_meaning.specs.Statements.{IsCell}
-use Rattle.rdf_meaning.specs.WorkedCases.{entity, restriction, says, text, typed, u}
+use Rattle.rdf_meaning.specs.Examples.{entity, restriction, says, text, typed, u}
 use Rattle.rdf_meaning.specs.Words.{is_type, word_iri, word_number}
 use Rattle.rdf_faults.specs.Formed.{HasForm, HasFormAt, HasFormedRow, IsFormedAs, no_element}
 use Rattle.rdf_faults.specs.Asked.{IsAskedFor, suited, not_asked, IsMet, IsRow, IsTypedAs, Suits, SuitsProperties, is_place_of, rows}

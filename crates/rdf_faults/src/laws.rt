@@ -8,7 +8,7 @@ ghost use Rattle.rdf_graph.specs.declared.triple.Triple.{Triple};
 ghost use Rattle.rdf_meaning.specs.declared.role.Role.{Role};
 ghost use Rattle.rdf_meaning.specs.Nodes.{role_of};
 ghost use Rattle.rdf_meaning.specs.Statements.{IsGrounded, IsHeadOf, IsPartOfAxiom, IsSoundAs, Says, headers};
-ghost use Rattle.rdf_meaning.specs.WorkedCases.{restriction};
+ghost use Rattle.rdf_meaning.specs.Examples.{restriction};
 ghost use Rattle.rdf_faults.specs.Asked.{IsAskedFor};
 ghost use Rattle.rdf_faults.specs.WorkedCases.{empty_union, half_cell, of_literal, of_object, other_link, some_values_from, v, with_literal};
 ghost use Rattle.rdf_faults.specs.Faults.{IsBadCell, IsBadHeader, IsBadNode, IsCyclic, IsMixed, IsOfNothing, IsOrphan, IsReservedTriple, IsUntypedPart, IsUntypedStatement, TakesReserved};

@@ -6,7 +6,7 @@ use Rattle.owl_arena.specs.Held.{Held, tree_at, trees_at}
 use Rattle.owl_doc.specs.Documents.{Document, ontology_of}
 use Rattle.owl_tree.specs.Trees.{Tree, Kids, leaf, node, no_kids, kid, atom_in, kids_in, list_of}
 use Rattle.blank_labels.specs.LabelNumbers.{Counts, LabelNumbers}
-use Rattle.blank_labels.specs.FreshLabelLaws.{counts_both, counts_none}
+use Rattle.blank_labels.proofs.FreshLabelLaws.{counts_both, counts_none}
 use Rattle.rdf_mapping.specs.Graphs.{all_labels_in, labels_in, labels_of}
 
 -- The labels so far lead on to those that are left.

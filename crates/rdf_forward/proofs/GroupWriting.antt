@@ -4,7 +4,7 @@ use Rattle.std.specs.List.{AllByRecursion}
 use Rattle.std.proofs.lemmas.List.{map-append, take-append-drop}
 use Rattle.std.proofs.lemmas.Simd.{map-map}
 use Rattle.owl_arena.specs.Held.{AreHeld, tree_at, trees_at}
-use Rattle.owl_list.specs.AscendingLaws.{all_map}
+use Rattle.owl_list.proofs.AscendingLaws.{all_map}
 use Rattle.owl_tree.specs.Trees.{Tree}
 use Rattle.rdf_forward.specs.declared.writer.Writer.{Writer}
 use Rattle.rdf_forward.specs.AxiomWalks.{WritesGroups, WritesStatement, sets_at}

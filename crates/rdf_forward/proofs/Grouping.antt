@@ -8,7 +8,7 @@ use Rattle.std.specs.Ordering.{eq_by_cmp, is_eq, is_lt, ordering_reverse}
 use Rattle.std.proofs.lemmas.Cmp.{tied_itself}
 use Rattle.std.proofs.lemmas.List.{append-nil, map-append}
 use Rattle.std.proofs.lemmas.List.Elements.{Contains-append_cases, Contains-append_right, filter-append}
-use Rattle.owl_list.specs.AscendingLaws.{all_ascending, all_in, all_later, all_map, ascending_ascends, ascending_holds, ascending_is, ascends, from_map, in_cases, in_head, in_tail}
+use Rattle.owl_list.proofs.AscendingLaws.{all_ascending, all_in, all_later, all_map, ascending_ascends, ascending_holds, ascending_is, ascends, from_map, in_cases, in_head, in_tail}
 use Rattle.owl_tree.specs.Order.{tree_cmp}
 use Rattle.owl_tree.specs.OrderLaws.{only_equal_trees_tie, trees_total}
 use Rattle.owl_tree.specs.Trees.{Tree, leaf, node, no_kids, kid}

@@ -1,7 +1,7 @@
 -- The form of a node, by its row.
 use Rattle.std.proofs.Common.{◌≡◌, ◌<◌, ℕ, true, false, List, ◌∷◌, map, Option, Some, None, option_map, refl, sym, ap, ◌∙◌, arith}
 use Rattle.owl_arena.specs.Held.{tree_at, trees_at}
-use Rattle.owl_arena.specs.HeldLaws.{below_later}
+use Rattle.owl_arena.proofs.HeldLaws.{below_later}
 use Rattle.owl_tree.specs.declared.tag.Tag.{Tag}
 use Rattle.owl_tree.specs.declared.tag.Tag.TheVariants as tag
 use Rattle.owl_tree.specs.Rows.{is_tag}
@@ -11,13 +11,13 @@ use Rattle.rdf_meaning.specs.Rows.{node_rows, row_seen}
 use Rattle.rdf_meaning.specs.declared.row.Row as held
 use Rattle.rdf_mapping.specs.Forms.{made, no_arcs}
 use Rattle.rdf_mapping.specs.Drawing.{Kid, arcs_of, facet_arcs, form_of, node_form, placed, placed_at, placed_by, row_for, singles, tags_of}
-use Rattle.rdf_counts.specs.ArenaLaws.{form_at, found_row}
+use Rattle.rdf_counts.proofs.ArenaLaws.{form_at, found_row}
 use Rattle.rdf_forward.specs.declared.drawn.Drawn.{Drawn}
 use Rattle.rdf_forward.specs.declared.drawn.Drawn.TheVariants as drawn
 use Rattle.rdf_mapping.specs.Arenas.{kids_at, tags_at}
 use Rattle.rdf_forward.specs.Walks.{IsDrawnBelow, Takes, drawn_form}
-use Rattle.rdf_mapping.specs.NodeDrawingLaws.{row_form}
-use Rattle.rdf_mapping.specs.TreeSortLaws.{facet_form}
+use Rattle.rdf_mapping.proofs.NodeDrawingLaws.{row_form}
+use Rattle.rdf_mapping.proofs.TreeSortLaws.{facet_form}
 
 pub no_row_form : (t : Tag) (ks : List Kid) → is_tag tag.FacetPair t ≡ false → row_for node_rows t (tags_of ks) ≡ None → node_form t ks ≡ made no_arcs
 no_row_form t ks e h = rw (e, h) refl

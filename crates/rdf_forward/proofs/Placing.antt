@@ -7,7 +7,7 @@ use Rattle.rdf_graph.specs.declared.term.Term.TheVariants.{Iri, Blank, Literal}
 use Rattle.rdf_meaning.specs.declared.row.Part.{Part}
 use Rattle.rdf_meaning.specs.declared.row.Site.TheVariants as site
 use Rattle.rdf_meaning.specs.Rows.{axiom_rows}
-use Rattle.rdf_counts.specs.ArenaLaws.{rows_seen}
+use Rattle.rdf_counts.proofs.ArenaLaws.{rows_seen}
 use Rattle.rdf_forward.specs.declared.writer.Writer.{Writer}
 use Rattle.rdf_mapping.specs.Forms.{Form, made, plain, term_of, twice}
 use Rattle.rdf_mapping.specs.Drawing.{Kid, Placed, Statement, by_kids, by_predicate, by_triple, is_pair, placed, placed_by, row_for, singles, stated_by, tags_of, unsaid}

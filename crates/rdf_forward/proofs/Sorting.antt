@@ -13,7 +13,7 @@ use Rattle.std.proofs.lemmas.List.Elements.{recursion_from_All}
 use Rattle.std.proofs.lemmas.List.Sorted.{Contains-permutation, IsPermutation-sym, ranks_by, sorted_far}
 use Rattle.std.proofs.lemmas.Option.{slice_get-get_or}
 use Rattle.owl_arena.specs.Held.{AreHeld, tree_at, trees_at}
-use Rattle.owl_list.specs.AscendingLaws.{all_in, all_map, all_same, ascending_holds, ascending_same, from_map, same_map}
+use Rattle.owl_list.proofs.AscendingLaws.{all_in, all_map, all_same, ascending_holds, ascending_same, from_map, same_map}
 use Rattle.owl_tree.specs.Order.{tree_cmp}
 use Rattle.owl_tree.specs.OrderLaws.{only_equal_trees_tie, trees_total}
 use Rattle.owl_tree.specs.Trees.{Tree, no_kids, node}

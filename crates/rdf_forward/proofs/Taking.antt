@@ -5,7 +5,7 @@ use Rattle.std.proofs.lemmas.List.{drop-map, length-map, take-map}
 use Rattle.std.proofs.Math.Seq.{take-length}
 use Rattle.std.proofs.lemmas.Simd.{map-map}
 use Rattle.owl_arena.specs.Held.{tree_at, trees_at}
-use Rattle.owl_arena.specs.HeldLaws.{below_later}
+use Rattle.owl_arena.proofs.HeldLaws.{below_later}
 use Rattle.owl_tree.specs.Trees.{Tree, Kids, leaf, node, no_kids, kid, kids_in, list_of}
 use Rattle.rdf_meaning.specs.declared.row.Want.{Want}
 use Rattle.rdf_meaning.specs.declared.row.Want.TheVariants.{Many, Whole, Keys}

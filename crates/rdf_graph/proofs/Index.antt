@@ -12,9 +12,9 @@ use Rattle.rdf_graph.specs.declared.term.Term.{Term}
 use Rattle.rdf_graph.specs.declared.triple.Triple.{Triple}
 use Rattle.rdf_graph.specs.ByObject.{IsCountBefore, IsIndex, place_cmp}
 use Rattle.rdf_graph.specs.Graphs.{HasNoneWith, IsGraph, IsNextWith, most_triples, object_at, set_of}
-use Rattle.rdf_graph.specs.GraphLaws.{set_is_graph}
+use Rattle.rdf_graph.proofs.GraphLaws.{set_is_graph}
 use Rattle.rdf_graph.specs.Terms.{HaveSubjects, term_cmp}
-use Rattle.rdf_graph.specs.TermLaws.{only_equal_options_tie, only_equal_terms_tie, terms_total}
+use Rattle.rdf_graph.proofs.TermLaws.{only_equal_options_tie, only_equal_terms_tie, terms_total}
 use Rattle.rdf_graph.proofs.Places.{Ends, from_on, is_next, none_left, none_there}
 
 -- the places below a number

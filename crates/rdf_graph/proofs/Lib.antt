@@ -1,6 +1,10 @@
-pub mod Empty
 pub mod Comparisons
+pub mod Empty
+pub mod GraphLaws
 pub mod Halving
-pub mod Subjects
-pub mod Places
 pub mod Index
+pub mod Places
+pub mod SubjectLaws
+pub mod Subjects
+pub mod TermLaws
+pub mod WorkedCases

@@ -19,7 +19,7 @@ use Rattle.rdf_graph.specs.declared.triple.Triple.{Triple}
 use Rattle.rdf_graph.specs.ByObject.{place_cmp}
 use Rattle.rdf_graph.specs.Graphs.{object_at}
 use Rattle.rdf_graph.specs.Terms.{term_cmp}
-use Rattle.rdf_graph.specs.TermLaws.{terms_total}
+use Rattle.rdf_graph.proofs.TermLaws.{terms_total}
 use Rattle.rdf_graph.proofs.Comparisons.{is_behind, less_number, second_lt}
 use Rattle.rdf_graph.proofs.Halving.{parted_below}
 

@@ -18,7 +18,7 @@ use Rattle.rdf_graph.specs.declared.triple.Triple.{Triple}
 use Rattle.rdf_graph.specs.BySubject.{IsCountBelow, IsCountUpTo}
 use Rattle.rdf_graph.specs.Graphs.{subject_at}
 use Rattle.rdf_graph.specs.Terms.{term_cmp, triple_cmp}
-use Rattle.rdf_graph.specs.TermLaws.{only_equal_terms_tie, terms_total}
+use Rattle.rdf_graph.proofs.TermLaws.{only_equal_terms_tie, terms_total}
 use Rattle.rdf_graph.proofs.Comparisons.{is_equal, is_greater, is_less, not_after}
 use Rattle.rdf_graph.proofs.Halving.{parted_below, parted_up_to}
 

@@ -3,11 +3,11 @@ use Rattle.std.proofs.Common.{◌≡◌, ◌≢◌, ℕ, true, List, ◌++◌, g
 use Rattle.std.specs.Prelude.{codes, drop, nat_eq}
 use Rattle.std.specs.List.{list_all}
 use Rattle.std.specs.Str.{chars}
-use Rattle.owl_characters.specs.AsciiLaws.{ascii_chars}
+use Rattle.owl_characters.proofs.AsciiLaws.{ascii_chars}
 use Rattle.owl_characters.specs.Iri.{IsIri, is_ascii, is_iri_character}
 use Rattle.rdf_terms.specs.Literals.{lang_string, plain_literal}
 use Rattle.rdf_terms.specs.Vocabulary.{xsd}
-use Rattle.rdf_terms.specs.WordLaws.{http_iri}
+use Rattle.rdf_terms.proofs.WordLaws.{http_iri}
 use Rattle.rdf_meaning.specs.declared.word.Word.{Word}
 use Rattle.rdf_meaning.specs.declared.word.Word.TheVariants as word
 use Rattle.rdf_meaning.specs.Words.{word_iri}

@@ -1,11 +1,11 @@
 -- The graph of an ontology holds exactly the triples that are made, each once.
 use Rattle.std.specs.Prelude.{◌↔◌, ℕ, List, Contains}
 use Rattle.owl_list.specs.Ascending.{AreApart}
-use Rattle.owl_list.specs.AscendingLaws.{ascending_apart}
+use Rattle.owl_list.proofs.AscendingLaws.{ascending_apart}
 use Rattle.owl_tree.specs.Ontologies.{Ontology}
 use Rattle.rdf_graph.specs.declared.triple.Triple.{Triple}
-use Rattle.rdf_graph.specs.GraphLaws.{set_holds}
-use Rattle.rdf_graph.specs.TermLaws.{triples_total}
+use Rattle.rdf_graph.proofs.GraphLaws.{set_holds}
+use Rattle.rdf_graph.proofs.TermLaws.{triples_total}
 use Rattle.rdf_graph.specs.Terms.{triple_cmp}
 use Rattle.rdf_mapping.specs.Frames.{IsAny, Keeps}
 use Rattle.blank_labels.specs.FreshLabels.{fresh_name}

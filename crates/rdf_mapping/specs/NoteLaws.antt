@@ -7,7 +7,7 @@ use Rattle.std.proofs.lemmas.Bool.{and_from, and_parts, both_ways, cases_Bool, o
 use Rattle.std.proofs.lemmas.List.{length-map}
 use Rattle.std.proofs.lemmas.List.Elements.{Contains-append_cases, Contains-append_left, Contains-append_right}
 use Rattle.owl_list.specs.Ascending.{AreApart}
-use Rattle.owl_list.specs.AscendingLaws.{in_cases, in_head, in_none}
+use Rattle.owl_list.proofs.AscendingLaws.{in_cases, in_head, in_none}
 use Rattle.rdf_graph.specs.declared.term.Term.{Term}
 use Rattle.rdf_graph.specs.declared.term.Term.TheVariants.{Iri}
 use Rattle.rdf_graph.specs.declared.triple.Triple.{Triple}
@@ -15,9 +15,9 @@ use Rattle.rdf_meaning.specs.declared.role.Role.{Role}
 use Rattle.rdf_meaning.specs.declared.role.Role.TheVariants as role
 use Rattle.rdf_meaning.specs.declared.word.Word.{Word}
 use Rattle.rdf_meaning.specs.declared.word.Word.TheVariants as word
-use Rattle.owl_list.specs.FilterLaws.{from_filter, in_filter}
-use Rattle.rdf_meaning.specs.ListLaws.{passes, some_passes}
-use Rattle.rdf_meaning.specs.NodeLaws.{from_subject, in_subject, own_term, same_iri_term, same_term}
+use Rattle.owl_list.proofs.FilterLaws.{from_filter, in_filter}
+use Rattle.rdf_meaning.proofs.ListLaws.{passes, some_passes}
+use Rattle.rdf_meaning.proofs.NodeLaws.{from_subject, in_subject, own_term, same_iri_term, same_term}
 use Rattle.rdf_meaning.specs.Nodes.{carries, carries_some, chosen, first_role, is_facet, is_same, is_own, is_structural, marked_roles, marks_role, of_subject, role_of, words_of}
 use Rattle.rdf_meaning.specs.Statements.{notes_of, reifies}
 use Rattle.rdf_meaning.specs.Words.{is_type, word_iri, word_number}

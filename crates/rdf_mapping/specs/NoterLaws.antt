@@ -4,13 +4,13 @@ use Rattle.std.specs.Prelude.{◌↔◌, Contains}
 use Rattle.std.proofs.lemmas.Bool.{and_from, and_parts, both_ways}
 use Rattle.std.proofs.lemmas.List.Elements.{Contains-append_cases}
 use Rattle.owl_list.specs.Ascending.{AreApart}
-use Rattle.owl_list.specs.AscendingLaws.{in_cases, in_head, in_none}
+use Rattle.owl_list.proofs.AscendingLaws.{in_cases, in_head, in_none}
 use Rattle.rdf_graph.specs.declared.term.Term.{Term}
 use Rattle.rdf_graph.specs.declared.triple.Triple.{Triple}
 use Rattle.rdf_meaning.specs.declared.role.Role.TheVariants as role
 use Rattle.rdf_meaning.specs.declared.word.Word.TheVariants as word
-use Rattle.owl_list.specs.FilterLaws.{from_filter, in_filter}
-use Rattle.rdf_meaning.specs.NodeLaws.{nodes_are}
+use Rattle.owl_list.proofs.FilterLaws.{from_filter, in_filter}
+use Rattle.rdf_meaning.proofs.NodeLaws.{nodes_are}
 use Rattle.rdf_meaning.specs.Nodes.{nodes_of, role_of}
 use Rattle.rdf_meaning.specs.Statements.{noters, notes_of, reifies}
 use Rattle.rdf_mapping.specs.Forms.{link}

@@ -4,7 +4,7 @@ use Rattle.std.specs.Prelude.{◌↔◌, Contains, map}
 use Rattle.std.specs.List.{filter, list_all, list_any}
 use Rattle.std.proofs.lemmas.Bool.{cond_both, or_left, or_right}
 use Rattle.owl_list.specs.Ascending.{AreApart, HoldSame}
-use Rattle.owl_list.specs.AscendingLaws.{in_cases, in_head, in_none, in_tail}
+use Rattle.owl_list.proofs.AscendingLaws.{in_cases, in_head, in_none, in_tail}
 use Rattle.rdf_graph.specs.declared.term.Term.{Term}
 use Rattle.rdf_graph.specs.declared.term.Term.TheVariants.{Blank}
 use Rattle.rdf_graph.specs.declared.triple.Triple.{Triple}
@@ -13,9 +13,9 @@ use Rattle.rdf_meaning.specs.declared.role.Role.TheVariants as role
 use Rattle.rdf_meaning.specs.declared.word.Word.{Word}
 use Rattle.rdf_meaning.specs.declared.word.Word.TheVariants as word
 use Rattle.rdf_meaning.specs.Denotation.{facets_of}
-use Rattle.owl_list.specs.FilterLaws.{from_filter, in_filter}
-use Rattle.rdf_meaning.specs.ListLaws.{passes, some_passes}
-use Rattle.rdf_meaning.specs.NodeLaws.{from_subject, in_subject}
+use Rattle.owl_list.proofs.FilterLaws.{from_filter, in_filter}
+use Rattle.rdf_meaning.proofs.ListLaws.{passes, some_passes}
+use Rattle.rdf_meaning.proofs.NodeLaws.{from_subject, in_subject}
 use Rattle.rdf_meaning.specs.Nodes.{carries, chosen, first_role, is_facet, is_same, marked_roles, marks_role, of_subject, role_of, roles_of}
 use Rattle.rdf_meaning.specs.Words.{word_number}
 use Rattle.rdf_mapping.specs.Frames.{IsOfNode, IsOwn, by_facet, by_word, is_node_word}

@@ -2,7 +2,7 @@
 use Rattle.std.proofs.Common.{◌≡◌, ◌+◌, ℕ, suc, List, [], ◌∷◌, ◌++◌, inl, inr, refl, sym, subst}
 use Rattle.std.specs.Prelude.{Contains}
 use Rattle.std.proofs.lemmas.List.Elements.{Contains-append_cases, Contains-append_left, Contains-append_right}
-use Rattle.owl_list.specs.AscendingLaws.{in_cases, in_none}
+use Rattle.owl_list.proofs.AscendingLaws.{in_cases, in_none}
 use Rattle.rdf_graph.specs.declared.triple.Triple.{Triple}
 use Rattle.rdf_mapping.specs.Graphs.{Group, group_triples, statement_nodes, statement_triples}
 use Rattle.rdf_mapping.specs.Entries.{AreDrawn, Entry, entry_node}

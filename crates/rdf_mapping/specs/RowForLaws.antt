@@ -5,7 +5,7 @@ use Rattle.std.specs.List.{filter, list_all}
 use Rattle.std.proofs.lemmas.Bool.{and_from, and_parts, both_ways, le-leb, leb-true}
 use Rattle.std.proofs.Math.Seq.{take-length, drop-length}
 use Rattle.std.proofs.lemmas.List.Sums.{length-filter}
-use Rattle.owl_list.specs.AscendingLaws.{from_map, in_head, in_map, in_none, in_tail}
+use Rattle.owl_list.proofs.AscendingLaws.{from_map, in_head, in_map, in_none, in_tail}
 use Rattle.owl_tree.specs.declared.row.Sort.{Sort}
 use Rattle.owl_tree.specs.declared.row.Rest.{Rest}
 use Rattle.owl_tree.specs.declared.row.Rest.TheVariants.{Nothing, Optional, AtLeast, SomeThen, Set}
@@ -18,10 +18,10 @@ use Rattle.rdf_meaning.specs.declared.row.Place.{Place}
 use Rattle.rdf_meaning.specs.declared.row.Place.TheVariants.{Subject}
 use Rattle.rdf_meaning.specs.declared.row.Want.{Want}
 use Rattle.rdf_meaning.specs.declared.row.Want.TheVariants.{One, Many, Whole, Keys, Declared, Mark, True}
-use Rattle.owl_list.specs.FilterLaws.{from_filter, in_filter}
+use Rattle.owl_list.proofs.FilterLaws.{from_filter, in_filter}
 use Rattle.rdf_meaning.specs.RowShapes.{is_expression, kid_wants, ways, ways_behind, ways_of_rows}
 use Rattle.rdf_meaning.specs.Rows.{Row, node_rows}
-use Rattle.rdf_meaning.specs.ShapeLaws.{each_way_has_a_row}
+use Rattle.rdf_meaning.proofs.ShapeLaws.{each_way_has_a_row}
 use Rattle.rdf_mapping.specs.Drawing.{first_row, fit, row_for, singles, takes_one}
 
 -- parts with these wants, wherever they stand

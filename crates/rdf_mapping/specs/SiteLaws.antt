@@ -6,14 +6,14 @@ use Rattle.std.specs.List.{filter, list_any}
 use Rattle.std.specs.Str.{bytes_eq}
 use Rattle.std.proofs.lemmas.Bool.{and_parts, both_ways, cases_Bool, cond-false, cond-true}
 use Rattle.std.proofs.lemmas.Slice.Eq.{bytes_eq-Decides}
-use Rattle.owl_list.specs.AscendingLaws.{in_head, in_tail}
+use Rattle.owl_list.proofs.AscendingLaws.{in_head, in_tail}
 use Rattle.rdf_graph.specs.declared.term.Term.{Term}
 use Rattle.rdf_graph.specs.declared.term.Term.TheVariants.{Iri}
 use Rattle.rdf_meaning.specs.declared.row.Site.TheVariants.{TypedBy, OtherType, LinkedBy, OtherLink}
 use Rattle.rdf_meaning.specs.declared.word.Word.{Word}
 use Rattle.rdf_meaning.specs.declared.word.Word.TheVariants as word
 use Rattle.rdf_meaning.specs.Denotation.{axiom_predicates, axiom_types, first_of, site_of}
-use Rattle.rdf_meaning.specs.NodeLaws.{same_term}
+use Rattle.rdf_meaning.proofs.NodeLaws.{same_term}
 use Rattle.rdf_meaning.specs.Nodes.{is_same, is_word, says_type, type_iri}
 use Rattle.rdf_meaning.specs.Words.{word_iri, word_number}
 use Rattle.rdf_mapping.specs.Forms.{link}

@@ -2,22 +2,22 @@
 use Rattle.std.proofs.Common.{◌≡◌, ◌⊎◌, ℕ, List, [], ◌∷◌, inl, inr, refl, sym, ap, ◌∙◌, subst}
 use Rattle.std.specs.Prelude.{Contains, map}
 use Rattle.owl_list.specs.Ascending.{AreApart, ascending}
-use Rattle.owl_list.specs.AscendingLaws.{in_cases, in_head, in_none, in_tail}
+use Rattle.owl_list.proofs.AscendingLaws.{in_cases, in_head, in_none, in_tail}
 use Rattle.owl_kind.specs.Kinds.{Entity}
 use Rattle.owl_tree.specs.Canonical.{canonical}
 use Rattle.owl_tree.specs.Equivalence.{IsEquivalent}
-use Rattle.owl_tree.specs.EquivalenceLaws.{canonicals_map, equivalent_is_equal_form}
+use Rattle.owl_tree.proofs.EquivalenceLaws.{canonicals_map, equivalent_is_equal_form}
 use Rattle.owl_tree.specs.Ontologies.{HoldEquivalent, canonical_list}
-use Rattle.owl_tree.specs.OntologyLaws.{equivalent_lists}
+use Rattle.owl_tree.proofs.OntologyLaws.{equivalent_lists}
 use Rattle.owl_tree.specs.Order.{tree_cmp}
 use Rattle.owl_tree.specs.Rows.{row_of}
-use Rattle.owl_tree.specs.TreeLaws.{list_of_kids_of}
+use Rattle.owl_tree.proofs.TreeLaws.{list_of_kids_of}
 use Rattle.owl_tree.specs.Trees.{Tree, kids_of}
 use Rattle.rdf_graph.specs.declared.term.Term.{Term}
 use Rattle.rdf_graph.specs.declared.triple.Triple.{Triple}
-use Rattle.rdf_meaning.specs.ListLaws.{nothing_else}
+use Rattle.rdf_meaning.proofs.ListLaws.{nothing_else}
 use Rattle.rdf_meaning.specs.Statements.{Annotates, AreSets, no_set, set, Variants, bare, noted, noters, notes, notes_of}
-use Rattle.rdf_meaning.specs.StatementLaws.{one_notes, variants_are}
+use Rattle.rdf_meaning.proofs.StatementLaws.{one_notes, variants_are}
 use Rattle.rdf_mapping.specs.Entries.{AreEntries, Entry, entry_node}
 use Rattle.rdf_mapping.specs.NoterLaws.{noters_are}
 use Rattle.rdf_mapping.specs.NoteTrees.{AreReadAs, annotation}

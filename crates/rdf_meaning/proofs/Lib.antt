@@ -1,0 +1,13 @@
+pub mod AxiomLaws
+pub mod DenotationLaws
+pub mod GroundLaws
+pub mod KindLaws
+pub mod ListLaws
+pub mod NodeLaws
+pub mod RowLaws
+pub mod ShapeLaws
+pub mod SoundLaws
+pub mod StatementLaws
+pub mod WordLaws
+pub mod WorkedCases
+pub mod WorkedWhole

@@ -28,3 +28,8 @@ pub record IsStanding (g : List Triple) (b : Bearer) (p : Part) : Type 0 where
   pub z : Term
   pub one : select g b p.place ≡ z ∷ []
   pub below : is_mark p.want ≡ false → IsSoundBelow g z
+
+-- so are the ends of the triple
+pub record HasSoundEnds (g : List Triple) (t : Triple) : Type 0 where
+  pub subject : IsSoundBelow g t.subject
+  pub object : IsSoundBelow g t.object

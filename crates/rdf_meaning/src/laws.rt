@@ -16,8 +16,7 @@ ghost use Rattle.rdf_meaning.specs.declared.row.Part.{Part};
 ghost use Rattle.rdf_meaning.specs.declared.row.Want.{Want};
 ghost use Rattle.rdf_meaning.specs.declared.row.Want.TheVariants.{One};
 ghost use Rattle.rdf_meaning.specs.Denotation.{AreKeys, AtMostOne, Bearer, Denotes, Holds, IsRowOf, Lists, of_node, of_triple, simple};
-ghost use Rattle.rdf_meaning.specs.Sound.{IsSoundBelow, LeadsToSound};
-ghost use Rattle.rdf_meaning.specs.SoundLaws.{HasSoundEnds};
+ghost use Rattle.rdf_meaning.specs.Sound.{IsSoundBelow, LeadsToSound, HasSoundEnds};
 ghost use Rattle.rdf_meaning.specs.Kinds.{HaveNoClash, has_kind};
 ghost use Rattle.rdf_meaning.specs.Rows.{Row, axiom_rows, node_rows};
 ghost use Rattle.owl_tree.specs.Tags.{is_axiom};
@@ -28,7 +27,7 @@ ghost use Rattle.rdf_meaning.specs.declared.role.Role.{Role};
 ghost use Rattle.rdf_meaning.specs.declared.role.Role.TheVariants as role;
 ghost use Rattle.rdf_meaning.specs.Nodes.{IsChosenBy, carries, chosen, nodes_of, role_of};
 ghost use Rattle.rdf_meaning.specs.Statements.{Annotates, AreAxioms, AreNodeAxioms, HasAxiom, HasNodeAxiom, HasNote, IsNoteOfSome, IsOfSome, IsOfSomeNode, InSteps, IsAxiomWith, IsDirectlyBelow, IsGrounded, Says, States};
-ghost use Rattle.rdf_meaning.specs.WorkedCases.{A, c, classes, complement, cycle, of_data, over, restriction, small, some_values, stated, u, union};
+ghost use Rattle.rdf_meaning.specs.Examples.{A, c, classes, complement, cycle, of_data, over, restriction, small, some_values, stated, u, union};
 ghost use Rattle.rdf_meaning.specs.Words.{is_type, word_iri, word_number};
 ghost use Rattle.rdf_meaning.specs.declared.word.Word.{Word};
 

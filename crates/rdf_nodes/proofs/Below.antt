@@ -6,7 +6,7 @@ use Rattle.std.proofs.lemmas.Bool.{and_parts}
 use Rattle.std.proofs.lemmas.List.Elements.{Contains-append_left}
 use Rattle.std.proofs.lemmas.Option.{none-some}
 use Rattle.owl_kind.specs.Kinds.{Entity}
-use Rattle.owl_list.specs.AscendingLaws.{in_head}
+use Rattle.owl_list.proofs.AscendingLaws.{in_head}
 use Rattle.owl_tree.specs.declared.row.Sort.{Sort}
 use Rattle.owl_tree.specs.Trees.{Tree}
 use Rattle.rdf_graph.specs.declared.term.Term.{Term}
@@ -16,26 +16,26 @@ use Rattle.rdf_meaning.specs.declared.role.Role.TheVariants as role
 use Rattle.rdf_meaning.specs.declared.row.Part.{Part}
 use Rattle.rdf_meaning.specs.declared.row.Site.{Site}
 use Rattle.rdf_meaning.specs.declared.row.Want.{Want}
-use Rattle.rdf_meaning.specs.ListLaws.{passes}
+use Rattle.rdf_meaning.proofs.ListLaws.{passes}
 use Rattle.rdf_meaning.specs.Nodes.{role_of}
 use Rattle.rdf_meaning.specs.Denotation.{of_node, select}
 use Rattle.rdf_meaning.specs.RowTests.{has_row}
 use Rattle.rdf_meaning.specs.Rows.{axiom_rows, node_rows}
 use Rattle.rdf_meaning.specs.Statements.{IsDirectlyBelow}
 use Rattle.rdf_faults.specs.Asked.{rows}
-use Rattle.rdf_faults.specs.BelowLaws.{below_by, first_below, rest_below}
-use Rattle.rdf_faults.specs.DenotedLaws.{row_leads}
-use Rattle.rdf_faults.specs.RowPairLaws.{own_place_at, rows_have_own_parts}
-use Rattle.rdf_faults.specs.RowPairs.{are_own_at, has_own_parts, is_own_place}
-use Rattle.rdf_asked.specs.ListedLaws.{all_more}
-use Rattle.rdf_roles.specs.NodeLaws.{keys_are}
+use Rattle.rdf_faults.proofs.BelowLaws.{below_by, first_below, rest_below}
+use Rattle.rdf_faults.proofs.DenotedLaws.{row_leads}
+use Rattle.rdf_faults.proofs.RowPairLaws.{own_place_at, rows_have_own_parts}
+use Rattle.rdf_faults.proofs.RowPairTestLaws.{are_own_at, has_own_parts, is_own_place}
+use Rattle.rdf_asked.proofs.ListedLaws.{all_more}
+use Rattle.rdf_roles.proofs.NodeLaws.{keys_are}
 use Rattle.rdf_roles.specs.OrderLaws.{AreClosed, leads_to_front}
 use Rattle.rdf_roles.specs.Tables.{IsTableOf, LeadsTo, RoleTable, blank_nodes}
-use Rattle.rdf_roles.specs.WayLaws.{numbered_by_role}
+use Rattle.rdf_roles.proofs.WayLaws.{numbered_by_role}
 use Rattle.rdf_nodes.specs.declared.form.Form.{Form}
 use Rattle.rdf_nodes.specs.declared.form.Operand.{Operand}
 use Rattle.rdf_nodes.specs.declared.form.Operand.TheVariants as operand
-use Rattle.rdf_nodes.specs.ExpressionLaws.{expression_has_row}
+use Rattle.rdf_nodes.proofs.ExpressionLaws.{expression_has_row}
 use Rattle.rdf_nodes.specs.Numbers.{AreKnownBelow, HasItsNumber, IsExpression, IsPassed}
 use Rattle.rdf_nodes.specs.Operands.{AreElements, no_cell, cell, AreOperands, no_parts, part, Gives, one, many, mark, is_true, IsForm, IsNodeOf, IsOperand, by_itself, by_node, IsTree, StandAt, labels, sort_of}
 

@@ -7,7 +7,7 @@ use Rattle.owl_kind.specs.Kinds.{Entity}
 use Rattle.owl_tree.specs.Trees.{Tree}
 use Rattle.rdf_graph.specs.declared.triple.Triple.{Triple}
 use Rattle.rdf_roles.specs.Tables.{RoleTable}
-use Rattle.tree_stores.specs.KidLaws.{passed_has_many, sum_has_kids}
+use Rattle.tree_stores.proofs.KidLaws.{passed_has_many, sum_has_kids}
 use Rattle.tree_stores.specs.Stores.{AreStanding, HaveKids, HaveManyKids, IsSumWith, Keeps, PassesWith}
 use Rattle.rdf_nodes.specs.Numbers.{AreNumbered, IsNodeTree}
 

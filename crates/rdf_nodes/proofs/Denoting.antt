@@ -8,7 +8,7 @@ use Rattle.std.proofs.lemmas.Bool.{and_parts, or_cases}
 use Rattle.std.proofs.lemmas.Bool.Decides.{leb_tells}
 use Rattle.std.proofs.lemmas.Option.{none-some}
 use Rattle.owl_kind.specs.Kinds.{Entity}
-use Rattle.owl_list.specs.AscendingLaws.{from_map, in_head}
+use Rattle.owl_list.proofs.AscendingLaws.{from_map, in_head}
 use Rattle.owl_tree.specs.declared.atom.Atom.TheVariants as atom
 use Rattle.owl_tree.specs.declared.row.Sort.{Sort}
 use Rattle.owl_tree.specs.declared.row.Sort.TheVariants as sort
@@ -28,11 +28,11 @@ use Rattle.rdf_meaning.specs.declared.row.Site.TheVariants.{Node, TypedBy, Other
 use Rattle.rdf_meaning.specs.declared.row.Want.{Want}
 use Rattle.rdf_meaning.specs.declared.row.Want.TheVariants.{One, Many, Whole, Keys, Declared, Mark, True}
 use Rattle.rdf_meaning.specs.Denotation.{Denotes, by_list, Fits, Holds, Lists, number_leaf, of_node, select, simple}
-use Rattle.rdf_meaning.specs.DenotationLaws.{itself, with_row, list_is, many_is, no_nil, one_is, parts_are, simple_has_none}
-use Rattle.rdf_meaning.specs.ListLaws.{passes, same_only}
+use Rattle.rdf_meaning.proofs.DenotationLaws.{itself, with_row, list_is, many_is, no_nil, one_is, parts_are, simple_has_none}
+use Rattle.rdf_meaning.proofs.ListLaws.{passes, same_only}
 use Rattle.rdf_meaning.specs.Nodes.{is_role, nil_iri, role_of}
-use Rattle.rdf_meaning.specs.NodeLaws.{from_chosen}
-use Rattle.rdf_meaning.specs.RowLaws.{at_expression, same_role}
+use Rattle.rdf_meaning.proofs.NodeLaws.{from_chosen}
+use Rattle.rdf_meaning.proofs.RowLaws.{at_expression, same_role}
 use Rattle.rdf_meaning.specs.RowTests.{has_row, has_row_at}
 use Rattle.rdf_meaning.specs.Rows.{Row, node_rows, row_seen}
 use Rattle.rdf_faults.specs.Asked.{role_gives}
@@ -42,11 +42,11 @@ use Rattle.rdf_rows.specs.Chosen.{the_only}
 use Rattle.rdf_rows.specs.declared.literals.Cardinality.TheVariants.{TooLarge}
 use Rattle.rdf_roles.specs.Tables.{RoleTable}
 use Rattle.rdf_nodes.specs.declared.form.Operand.{Operand}
-use Rattle.rdf_nodes.specs.ExpressionLaws.{expression_has_row}
+use Rattle.rdf_nodes.proofs.ExpressionLaws.{expression_has_row}
 use Rattle.rdf_nodes.specs.Large.{HasLargeNumber}
-use Rattle.rdf_nodes.specs.NumberLaws.{counts_at}
+use Rattle.rdf_nodes.proofs.NumberLaws.{counts_at}
 use Rattle.rdf_nodes.specs.Numbers.{DenotesOwn}
-use Rattle.rdf_nodes.specs.OfSortLaws.{as_many_elements}
+use Rattle.rdf_nodes.proofs.OfSortLaws.{as_many_elements}
 use Rattle.rdf_nodes.specs.Operands.{AreElements, DenotesNone, IsCellWith, IsHeldAt, IsSmall, IsWantedOfNode, is_told_by_kind, sort_of}
 
 -- terms

@@ -8,7 +8,7 @@ use Rattle.rdf_graph.specs.declared.term.Term.TheVariants.{Blank}
 use Rattle.rdf_graph.specs.declared.triple.Triple.{Triple}
 use Rattle.rdf_meaning.specs.Nodes.{of_subject}
 use Rattle.rdf_roles.specs.Tables.{RoleTable}
-use Rattle.rdf_nodes.specs.DuplicateLaws.{denotes_too}
+use Rattle.rdf_nodes.proofs.DuplicateLaws.{denotes_too}
 use Rattle.rdf_nodes.specs.Duplicates.{HaveSameArcs, IsNumberOfDuplicate, arc_of}
 use Rattle.rdf_nodes.specs.Numbers.{AreNumbered, DenotesOwn, IsDenotedAs}
 use Rattle.rdf_nodes.specs.Operands.{labels}

@@ -14,13 +14,13 @@ use Rattle.rdf_roles.specs.Tables.{RoleTable}
 use Rattle.rdf_terms.specs.Literals.{LiteralParts}
 use Rattle.tree_stores.specs.declared.fault.TreeFault.{TreeFault}
 use Rattle.tree_stores.specs.declared.fault.TreeFault.TheVariants.{TooDeep, TooHeavy, Memory}
-use Rattle.tree_stores.specs.StoreLaws.{keeps_all, keeps_more, one_more_stands, stand_still}
+use Rattle.tree_stores.proofs.StoreLaws.{keeps_all, keeps_more, one_more_stands, stand_still}
 use Rattle.tree_stores.specs.Stores.{IsTreeFault, Keeps}
 use Rattle.rdf_nodes.specs.declared.form.Form.{Form}
 use Rattle.rdf_nodes.specs.declared.form.Operand.{Operand}
 use Rattle.rdf_nodes.specs.declared.form.Operand.TheVariants as operand
 use Rattle.rdf_nodes.specs.Numbers.{AllStand, AreNumbered, DenotesOwn, IsDenotedAs, IsExpression, IsNodeFault, StandsFor}
-use Rattle.rdf_nodes.specs.OperandLaws.{form_denotes}
+use Rattle.rdf_nodes.proofs.OperandLaws.{form_denotes}
 use Rattle.rdf_nodes.specs.Operands.{AllMean, IsForm, Means, own_tree, sort_of}
 
 pub ok_more : {A E : Type 0} {P Q : A → Type 0} → ((a : A) → P a → Q a) → (r : Result A E) → IfOk r P → IfOk r Q

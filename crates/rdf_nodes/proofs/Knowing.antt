@@ -11,11 +11,11 @@ use Rattle.rdf_graph.specs.declared.triple.Triple.{Triple}
 use Rattle.rdf_meaning.specs.declared.role.Role.{Role}
 use Rattle.rdf_meaning.specs.Kinds.{HaveNoClash}
 use Rattle.rdf_meaning.specs.Nodes.{role_of}
-use Rattle.rdf_roles.specs.NodeLaws.{keys_are, no_role_of_others}
+use Rattle.rdf_roles.proofs.NodeLaws.{keys_are, no_role_of_others}
 use Rattle.rdf_roles.specs.Tables.{IsTableOf, RoleTable, blank_nodes}
-use Rattle.tree_stores.specs.StoreLaws.{shallow_tree}
+use Rattle.tree_stores.proofs.StoreLaws.{shallow_tree}
 use Rattle.tree_stores.specs.Stores.{HasDepth, IsHeld}
-use Rattle.rdf_nodes.specs.ExpressionLaws.{own_same}
+use Rattle.rdf_nodes.proofs.ExpressionLaws.{own_same}
 use Rattle.rdf_nodes.specs.Numbers.{AreAllHeld, AreKnown, AreNumbered, AreShallow, DenotesOwn, IsKnown, IsNumbered}
 use Rattle.rdf_nodes.specs.Operands.{labels, sort_of}
 use Rattle.rdf_nodes.proofs.Labelling.{below_next, look_up}

@@ -7,13 +7,13 @@ use Rattle.std.proofs.lemmas.Option.{none-some, same_Some, slice_get_within}
 use Rattle.std.proofs.lemmas.Slice.Eq.{bytes_eq-Decides}
 use Rattle.owl_characters.specs.Order.{text_eq}
 use Rattle.owl_kind.specs.Kinds.{Entity}
-use Rattle.owl_list.specs.AscendingLaws.{in_cases, in_none}
+use Rattle.owl_list.proofs.AscendingLaws.{in_cases, in_none}
 use Rattle.owl_tree.specs.Trees.{Tree}
 use Rattle.rdf_graph.specs.declared.term.Term.TheVariants.{Blank}
 use Rattle.rdf_graph.specs.declared.triple.Triple.{Triple}
 use Rattle.rdf_meaning.specs.declared.role.Role.{Role}
 use Rattle.rdf_meaning.specs.Nodes.{role_of}
-use Rattle.rdf_roles.specs.NodeLaws.{keys_are, no_role_of_others}
+use Rattle.rdf_roles.proofs.NodeLaws.{keys_are, no_role_of_others}
 use Rattle.rdf_roles.specs.Tables.{IsTableOf, RoleTable, blank_nodes}
 use Rattle.tree_stores.specs.Stores.{HasNumber}
 use Rattle.rdf_nodes.specs.Nodes.{HoldNumbers, HoldNumbersUpTo, NumberTable, entry_of}

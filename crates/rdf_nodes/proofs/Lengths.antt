@@ -6,7 +6,7 @@ use Rattle.std.proofs.Common.{arith, inl, inr, sym, ap, append_assoc, append-nil
 use Rattle.std.proofs.lemmas.List.{length-append, length-map}
 use Rattle.std.proofs.lemmas.Option.{slice_get_within}
 use Rattle.owl_list.specs.Ascending.{ascending, by_order, put}
-use Rattle.owl_list.specs.AscendingLaws.{in_cases, in_none}
+use Rattle.owl_list.proofs.AscendingLaws.{in_cases, in_none}
 use Rattle.rdf_graph.specs.declared.term.Term.{Term}
 use Rattle.rdf_graph.specs.declared.term.Term.TheVariants.{Blank, Iri, Literal}
 use Rattle.rdf_graph.specs.declared.triple.Triple.{Triple}
@@ -14,10 +14,10 @@ use Rattle.rdf_graph.specs.Terms.{term_cmp}
 use Rattle.rdf_meaning.specs.declared.role.Role.TheVariants as role
 use Rattle.rdf_meaning.specs.Statements.{IsDirectlyBelow}
 use Rattle.rdf_faults.specs.Asked.{HasElements, no_element, element, IsListOf}
-use Rattle.rdf_faults.specs.BelowLaws.{rest_below}
-use Rattle.rdf_asked.specs.ListedLaws.{IsWalked}
+use Rattle.rdf_faults.proofs.BelowLaws.{rest_below}
+use Rattle.rdf_asked.proofs.ListedLaws.{IsWalked}
 use Rattle.rdf_roles.specs.Tables.{IsTableOf, RoleTable, blank_nodes, labels_in, with_role}
-use Rattle.rdf_roles.specs.WayLaws.{numbered_by_role}
+use Rattle.rdf_roles.proofs.WayLaws.{numbered_by_role}
 use Rattle.rdf_nodes.specs.Numbers.{IsPassed}
 use Rattle.rdf_roles.specs.OrderLaws.{is_in_order, length_of_order}
 use Rattle.rdf_nodes.proofs.Below.{as_nodes, passed_below}

@@ -6,7 +6,7 @@ use Rattle.std.proofs.lemmas.List.{length-set}
 use Rattle.std.proofs.lemmas.List.Elements.{Contains-append_cases, Contains-append_right}
 use Rattle.std.proofs.lemmas.Option.{none-some, same_Some}
 use Rattle.owl_kind.specs.Kinds.{Entity}
-use Rattle.owl_list.specs.AscendingLaws.{in_cases, in_head, in_none}
+use Rattle.owl_list.proofs.AscendingLaws.{in_cases, in_head, in_none}
 use Rattle.owl_tree.specs.Trees.{Tree}
 use Rattle.rdf_graph.specs.declared.term.Term.TheVariants.{Blank}
 use Rattle.rdf_graph.specs.declared.triple.Triple.{Triple}
@@ -15,10 +15,10 @@ use Rattle.rdf_roles.specs.OrderLaws.{front_is_closed, is_in_order, is_of_node}
 use Rattle.rdf_roles.specs.Tables.{IsTableOf, RoleTable}
 use Rattle.tree_stores.specs.declared.fault.TreeFault.{TreeFault}
 use Rattle.tree_stores.specs.declared.fault.TreeFault.TheVariants.{TooDeep, TooHeavy, Memory}
-use Rattle.tree_stores.specs.StoreLaws.{keeps_all, keeps_more}
+use Rattle.tree_stores.proofs.StoreLaws.{keeps_all, keeps_more}
 use Rattle.tree_stores.specs.Stores.{Keeps}
 use Rattle.rdf_nodes.specs.Numbers.{AreKnown, AreNumbered, HaveNone, IsDenotedAs, IsKnown, IsNextOf, IsNodeFault, IsNumbered, IsPassedIn, IsSomeNodeFault}
-use Rattle.rdf_nodes.specs.NumberTableLaws.{set_holds}
+use Rattle.rdf_nodes.proofs.NumberTableLaws.{set_holds}
 use Rattle.rdf_nodes.specs.Operands.{labels, sort_of}
 use Rattle.rdf_nodes.proofs.Below.{passed_below}
 use Rattle.rdf_nodes.proofs.Holding.{numbered_kept}

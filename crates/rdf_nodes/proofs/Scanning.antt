@@ -1,7 +1,7 @@
 -- The search for a cardinality that is too large.
 use Rattle.std.specs.Prelude.{◌≡◌, List, [], ◌∷◌, Contains}
 use Rattle.std.proofs.Common.{inl, inr, sym, subst}
-use Rattle.owl_list.specs.AscendingLaws.{in_cases, in_head, in_none, in_tail}
+use Rattle.owl_list.proofs.AscendingLaws.{in_cases, in_head, in_none, in_tail}
 use Rattle.rdf_graph.specs.declared.triple.Triple.{Triple}
 use Rattle.rdf_nodes.specs.Large.{IsLarge, SomeIsLarge}
 

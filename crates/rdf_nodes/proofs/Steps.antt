@@ -8,7 +8,7 @@ use Rattle.std.specs.declared.result.Result.TheVariants.{Ok, Err}
 use Rattle.std.proofs.lemmas.Bool.{cond-false, cond-true}
 use Rattle.std.proofs.lemmas.Option.{none-some}
 use Rattle.std.proofs.lemmas.List.Elements.{Contains-get_or}
-use Rattle.owl_list.specs.AscendingLaws.{in_map}
+use Rattle.owl_list.proofs.AscendingLaws.{in_map}
 use Rattle.rdf_meaning.specs.declared.row.Row as held
 use Rattle.owl_kind.specs.declared.kind.Kind.{Kind}
 use Rattle.owl_kind.specs.Kinds.{Entity, HasKind}
@@ -27,10 +27,10 @@ use Rattle.rdf_meaning.specs.declared.row.Place.TheVariants.{At}
 use Rattle.rdf_meaning.specs.declared.word.Word.{Word}
 use Rattle.rdf_meaning.specs.declared.word.Word.TheVariants as word
 use Rattle.rdf_meaning.specs.Denotation.{Fits, facet_pair, facets_of, iri_leaf, named, of_node, select, true_literal}
-use Rattle.rdf_meaning.specs.KindLaws.{has_kind_is}
+use Rattle.rdf_meaning.proofs.KindLaws.{has_kind_is}
 use Rattle.rdf_meaning.specs.Nodes.{is_role, nil_iri, of_subject, role_of}
 use Rattle.rdf_rows.specs.Chosen.{facets, objects_with, the_cell, the_only}
-use Rattle.rdf_rows.specs.NodeTripleLaws.{cell_is, chosen_is, facets_are, fits_is, only_is}
+use Rattle.rdf_rows.proofs.NodeTripleLaws.{cell_is, chosen_is, facets_are, fits_is, only_is}
 use Rattle.rdf_rows.specs.Fits.{FitsRow}
 use Rattle.rdf_meaning.specs.Rows.{Row, node_rows, row_seen}
 use Rattle.rdf_roles.specs.Tables.{RoleTable}

@@ -1,13 +1,5 @@
 pub mod Operands
-pub mod OperandLaws
-pub mod OfSortLaws
 pub mod Numbers
 pub mod Large
 pub mod Nodes
-pub mod ExpressionLaws
-pub mod AmongLaws
-pub mod DenotedLaws
-pub mod NumberLaws
 pub mod Duplicates
-pub mod DuplicateLaws
-pub mod NumberTableLaws

@@ -6,19 +6,19 @@ use Rattle.std.specs.List.{AllByRecursion, list_any}
 use Rattle.std.specs.Ordering.{nat_cmp}
 use Rattle.std.proofs.lemmas.Cmp.{nat_cmp_total}
 use Rattle.owl_arena.specs.Held.{AreHeld, node_over, tree_at, trees_at}
-use Rattle.owl_arena.specs.HeldLaws.{below_later}
+use Rattle.owl_arena.proofs.HeldLaws.{below_later}
 use Rattle.owl_arena.specs.Shared.{AreShared}
-use Rattle.owl_list.specs.AscendingLaws.{all_ascending, all_in, ascending_ascends, ascending_holds, from_map, in_head, in_map, in_tail, same_from_equal, same_map, same_trans}
+use Rattle.owl_list.proofs.AscendingLaws.{all_ascending, all_in, ascending_ascends, ascending_holds, from_map, in_head, in_map, in_tail, same_from_equal, same_map, same_trans}
 use Rattle.owl_list.specs.Ascending.{ascending}
 use Rattle.owl_tree.specs.declared.tag.Tag.{Tag}
 use Rattle.owl_tree.specs.declared.tag.Tag.TheVariants as tags
 use Rattle.owl_tree.specs.Canonical.{canonical}
-use Rattle.owl_tree.specs.CanonicalLaws.{ascends_is_canonical}
+use Rattle.owl_tree.proofs.CanonicalLaws.{ascends_is_canonical}
 use Rattle.owl_tree.specs.Order.{tree_cmp}
-use Rattle.owl_tree.specs.TreeLaws.{kids_of_list_of}
+use Rattle.owl_tree.proofs.TreeLaws.{kids_of_list_of}
 use Rattle.owl_tree.specs.Trees.{Tree, leaf, node, no_kids, kid, kids_in, kids_of, list_of, tag_of}
 use Rattle.rdf_normal.specs.Makings.{AreMade, Extends, HasBareForms}
-use Rattle.rdf_normal.specs.NeedlessLaws.{any_if, any_told, bare_canonical, from_filter, in_filter, no_notes_ascend, says_more_if, says_more_told}
+use Rattle.rdf_normal.proofs.NeedlessLaws.{any_if, any_told, bare_canonical, from_filter, in_filter, no_notes_ascend, says_more_if, says_more_told}
 use Rattle.rdf_normal.specs.NormalForms.{bare, is_annotated, is_needless, needed, says_more}
 use Rattle.rdf_normal.specs.OneTriple.{is_one_triple}
 use Rattle.rdf_normal.proofs.Extending.{forms_at, held_later, trees_later}

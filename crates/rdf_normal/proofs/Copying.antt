@@ -5,12 +5,12 @@ use Rattle.std.proofs.lemmas.Option.{none-some, same_Some}
 use Rattle.std.specs.List.{AllByRecursion}
 use Rattle.owl_arena.specs.Growth.{Adds, Lacks}
 use Rattle.owl_arena.specs.Held.{AreHeld, node_over, tree_at, trees_at}
-use Rattle.owl_arena.specs.HeldLaws.{below_later, kids_stay, more_agrees}
+use Rattle.owl_arena.proofs.HeldLaws.{below_later, kids_stay, more_agrees}
 use Rattle.owl_arena.specs.Shared.{AreShared}
 use Rattle.owl_tree.specs.declared.atom.Atom.{Atom}
 use Rattle.owl_tree.specs.declared.tag.Tag.{Tag}
 use Rattle.owl_tree.specs.Canonical.{canonical}
-use Rattle.owl_tree.specs.TreeLaws.{kids_of_list_of}
+use Rattle.owl_tree.proofs.TreeLaws.{kids_of_list_of}
 use Rattle.owl_tree.specs.Trees.{Tree, leaf, node, atom_in, kids_in, kids_of, tag_of}
 use Rattle.rdf_normal.proofs.Extending.{canonical_at}
 

@@ -5,9 +5,9 @@ use Rattle.std.proofs.lemmas.List.{append-nil, append_assoc, length-append, map-
 use Rattle.std.proofs.lemmas.Option.{get_or_from_slice_get, slice_get_within}
 use Rattle.owl_arena.specs.Growth.{Adds}
 use Rattle.owl_arena.specs.Held.{AreHeld, tree_at, trees_at}
-use Rattle.owl_arena.specs.HeldLaws.{entry_at, held_more, kids_canonical, kids_stay, more_agrees}
+use Rattle.owl_arena.proofs.HeldLaws.{entry_at, held_more, kids_canonical, kids_stay, more_agrees}
 use Rattle.owl_arena.specs.Shared.{AreShared}
-use Rattle.owl_list.specs.AscendingLaws.{all_in, all_pushed}
+use Rattle.owl_list.proofs.AscendingLaws.{all_in, all_pushed}
 use Rattle.owl_tree.specs.Canonical.{canonical}
 use Rattle.owl_tree.specs.Trees.{Tree}
 use Rattle.rdf_normal.specs.Makings.{AreMade, Extends, IsMade}

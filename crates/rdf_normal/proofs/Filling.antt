@@ -8,7 +8,7 @@ use Rattle.owl_arena.specs.Held.{tree_at, trees_at}
 use Rattle.owl_arena.specs.Shared.{heaviest}
 use Rattle.owl_doc.specs.Documents.{Document, IsAnnotationAt, IsAxiomAt, total_weight, weight_at, with_axiom, with_import, with_note}
 use Rattle.owl_list.specs.Ascending.{AreApart}
-use Rattle.owl_list.specs.AscendingLaws.{all_in, in_cases, in_map, in_none}
+use Rattle.owl_list.proofs.AscendingLaws.{all_in, in_cases, in_map, in_none}
 use Rattle.owl_tree.specs.Ontologies.{IsAnnotation, IsAxiom}
 use Rattle.owl_tree.specs.Trees.{Tree, weight}
 use Rattle.rdf_normal.specs.Building.{with_axioms, with_imports, with_notes}

@@ -1,10 +1,16 @@
 mod WorkedCases
-pub mod Extending
-pub mod Searched
-pub mod Copying
-pub mod Looping
+pub mod AgainLaws
 pub mod Bare
-pub mod TidyTrees
+pub mod Copying
+pub mod DeclaredLaws
+pub mod Extending
 pub mod Filling
+pub mod Looping
+pub mod NeedlessLaws
+pub mod NormalFormLaws
+pub mod Searched
 pub mod SettleTrees
+pub mod ShapedLaws
+pub mod TidiedLaws
+pub mod TidyTrees
 pub mod Unchanged

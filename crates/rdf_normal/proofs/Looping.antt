@@ -6,7 +6,7 @@ use Rattle.std.proofs.lemmas.Grind.{flat_map-append}
 use Rattle.std.proofs.lemmas.List.{append-nil, append_assoc, get_or-map, get_or_default, length-map, map-append, take-map}
 use Rattle.std.proofs.lemmas.List.Elements.{filter-append}
 use Rattle.owl_arena.specs.Held.{AreHeld, node_over, tree_at, trees_at}
-use Rattle.owl_list.specs.AscendingLaws.{all_pushed}
+use Rattle.owl_list.proofs.AscendingLaws.{all_pushed}
 use Rattle.owl_tree.specs.Canonical.{canonical}
 use Rattle.owl_tree.specs.declared.tag.Tag.{Tag}
 use Rattle.owl_tree.specs.Trees.{Tree, kids_in, tag_of}

@@ -10,7 +10,7 @@ use Rattle.std.proofs.lemmas.List.{get_or_default}
 use Rattle.std.proofs.lemmas.List.Sorted.{searched}
 use Rattle.std.specs.Cmp.{ranked}
 use Rattle.owl_list.specs.Ascending.{IsAscending}
-use Rattle.owl_list.specs.AscendingLaws.{all_in, head_below, tail_ascends}
+use Rattle.owl_list.proofs.AscendingLaws.{all_in, head_below, tail_ascends}
 
 less_is : (a b : ℕ) → nat_cmp a b ≡ Less → a < b
 less_is a b e = ranked a b Less (sym e)

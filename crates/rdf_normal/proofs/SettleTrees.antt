@@ -5,12 +5,12 @@ use Rattle.std.specs.List.{AllByRecursion, sum_by}
 use Rattle.std.proofs.lemmas.List.Kept.{IsStrictlySortedBy-filter}
 use Rattle.std.proofs.lemmas.List.{get_or-map, get_or_default, length-map, map-append}
 use Rattle.owl_arena.specs.Held.{AreHeld, Held, tree_at, trees_at}
-use Rattle.owl_arena.specs.HeldLaws.{below_later}
+use Rattle.owl_arena.proofs.HeldLaws.{below_later}
 use Rattle.owl_arena.specs.Shared.{AreShared}
 use Rattle.owl_doc.specs.Documents.{Document, IsDocument, ontology_of, weight_at}
 use Rattle.owl_doc.specs.Heads.{iri_in, name_of}
 use Rattle.owl_list.specs.Ascending.{AreApart, IsAscending, ascending}
-use Rattle.owl_list.specs.AscendingLaws.{all_in, apart_from_ascending, ascending_again, ascending_ascends, in_map}
+use Rattle.owl_list.proofs.AscendingLaws.{all_in, apart_from_ascending, ascending_again, ascending_ascends, in_map}
 use Rattle.owl_tree.specs.Canonical.{canonical}
 use Rattle.owl_tree.specs.Ontologies.{Ontology, canonical_head, canonical_list, canonical_ontology, list_weight, ontology_weight}
 use Rattle.owl_tree.specs.Order.{tree_cmp}

@@ -9,11 +9,11 @@ use Rattle.std.proofs.lemmas.Option.{none-some}
 use Rattle.owl_arena.specs.Held.{AreHeld, node_over, tree_at, trees_at}
 use Rattle.owl_arena.specs.Shared.{AreShared}
 use Rattle.owl_list.specs.Ascending.{ascending}
-use Rattle.owl_list.specs.AscendingLaws.{all_in, ascending_again, ascending_ascends}
+use Rattle.owl_list.proofs.AscendingLaws.{all_in, ascending_again, ascending_ascends}
 use Rattle.owl_tree.specs.declared.tag.Tag.{Tag}
 use Rattle.owl_tree.specs.declared.tag.Tag.TheVariants as tags
 use Rattle.owl_tree.specs.Canonical.{arranged, canonical}
-use Rattle.owl_tree.specs.CanonicalLaws.{node_of_forms}
+use Rattle.owl_tree.proofs.CanonicalLaws.{node_of_forms}
 use Rattle.owl_tree.specs.Order.{tree_cmp}
 use Rattle.owl_tree.specs.OrderLaws.{same_number, only_equal_trees_tie, trees_total}
 use Rattle.owl_tree.specs.Rows.{is_tag, row_of, set_start}
@@ -22,7 +22,7 @@ use Rattle.owl_tree.specs.Trees.{Tree, leaf, node, atom_in, kids_in, tag_of}
 use Rattle.rdf_normal.specs.Makings.{AreMade, IsMade, image}
 use Rattle.rdf_normal.specs.NormalForms.{is_needless, needed, needed_in, over, tidied}
 use Rattle.rdf_normal.proofs.Extending.{are_made_at, forms_at, made_at, made_more, tree_later}
-use Rattle.rdf_normal.specs.TidiedLaws.{tidieds_map}
+use Rattle.rdf_normal.proofs.TidiedLaws.{tidieds_map}
 
 -- a leaf stays
 pub leaf_tidied : (t : Tree) → (None ≡ atom_in t → ⊥) → t ≡ tidied t

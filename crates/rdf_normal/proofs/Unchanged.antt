@@ -9,25 +9,26 @@ use Rattle.owl_arena.specs.Shared.{AreShared, heaviest}
 use Rattle.owl_doc.specs.Documents.{Document, IsDocument, ontology_of}
 use Rattle.owl_doc.specs.Heads.{iri_in}
 use Rattle.owl_list.specs.Ascending.{ascending}
-use Rattle.owl_list.specs.AscendingLaws.{all_in, all_later, ascending_again, ascending_ascends}
+use Rattle.owl_list.proofs.AscendingLaws.{all_in, all_later, ascending_again, ascending_ascends}
 use Rattle.owl_tree.specs.declared.tag.Tag.{Tag}
 use Rattle.owl_tree.specs.declared.tag.Tag.TheVariants as tags
 use Rattle.owl_tree.specs.Canonical.{arranged, canonical, canonicals}
-use Rattle.owl_tree.specs.EquivalenceLaws.{canonicals_map}
+use Rattle.owl_tree.proofs.EquivalenceLaws.{canonicals_map}
 use Rattle.owl_tree.specs.Ontologies.{Ontology, canonical_list, canonical_ontology, ontology_weight}
 use Rattle.owl_tree.specs.Order.{tree_cmp}
 use Rattle.owl_tree.specs.OrderLaws.{only_equal_trees_tie, trees_total}
 use Rattle.owl_tree.specs.Rows.{is_tag, row_of, set_start}
-use Rattle.owl_tree.specs.TreeLaws.{kids_of_list_of, list_of_kids_of}
+use Rattle.owl_tree.proofs.TreeLaws.{kids_of_list_of, list_of_kids_of}
 use Rattle.owl_tree.specs.Trees.{Tree, Kids, leaf, node, kids_in, list_of, tag_of}
 use Rattle.rdf_normal.proofs.Bare.{kids_held}
 use Rattle.rdf_normal.proofs.Extending.{canonical_at, forms_at}
-use Rattle.rdf_normal.specs.AgainLaws.{IsPlain, flat_same, none_pass}
-use Rattle.rdf_normal.specs.NeedlessLaws.{all_pass, any_told, not_false, says_more_told, second_of}
+use Rattle.rdf_normal.specs.Tidied.{IsPlain}
+use Rattle.rdf_normal.proofs.AgainLaws.{flat_same, none_pass}
+use Rattle.rdf_normal.proofs.NeedlessLaws.{all_pass, any_told, not_false, says_more_told, second_of}
 use Rattle.rdf_normal.specs.NormalForms.{absorbed_count, annotation_of, is_about, is_needless, needed, needed_in, normal_form, over, own_assertions, says_more, settled, spread, spread_axioms, tidied, unsettled_annotations, unsettled_axioms}
 use Rattle.rdf_normal.specs.OneTriple.{is_one_triple}
 use Rattle.rdf_normal.specs.Staying.{IsBare, IsKept, StayTidied}
-use Rattle.rdf_normal.specs.TidiedLaws.{tidieds_map}
+use Rattle.rdf_normal.proofs.TidiedLaws.{tidieds_map}
 
 -- Trees that stay when they are tidied.
 

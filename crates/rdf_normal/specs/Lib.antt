@@ -1,12 +1,7 @@
 pub mod OneTriple
 pub mod NormalForms
 pub mod Makings
-pub mod NormalFormLaws
-pub mod DeclaredLaws
-pub mod TidiedLaws
-pub mod AgainLaws
-pub mod ShapedLaws
 pub mod Results
 pub mod Building
-pub mod NeedlessLaws
 pub mod Staying
+pub mod Tidied

@@ -2,7 +2,7 @@
 use Rattle.std.specs.Prelude.{◌≡◌, ◌<◌, ℕ, false, List, Option}
 use Rattle.owl_arena.specs.Held.{tree_at}
 use Rattle.owl_tree.specs.Trees.{Tree}
-use Rattle.rdf_normal.specs.AgainLaws.{IsPlain}
+use Rattle.rdf_normal.specs.Tidied.{IsPlain}
 use Rattle.rdf_normal.specs.NormalForms.{is_about, is_annotated, tidied}
 
 -- the first so many trees stay when they are tidied

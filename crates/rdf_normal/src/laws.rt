@@ -8,7 +8,7 @@ ghost use Rattle.owl_tree.specs.declared.tag.Tag.{Tag};
 ghost use Rattle.owl_tree.specs.Ontologies.{IsOntology, Ontology};
 ghost use Rattle.owl_tree.specs.Trees.{Tree};
 ghost use Rattle.rdf_normal.specs.NormalForms.{normal_form, tidied, unsettled_annotations, unsettled_axioms};
-ghost use Rattle.rdf_normal.specs.NormalFormLaws.{HasLeafIn, IsSaidFully, IsTidiedOf};
+ghost use Rattle.rdf_normal.specs.Tidied.{HasLeafIn, IsSaidFully, IsTidiedOf};
 
 /// Laws: each axiom that stands behind the third step is in the normal form when
 /// it is tidied, or is bare and another one there says it with annotations; and

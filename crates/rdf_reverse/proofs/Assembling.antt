@@ -8,17 +8,17 @@ use Rattle.owl_assembly.specs.Assembled.{assembled}
 use Rattle.owl_doc.specs.declared.head.Head as held
 use Rattle.owl_doc.specs.Heads.{head_of}
 use Rattle.owl_kind.specs.Kinds.{Entity}
-use Rattle.owl_list.specs.AscendingLaws.{hold_same}
+use Rattle.owl_list.proofs.AscendingLaws.{hold_same}
 use Rattle.owl_tree.specs.Canonical.{canonical}
-use Rattle.owl_tree.specs.CanonicalLaws.{forms_again}
+use Rattle.owl_tree.proofs.CanonicalLaws.{forms_again}
 use Rattle.owl_tree.specs.Ontologies.{HoldEquivalent, IsSameOntology, Ontology, canonical_ontology, ontology_weight}
-use Rattle.owl_tree.specs.OntologyLaws.{canonical_same_ontology, equivalent_lists, same_ontology_sym, same_ontology_trans, same_ontology_weight}
+use Rattle.owl_tree.proofs.OntologyLaws.{canonical_same_ontology, equivalent_lists, same_ontology_sym, same_ontology_trans, same_ontology_weight}
 use Rattle.owl_list.specs.Ascending.{ascending}
 use Rattle.owl_tree.specs.Order.{tree_cmp}
 use Rattle.owl_tree.specs.Trees.{Tree}
 use Rattle.rdf_graph.specs.declared.triple.Triple.{Triple}
-use Rattle.rdf_meaning.specs.ListLaws.{same_only}
-use Rattle.rdf_meaning.specs.StatementLaws.{one_ontology}
+use Rattle.rdf_meaning.proofs.ListLaws.{same_only}
+use Rattle.rdf_meaning.proofs.StatementLaws.{one_ontology}
 use Rattle.rdf_meaning.specs.Statements.{IsWhole, Says}
 use Rattle.rdf_scans.specs.declared.reading.Reading.{Reading}
 use Rattle.rdf_scans.specs.Outlines.{IsHeadAt}

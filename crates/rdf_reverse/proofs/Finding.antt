@@ -10,9 +10,9 @@ use Rattle.rdf_graph.specs.declared.triple.Triple.{Triple}
 use Rattle.rdf_meaning.specs.Kinds.{HaveNoClash}
 use Rattle.rdf_meaning.specs.Statements.{headers}
 use Rattle.rdf_faults.specs.Faults.{IsBadHeader, IsOfNothing, IsOrphan, IsReservedTriple, IsUntypedPart, IsUntypedStatement}
-use Rattle.rdf_faults.specs.FirstLaws.{first_is_one}
+use Rattle.rdf_faults.proofs.FirstLaws.{first_is_one}
 use Rattle.rdf_faults.specs.Firsts.{HoldsForNone, IsFirst}
-use Rattle.rdf_roles.specs.FirstLaws.{first_at}
+use Rattle.rdf_roles.proofs.FirstLaws.{first_at}
 use Rattle.rdf_roles.specs.Refusals.{AreNodesFormed, IsFirstNode, IsFirstUntyped, IsNodeFault}
 use Rattle.rdf_roles.specs.Tables.{blank_nodes}
 use Rattle.rdf_roles.specs.declared.fault.NodeFault.{NodeFault}
@@ -27,7 +27,7 @@ use Rattle.rdf_reverse.specs.declared.fault.ReverseFault.{ReverseFault}
 use Rattle.rdf_reverse.specs.declared.fault.ReverseFault.TheVariants.{TwoKinds, Mixed, BadList, Cycle, BadNode, MainMissing, Reserved, Orphan, Untyped}
 use Rattle.rdf_reverse.specs.Faults.{node_fault, outline_fault}
 use Rattle.rdf_reverse.specs.Reverse.{Finds, FindsFirst, FindsNothing, IsFoundBy, IsReverseFault, no_header, two_headers, bad_header, Step, of_kinds, of_header, of_nodes, of_reifications, of_names, of_reach, of_parts, of_statements, limits, scanning, typing}
-use Rattle.rdf_reverse.specs.ReverseLaws.{none_or_one, one_or_two, same_header}
+use Rattle.rdf_reverse.proofs.ReverseLaws.{none_or_one, one_or_two, same_header}
 
 module _ (g : List Triple) (k : List Entity) where
   -- steps that find nothing

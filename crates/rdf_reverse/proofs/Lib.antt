@@ -2,3 +2,8 @@ mod Assembling
 mod Finding
 mod Limiting
 mod Tagging
+pub mod DeclaringLaws
+pub mod HeightLaws
+pub mod ReverseLaws
+pub mod SumLaws
+pub mod WithinLaws

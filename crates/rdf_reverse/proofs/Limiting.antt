@@ -14,8 +14,8 @@ use Rattle.rdf_graph.specs.declared.triple.Triple.{Triple}
 use Rattle.rdf_meaning.specs.Statements.{headers}
 use Rattle.rdf_scans.specs.declared.reading.Reading.{Reading}
 use Rattle.rdf_statements.specs.GraphTrees.{IsHeldWithin, IsTreeOf}
-use Rattle.rdf_statements.specs.PartLaws.{part_depth, part_weight}
-use Rattle.tree_stores.specs.StoreLaws.{shallow_tree}
+use Rattle.rdf_statements.proofs.PartLaws.{part_depth, part_weight}
+use Rattle.tree_stores.proofs.StoreLaws.{shallow_tree}
 use Rattle.tree_stores.specs.Stores.{HasDepth, HasNumber, HaveManyKids, IsDeep, IsHeavy, IsSmall, StandFor}
 use Rattle.rdf_reverse.specs.declared.fault.ReverseFault.{ReverseFault}
 use Rattle.rdf_reverse.specs.declared.fault.ReverseFault.TheVariants.{TooDeep, TooHeavy}
@@ -24,8 +24,8 @@ use Rattle.rdf_nodes.specs.Large.{HasLargeNumber}
 use Rattle.rdf_reverse.specs.Clear.{IsClear, clear_header, clear_says}
 use Rattle.rdf_reverse.specs.Limits.{AreShallow, AreWithin}
 use Rattle.rdf_reverse.specs.Reverse.{FindsNothing, HasDeepTree, HasHeavyTree, IsFoundBy, limits, of_depths, of_tree}
-use Rattle.rdf_reverse.specs.SumLaws.{many_are_heavy}
-use Rattle.rdf_reverse.specs.ReverseLaws.{same_header}
+use Rattle.rdf_reverse.proofs.SumLaws.{many_are_heavy}
+use Rattle.rdf_reverse.proofs.ReverseLaws.{same_header}
 
 -- the numbers of trees are there
 pub numbers_held : (trees ts : List Tree) (ids : List ℕ) → StandFor (HasNumber trees) ts ids → AreHeld trees ids

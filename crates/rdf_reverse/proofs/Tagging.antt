@@ -7,18 +7,18 @@ use Rattle.std.proofs.lemmas.Option.{get_or_from_slice_get}
 use Rattle.owl_arena.specs.Held.{trees_at}
 use Rattle.owl_assembly.specs.Filling.{AreAnnotations, AreAxioms}
 use Rattle.owl_kind.specs.Kinds.{Entity}
-use Rattle.owl_list.specs.AscendingLaws.{in_head, in_tail}
+use Rattle.owl_list.proofs.AscendingLaws.{in_head, in_tail}
 use Rattle.owl_tree.specs.Canonical.{canonical}
-use Rattle.owl_tree.specs.CanonicalLaws.{canonical_tag}
+use Rattle.owl_tree.proofs.CanonicalLaws.{canonical_tag}
 use Rattle.owl_tree.specs.declared.tag.Tag.{Tag}
 use Rattle.owl_tree.specs.declared.tag.Tag.TheVariants as tag
 use Rattle.owl_tree.specs.Tags.{is_axiom, number_of}
 use Rattle.owl_tree.specs.Trees.{Tree, tag_of}
 use Rattle.rdf_graph.specs.declared.triple.Triple.{Triple}
-use Rattle.rdf_meaning.specs.AxiomLaws.{axioms_of_nodes, axioms_of_triples, notes_of_triples}
+use Rattle.rdf_meaning.proofs.AxiomLaws.{axioms_of_nodes, axioms_of_triples, notes_of_triples}
 use Rattle.rdf_meaning.specs.Denotation.{Bearer}
 use Rattle.rdf_meaning.specs.Kinds.{HaveNoClash}
-use Rattle.rdf_meaning.specs.ListLaws.{passes}
+use Rattle.rdf_meaning.proofs.ListLaws.{passes}
 use Rattle.rdf_meaning.specs.Nodes.{nodes_of}
 use Rattle.rdf_meaning.specs.Rows.{axiom_rows}
 use Rattle.rdf_meaning.specs.Statements.{IsAxiomWith, header_notes, main_triples}

@@ -2,26 +2,26 @@
 use Rattle.std.specs.Prelude.{◌≡◌, ℕ, IsTrue, List, Contains}
 use Rattle.std.proofs.Common.{sym, ◌∙◌, subst}
 use Rattle.owl_kind.specs.Kinds.{Entity}
-use Rattle.owl_list.specs.AscendingLaws.{all_in}
+use Rattle.owl_list.proofs.AscendingLaws.{all_in}
 use Rattle.owl_tree.specs.Ontologies.{Ontology}
 use Rattle.rdf_graph.specs.declared.term.Term.{Term}
 use Rattle.rdf_graph.specs.declared.term.Term.TheVariants.{Blank}
 use Rattle.rdf_graph.specs.declared.triple.Triple.{Triple}
 use Rattle.rdf_meaning.specs.Kinds.{HaveNoClash}
-use Rattle.owl_list.specs.FilterLaws.{from_filter}
+use Rattle.owl_list.proofs.FilterLaws.{from_filter}
 use Rattle.rdf_meaning.specs.Nodes.{role_of}
-use Rattle.rdf_meaning.specs.ListLaws.{same_only}
+use Rattle.rdf_meaning.proofs.ListLaws.{same_only}
 use Rattle.rdf_meaning.specs.Statements.{HasAxiom, IsPartOfAxiom, Says, is_annotation_triple, main_triples}
 use Rattle.rdf_annotations.specs.Held.{AreTypedNotes}
 use Rattle.rdf_faults.specs.Asked.{IsTypedNote}
-use Rattle.rdf_faults.specs.ConverseLaws.{faultless_says}
+use Rattle.rdf_faults.proofs.ConverseLaws.{faultless_says}
 use Rattle.rdf_faults.specs.Faultless.{IsFaultless}
 use Rattle.rdf_faults.specs.Faults.{IsBadCell, IsBadHeader, IsBadNode, IsCyclic, IsMixed, IsOfNothing, IsOrphan, IsReservedTriple, IsUntypedPart, IsUntypedStatement, no_axiom, no_note}
 use Rattle.rdf_faults.specs.Firsts.{HoldsForNone}
-use Rattle.rdf_faults.specs.NoteLaws.{note_typed}
-use Rattle.rdf_faults.specs.MeantLaws.{node_axiom, node_meant, triple_axiom}
-use Rattle.rdf_nodes.specs.AmongLaws.{cell_among, cyclic_among, mixed_among, node_among, none_of, with_role}
-use Rattle.rdf_nodes.specs.ExpressionLaws.{expression_is_part, meant_denotes}
+use Rattle.rdf_faults.proofs.NoteLaws.{note_typed}
+use Rattle.rdf_faults.proofs.MeantLaws.{node_axiom, node_meant, triple_axiom}
+use Rattle.rdf_nodes.proofs.AmongLaws.{cell_among, cyclic_among, mixed_among, node_among, none_of, with_role}
+use Rattle.rdf_nodes.proofs.ExpressionLaws.{expression_is_part, meant_denotes}
 use Rattle.rdf_nodes.specs.Large.{HasLargeNumber}
 use Rattle.rdf_nodes.specs.Numbers.{DenoteTrees}
 use Rattle.rdf_roles.specs.Tables.{blank_nodes}

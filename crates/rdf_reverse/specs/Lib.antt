@@ -1,10 +1,5 @@
 pub mod Reverse
-pub mod ReverseLaws
 pub mod Faults
 pub mod Clear
 pub mod Limits
-pub mod WithinLaws
-pub mod DeclaringLaws
-pub mod SumLaws
 pub mod Heights
-pub mod HeightLaws

@@ -7,26 +7,26 @@ use Rattle.std.proofs.lemmas.List.{get_or-set_same, get_or-set_other, length-set
 use Rattle.std.proofs.lemmas.List.Sorted.{Contains-permutation}
 use Rattle.std.proofs.lemmas.Option.{same_Some, slice_get_within}
 use Rattle.directed_graphs.specs.Cycles.{StandBehind}
-use Rattle.directed_graphs.specs.CycleLaws.{in_range}
-use Rattle.owl_list.specs.AscendingLaws.{all_in, in_cases, in_head, in_none, in_tail}
+use Rattle.directed_graphs.proofs.CycleLaws.{in_range}
+use Rattle.owl_list.proofs.AscendingLaws.{all_in, in_cases, in_head, in_none, in_tail}
 use Rattle.rdf_graph.specs.declared.term.Term.{Term}
 use Rattle.rdf_graph.specs.declared.term.Term.TheVariants.{Blank}
 use Rattle.rdf_graph.specs.declared.triple.Triple.{Triple}
 use Rattle.rdf_meaning.specs.declared.role.Role.TheVariants as role
 use Rattle.rdf_meaning.specs.declared.word.Word.TheVariants as word
-use Rattle.rdf_meaning.specs.ListLaws.{same_only}
+use Rattle.rdf_meaning.proofs.ListLaws.{same_only}
 use Rattle.rdf_meaning.specs.Nodes.{carries, chosen, is_own, is_structural, of_subject, role_of, words_of}
-use Rattle.rdf_meaning.specs.NodeLaws.{from_chosen}
+use Rattle.rdf_meaning.proofs.NodeLaws.{from_chosen}
 use Rattle.rdf_meaning.specs.Statements.{IsCell}
 use Rattle.rdf_faults.specs.Faults.{IsBadCell}
 use Rattle.rdf_faults.specs.Formed.{HasLength, IsFormedAs, no_element, one_more}
 use Rattle.rdf_rows.specs.Chosen.{the_cell}
-use Rattle.rdf_rows.specs.NodeTripleLaws.{cell_is, chosen_is}
+use Rattle.rdf_rows.proofs.NodeTripleLaws.{cell_is, chosen_is}
 use Rattle.rdf_roles.specs.Lengths.{AreKnownBelow, AreLengths, HasLengthAt, IsKnown, IsLength}
 use Rattle.rdf_roles.specs.OrderLaws.{is_node}
 use Rattle.rdf_roles.specs.Refusals.{HaveCells}
 use Rattle.rdf_roles.specs.Tables.{AreEdges, IsNodeOrder, LeadsBetween, blank_nodes}
-use Rattle.rdf_roles.specs.WayLaws.{numbered_by_role}
+use Rattle.rdf_roles.proofs.WayLaws.{numbered_by_role}
 use Rattle.rdf_roles.proofs.CellTriples.{no_cell}
 use Rattle.rdf_roles.proofs.Down.{at_place}
 use Rattle.rdf_roles.proofs.NotedUnder.{same_or_not}

@@ -12,10 +12,10 @@ use Rattle.rdf_meaning.specs.Statements.{IsCell}
 use Rattle.rdf_faults.specs.Faults.{IsBadCell}
 use Rattle.rdf_faults.specs.Formed.{IsFormedAs}
 use Rattle.rdf_rows.specs.Chosen.{the_cell}
-use Rattle.rdf_rows.specs.NodeTripleLaws.{cell_is, chosen_is}
+use Rattle.rdf_rows.proofs.NodeTripleLaws.{cell_is, chosen_is}
 use Rattle.rdf_roles.specs.declared.fault.NodeFault.{NodeFault}
 use Rattle.rdf_roles.specs.declared.fault.NodeFault.TheVariants.{Mixed, BadList, Cycle, BadNode, Memory}
-use Rattle.rdf_roles.specs.FirstLaws.{HoldsNowhereBelow, first_at}
+use Rattle.rdf_roles.proofs.FirstLaws.{HoldsNowhereBelow, first_at}
 use Rattle.rdf_roles.specs.Refusals.{HaveOneRole, IsBadListAt, IsNodeFault}
 use Rattle.rdf_roles.specs.Tables.{blank_nodes}
 

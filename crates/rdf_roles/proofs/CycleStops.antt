@@ -6,7 +6,7 @@ use Rattle.rdf_roles.specs.declared.fault.NodeFault.{NodeFault}
 use Rattle.rdf_roles.specs.declared.fault.NodeFault.TheVariants.{Mixed, BadList, Cycle, BadNode, Memory}
 use Rattle.rdf_roles.specs.Refusals.{HaveCells, HaveOneRole, IsCycleAt, IsNodeFault}
 use Rattle.rdf_roles.specs.Tables.{AreEdges}
-use Rattle.rdf_roles.specs.WayLaws.{first_cycle}
+use Rattle.rdf_roles.proofs.WayLaws.{first_cycle}
 
 pub cycle_stops : (g : List Triple) (edges : List (List ℕ)) (number : ℕ) → HaveOneRole g → HaveCells g → AreEdges g edges → IsFirstOnCycle edges number
     → (fault : NodeFault) → IsCycleAt g number fault → IsNodeFault g fault

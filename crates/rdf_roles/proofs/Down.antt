@@ -8,14 +8,14 @@ use Rattle.std.proofs.lemmas.Option.{same_Some, slice_get_within}
 use Rattle.std.proofs.Math.ListN.{get_or-eq_default}
 use Rattle.directed_graphs.specs.Cycles.{successors}
 use Rattle.owl_list.specs.Ascending.{AreApart}
-use Rattle.owl_list.specs.AscendingLaws.{in_cases, in_head, in_none, in_tail}
+use Rattle.owl_list.proofs.AscendingLaws.{in_cases, in_head, in_none, in_tail}
 use Rattle.rdf_graph.specs.declared.term.Term.{Term}
 use Rattle.rdf_graph.specs.declared.term.Term.TheVariants.{Blank}
 use Rattle.rdf_graph.specs.declared.triple.Triple.{Triple}
 use Rattle.rdf_meaning.specs.declared.role.Role.{Role}
 use Rattle.rdf_meaning.specs.declared.role.Role.TheVariants as role
 use Rattle.rdf_meaning.specs.Nodes.{is_own, is_structural, of_subject, role_of}
-use Rattle.rdf_meaning.specs.NodeLaws.{from_subject, in_subject}
+use Rattle.rdf_meaning.proofs.NodeLaws.{from_subject, in_subject}
 use Rattle.rdf_meaning.specs.Statements.{IsDirectlyBelow}
 use Rattle.rdf_roles.specs.Tables.{IsNode, IsNumber, blank_nodes}
 use Rattle.rdf_roles.specs.Ways.{AddsObjects, AreWays, AreWaysDown, HaveWaysDown, IsObjectIn}

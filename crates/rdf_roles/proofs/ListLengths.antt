@@ -3,7 +3,7 @@ use Rattle.std.specs.Prelude.{◌≡◌, ◌↔◌, ◌<◌, ℕ, suc, Bool, tru
 use Rattle.std.specs.List.{AllByRecursion}
 use Rattle.std.proofs.Common.{inl, inr, refl, sym, ap, ◌∙◌, subst}
 use Rattle.std.proofs.lemmas.Bool.{both_ways, cases_lt, le-ltb, lt-ltb}
-use Rattle.owl_list.specs.AscendingLaws.{in_cases, in_head, in_tail}
+use Rattle.owl_list.proofs.AscendingLaws.{in_cases, in_head, in_tail}
 use Rattle.owl_tree.specs.declared.row.Sort.{Sort}
 use Rattle.owl_tree.specs.declared.row.Sort.TheVariants as sort
 use Rattle.rdf_graph.specs.declared.term.Term.{Term}
@@ -12,12 +12,12 @@ use Rattle.rdf_graph.specs.declared.triple.Triple.{Triple}
 use Rattle.rdf_meaning.specs.declared.role.Role.{Role}
 use Rattle.rdf_meaning.specs.declared.role.Role.TheVariants as role
 use Rattle.rdf_meaning.specs.declared.row.Want.TheVariants.{One}
-use Rattle.rdf_meaning.specs.ListLaws.{same_only}
+use Rattle.rdf_meaning.proofs.ListLaws.{same_only}
 use Rattle.rdf_meaning.specs.Nodes.{nil_iri, of_subject, role_of}
 use Rattle.rdf_meaning.specs.Rows.{Row}
 use Rattle.rdf_faults.specs.Formed.{HasForm, HasFormAt, HasFormedRow, HasLength, IsShort, no_element, one_more}
 use Rattle.rdf_rows.specs.Fits.{FitsRow}
-use Rattle.rdf_rows.specs.NodeTripleLaws.{chosen_is, fits_is}
+use Rattle.rdf_rows.proofs.NodeTripleLaws.{chosen_is, fits_is}
 use Rattle.rdf_rows.specs.Chosen.{objects_with}
 use Rattle.rdf_meaning.specs.declared.row.Part.{Part}
 use Rattle.rdf_meaning.specs.declared.row.Place.TheVariants.{At}
@@ -25,7 +25,7 @@ use Rattle.rdf_meaning.specs.declared.word.Word.{Word}
 use Rattle.rdf_meaning.specs.Denotation.{Fits, of_node, select}
 use Rattle.rdf_roles.specs.Lengths.{AreLengths, IsFormedBy, IsSeen}
 use Rattle.rdf_roles.specs.Tables.{IsNode, IsNumber}
-use Rattle.rdf_roles.specs.WayLaws.{numbered_by_role}
+use Rattle.rdf_roles.proofs.WayLaws.{numbered_by_role}
 
 nil_is_no_cell : (g : List Triple) (x : Term) → x ≡ Iri nil_iri → role_of g x ≡ role.List → ⊥
 nil_is_no_cell g x e is = let same : role.Individual ≡ role.List = sym (ap (role_of g) e) ∙ is in cc

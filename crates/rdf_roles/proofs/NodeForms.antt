@@ -11,10 +11,10 @@ use Rattle.rdf_meaning.specs.Nodes.{of_subject, role_of}
 use Rattle.rdf_faults.specs.Faults.{IsBadNode}
 use Rattle.rdf_faults.specs.Formed.{IsFormedAs}
 use Rattle.rdf_rows.specs.Chosen.{IsReificationOf, facets, the_only}
-use Rattle.rdf_rows.specs.NodeTripleLaws.{facets_are, reification_is}
+use Rattle.rdf_rows.proofs.NodeTripleLaws.{facets_are, reification_is}
 use Rattle.rdf_roles.specs.declared.fault.NodeFault.{NodeFault}
 use Rattle.rdf_roles.specs.declared.fault.NodeFault.TheVariants.{Mixed, BadList, Cycle, BadNode, Memory}
-use Rattle.rdf_roles.specs.FirstLaws.{HoldsNowhereBelow, first_at}
+use Rattle.rdf_roles.proofs.FirstLaws.{HoldsNowhereBelow, first_at}
 use Rattle.rdf_roles.specs.Refusals.{HaveCells, HaveNoCycle, HaveOneRole, IsBadNodeAt, IsNodeFault}
 use Rattle.rdf_roles.specs.Tables.{blank_nodes}
 

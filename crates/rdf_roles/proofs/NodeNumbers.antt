@@ -10,13 +10,13 @@ use Rattle.std.proofs.lemmas.Slice.Eq.{bytes_eq-Decides}
 use Rattle.std.proofs.Math.ListN.{get_or}
 use Rattle.indexmap.proofs.MapLemmas.{Missing-position}
 use Rattle.owl_characters.specs.Order.{text_eq}
-use Rattle.owl_list.specs.AscendingLaws.{in_cases, in_none}
+use Rattle.owl_list.proofs.AscendingLaws.{in_cases, in_none}
 use Rattle.rdf_graph.specs.declared.term.Term.{Term}
 use Rattle.rdf_graph.specs.declared.term.Term.TheVariants.{Blank}
 use Rattle.rdf_graph.specs.declared.triple.Triple.{Triple}
 use Rattle.rdf_meaning.specs.declared.role.Role.{Role}
 use Rattle.rdf_meaning.specs.Nodes.{role_of}
-use Rattle.rdf_roles.specs.NodeLaws.{same_label, table_is}
+use Rattle.rdf_roles.proofs.NodeLaws.{same_label, table_is}
 use Rattle.rdf_roles.specs.Tables.{HasNumber, IsNodeAt, IsNumber, blank_nodes, table_of, with_role}
 use Rattle.rdf_roles.proofs.Down.{at_place}
 use Rattle.rdf_roles.proofs.Walk.{names_are}

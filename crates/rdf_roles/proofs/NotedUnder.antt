@@ -9,17 +9,17 @@ use Rattle.std.proofs.lemmas.Option.{same_Some, slice_get_within}
 use Rattle.std.proofs.lemmas.Bool.Decides.{eqb_tells}
 use Rattle.std.specs.declared.vec.Vec.{Vec}
 use Rattle.directed_graphs.specs.Cycles.{edges_of, successors}
-use Rattle.directed_graphs.specs.CycleLaws.{graph_size}
-use Rattle.owl_list.specs.AscendingLaws.{in_cases, in_head, in_none, in_tail}
+use Rattle.directed_graphs.proofs.CycleLaws.{graph_size}
+use Rattle.owl_list.proofs.AscendingLaws.{in_cases, in_head, in_none, in_tail}
 use Rattle.rdf_graph.specs.declared.term.Term.{Term}
 use Rattle.rdf_graph.specs.declared.term.Term.TheVariants.{Blank, Iri}
 use Rattle.rdf_graph.specs.declared.triple.Triple.{Triple}
 use Rattle.rdf_meaning.specs.declared.role.Role.TheVariants as role
 use Rattle.rdf_meaning.specs.declared.word.Word.TheVariants as word
-use Rattle.owl_list.specs.FilterLaws.{from_filter, in_filter}
-use Rattle.rdf_meaning.specs.ListLaws.{some_passes}
+use Rattle.owl_list.proofs.FilterLaws.{from_filter, in_filter}
+use Rattle.rdf_meaning.proofs.ListLaws.{some_passes}
 use Rattle.rdf_meaning.specs.Nodes.{chosen, is_own, is_same, is_structural, of_subject, role_of}
-use Rattle.rdf_meaning.specs.NodeLaws.{from_subject, same_term}
+use Rattle.rdf_meaning.proofs.NodeLaws.{from_subject, same_term}
 use Rattle.rdf_meaning.specs.Statements.{IsDirectlyNotedUnder, notes_of, reifies}
 use Rattle.rdf_rows.specs.Chosen.{objects_with}
 use Rattle.rdf_roles.specs.Tables.{AreEdges, IsNode, IsNumber, LeadsBetween, blank_nodes}

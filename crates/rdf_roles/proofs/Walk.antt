@@ -13,23 +13,23 @@ use Rattle.std.proofs.lemmas.List.Elements.{Contains-append_left, Contains-appen
 use Rattle.std.proofs.lemmas.Slice.Eq.{bytes_eq-Decides}
 use Rattle.owl_characters.specs.Order.{text_eq}
 use Rattle.owl_list.specs.Ascending.{AreApart, IsAscending, by_order}
-use Rattle.owl_list.specs.AscendingLaws.{ascending_apart, head_below, in_cases, in_head, in_tail, tail_ascends}
+use Rattle.owl_list.proofs.AscendingLaws.{ascending_apart, head_below, in_cases, in_head, in_tail, tail_ascends}
 use Rattle.rdf_graph.specs.contracts.term.TermOrd.TheImpl.Laws as term_laws
 use Rattle.rdf_graph.specs.contracts.term.TermPartialEq.TheImpl as equal_terms
 use Rattle.rdf_graph.specs.declared.term.Term.{Term}
 use Rattle.rdf_graph.specs.declared.term.Term.TheVariants.{Iri, Blank, Literal}
 use Rattle.rdf_graph.specs.declared.triple.Triple.{Triple}
 use Rattle.rdf_graph.specs.Terms.{term_cmp, triple_cmp}
-use Rattle.rdf_graph.specs.TermLaws.{only_equal_terms_tie, same_order, terms_total}
+use Rattle.rdf_graph.proofs.TermLaws.{only_equal_terms_tie, same_order, terms_total}
 use Rattle.rdf_meaning.specs.declared.role.Role.{Role}
 use Rattle.rdf_meaning.specs.Nodes.{first_role, is_mixed, is_same, of_subject, role_of, roles_of, subjects_of}
 use Rattle.rdf_rows.specs.Roles.{roles_in}
-use Rattle.rdf_meaning.specs.NodeLaws.{own_term, same_term}
+use Rattle.rdf_meaning.proofs.NodeLaws.{own_term, same_term}
 use Rattle.rdf_faults.specs.Faults.{IsMixed}
 use Rattle.rdf_faults.specs.Firsts.{HoldsForNone}
 use Rattle.rdf_roles.specs.declared.fault.NodeFault.{NodeFault}
 use Rattle.rdf_roles.specs.declared.fault.NodeFault.TheVariants.{Mixed, BadList, Cycle, BadNode, Memory}
-use Rattle.rdf_roles.specs.NodeLaws.{from_labels}
+use Rattle.rdf_roles.proofs.NodeLaws.{from_labels}
 use Rattle.rdf_roles.specs.Refusals.{HaveOneRole, IsMixedFault, IsNodeFault}
 use Rattle.rdf_roles.specs.Tables.{IsNew, begins_with, blank_nodes, labels_in, table_of, with_role}
 
@@ -109,7 +109,7 @@ unfolding blank_nodes
 blank_nodes_apart g = apart_labels (subjects_of g) (ascending_apart term_cmp terms_total (map (λ t. t.subject) g))
 
 apart_parts : {X : Type 0} (xs ys : List X) (x : X) → AreApart (xs ++ ys) → Contains xs x → Contains ys x → ⊥
-apart_parts [] ys x a m k = Rattle.owl_list.specs.AscendingLaws.in_none x m
+apart_parts [] ys x a m k = Rattle.owl_list.proofs.AscendingLaws.in_none x m
 apart_parts (y ∷ xs) ys x a m k =
     elim (in_cases y xs x m) [
       | inl e ↦ a.0 (subst (λ z. Contains (xs ++ ys) z) (sym e) (Contains-append_right xs ys x k))

@@ -1,8 +1,5 @@
 pub mod Tables
 pub mod Refusals
-pub mod NodeLaws
-pub mod FirstLaws
-pub mod WayLaws
 pub mod OrderLaws
 pub mod Ways
 pub mod Lengths

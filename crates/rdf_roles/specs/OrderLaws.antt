@@ -7,8 +7,8 @@ use Rattle.std.proofs.lemmas.List.FromFn.{get_or-range_with_len, length-range_wi
 use Rattle.std.proofs.lemmas.List.Sorted.{Contains-permutation, IsPermutation-sym, length_permutation}
 use Rattle.std.proofs.lemmas.Option.{slice_get_within}
 use Rattle.directed_graphs.specs.Cycles.{StandBehind, successors}
-use Rattle.directed_graphs.specs.CycleLaws.{in_range}
-use Rattle.owl_list.specs.AscendingLaws.{in_cases, in_head, in_none, in_tail}
+use Rattle.directed_graphs.proofs.CycleLaws.{in_range}
+use Rattle.owl_list.proofs.AscendingLaws.{in_cases, in_head, in_none, in_tail}
 use Rattle.rdf_graph.specs.declared.triple.Triple.{Triple}
 use Rattle.rdf_roles.specs.Tables.{IsNodeOrder, IsTableOf, LeadsBetween, RoleTable, blank_nodes, with_role}
 

@@ -8,10 +8,10 @@ use Rattle.rdf_graph.specs.declared.triple.Triple.{Triple}
 use Rattle.rdf_meaning.specs.declared.word.Word.{Word}
 use Rattle.rdf_meaning.specs.declared.word.Word.TheVariants as word
 use Rattle.rdf_meaning.specs.Nodes.{carries, is_word}
-use Rattle.rdf_meaning.specs.ListLaws.{same_front}
-use Rattle.rdf_meaning.specs.WordLaws.{same_word}
+use Rattle.rdf_meaning.proofs.ListLaws.{same_front}
+use Rattle.rdf_meaning.proofs.WordLaws.{same_word}
 use Rattle.rdf_meaning.specs.Words.{word_number}
-use Rattle.rdf_rows.specs.CarryingLaws.{told_by}
+use Rattle.rdf_rows.proofs.CarryingLaws.{told_by}
 use Rattle.rdf_rows.specs.Chosen.{objects_with}
 use Rattle.rdf_rows.specs.declared.fits.NodeWords.{NodeWords}
 use Rattle.rdf_rows.specs.Fits.{CountsWords}

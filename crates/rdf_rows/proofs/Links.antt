@@ -8,7 +8,7 @@ use Rattle.rdf_meaning.specs.declared.word.Word.{Word}
 use Rattle.rdf_meaning.specs.Nodes.{carries}
 use Rattle.rdf_meaning.specs.Words.{is_type, word_iri}
 use Rattle.rdf_rows.specs.Carrying.{may_have}
-use Rattle.rdf_rows.specs.CarryingLaws.{by_link}
+use Rattle.rdf_rows.proofs.CarryingLaws.{by_link}
 use Rattle.rdf_rows.specs.WordTables.{IsWordOf}
 
 pub by_name : (t : Triple) (o : Option Word) → IsWordOf false t.predicate o → (w : Word) →

@@ -10,7 +10,7 @@ use Rattle.rdf_graph.specs.declared.triple.Triple.{Triple}
 use Rattle.rdf_meaning.specs.declared.role.Role.{Role}
 use Rattle.rdf_meaning.specs.declared.role.Role.TheVariants as role
 use Rattle.rdf_meaning.specs.Nodes.{first_role, is_role, marked_roles, marks_role}
-use Rattle.rdf_meaning.specs.RowLaws.{same_role}
+use Rattle.rdf_meaning.proofs.RowLaws.{same_role}
 use Rattle.rdf_rows.specs.declared.roles.Marked.{Marked}
 use Rattle.rdf_rows.specs.Roles.{is_the_role, role_rank, roles_in, with_mark}
 use Rattle.rdf_rows.proofs.Marks.{or_false, the_role}

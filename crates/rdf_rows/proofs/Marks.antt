@@ -12,10 +12,10 @@ use Rattle.rdf_meaning.specs.declared.role.Role.TheVariants as role
 use Rattle.rdf_meaning.specs.declared.word.Word.{Word}
 use Rattle.rdf_meaning.specs.declared.word.Word.TheVariants as word
 use Rattle.rdf_meaning.specs.Nodes.{carries, carries_some, is_facet, is_own, is_role, is_word, marks_role, type_iri, words_of}
-use Rattle.rdf_meaning.specs.RowLaws.{own_role, same_role}
+use Rattle.rdf_meaning.proofs.RowLaws.{own_role, same_role}
 use Rattle.rdf_meaning.specs.Words.{is_type, word_iri, word_number}
 use Rattle.rdf_rows.specs.Carrying.{is_the, may_have}
-use Rattle.rdf_rows.specs.CarryingLaws.{by_class, by_link, own_word, told_by}
+use Rattle.rdf_rows.proofs.CarryingLaws.{by_class, by_link, own_word, told_by}
 use Rattle.rdf_rows.specs.Roles.{is_the_role, marks, role_marked, told_role}
 
 pub or_false : (b : Bool) → (b || false) ≡ b

@@ -15,7 +15,7 @@ use Rattle.rdf_meaning.specs.Denotation.{axiom_predicates, axiom_types, first_of
 use Rattle.rdf_meaning.specs.Nodes.{is_same, says_type, type_iri}
 use Rattle.rdf_meaning.specs.Words.{is_type, word_iri, word_number}
 use Rattle.rdf_rows.specs.Carrying.{is_the}
-use Rattle.rdf_rows.specs.CarryingLaws.{same_class, the_word}
+use Rattle.rdf_rows.proofs.CarryingLaws.{same_class, the_word}
 use Rattle.rdf_rows.specs.Sites.{linked_site, typed_site}
 use Rattle.rdf_rows.specs.WordTables.{IsWordOf}
 

@@ -8,7 +8,7 @@ use Rattle.std.specs.Str.{bytes_eq, encode_utf8_all}
 use Rattle.std.proofs.lemmas.Bool.{and_parts, cases_Bool, cond-false, cond-true}
 use Rattle.std.proofs.lemmas.Option.{same_Some}
 use Rattle.std.proofs.lemmas.Slice.Eq.{bytes_eq-Decides}
-use Rattle.owl_characters.specs.AsciiLaws.{ascii_bytes, from_bytes}
+use Rattle.owl_characters.proofs.AsciiLaws.{ascii_bytes, from_bytes}
 use Rattle.owl_characters.specs.Iri.{is_ascii}
 use Rattle.rdf_meaning.specs.declared.word.Word.{Word}
 use Rattle.rdf_meaning.specs.declared.word.Word.TheVariants as word

@@ -1,9 +1,7 @@
 pub mod WordTables
 pub mod Carrying
-pub mod CarryingLaws
 pub mod Roles
 pub mod Chosen
 pub mod Fits
 pub mod Sites
-pub mod NodeTripleLaws
 pub mod Cardinalities

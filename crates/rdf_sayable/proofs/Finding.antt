@@ -9,8 +9,8 @@ use Rattle.owl_doc.specs.Documents.{Document, IsDocument, ontology_of}
 use Rattle.rdf_sayable.specs.Parts.{Part, leaves_at, leaves_in, of_header, part_at, parts_of}
 use Rattle.rdf_sayable.specs.Reasons.{Objection, why_seen}
 use Rattle.rdf_sayable.specs.Sayable.{CanSay, CanSayAll, FindsUnsayable, IsFirstUnsayable, first_objection}
-use Rattle.rdf_sayable.specs.SayableLaws.{no_objection, not_all_said, sayable_none}
-use Rattle.rdf_sayable.specs.SearchLaws.{axiom_first, axioms_at, header_first, holds_of_all}
+use Rattle.rdf_sayable.proofs.SayableLaws.{no_objection, not_all_said, sayable_none}
+use Rattle.rdf_sayable.proofs.SearchLaws.{axiom_first, axioms_at, header_first, holds_of_all}
 
 -- where something is to be said against a part, it can't be said
 pub not_said : (part : Part) (why : Objection) → first_objection (leaves_in part) ≡ Some why → CanSay part → ⊥

@@ -10,9 +10,9 @@ use Rattle.std.proofs.lemmas.Cmp.{tied_itself}
 use Rattle.owl_characters.specs.Order.{text_cmp}
 use Rattle.owl_characters.specs.OrderLaws.{texts_total}
 use Rattle.owl_list.specs.Ascending.{IsAscending}
-use Rattle.owl_list.specs.AscendingLaws.{IsBelowAll, ascends, head_below, nothing_ascends, tail_ascends}
+use Rattle.owl_list.proofs.AscendingLaws.{IsBelowAll, ascends, head_below, nothing_ascends, tail_ascends}
 use Rattle.rdf_graph.specs.declared.triple.Triple.{Triple}
-use Rattle.rdf_graph.specs.TermLaws.{terms_total}
+use Rattle.rdf_graph.proofs.TermLaws.{terms_total}
 use Rattle.rdf_graph.specs.Terms.{term_cmp, triple_cmp}
 
 -- a function that keeps what is less keeps a list ascending

@@ -8,7 +8,7 @@ use Rattle.std.proofs.lemmas.Option.{none-some, same_Some}
 use Rattle.owl_kind.specs.declared.kind.Kind.{Kind}
 use Rattle.owl_kind.specs.Kinds.{Entity, IsDeclared}
 use Rattle.owl_doc.specs.Entities.{AddsAll, AddsSome}
-use Rattle.owl_list.specs.AscendingLaws.{in_cases, in_head, in_none}
+use Rattle.owl_list.proofs.AscendingLaws.{in_cases, in_head, in_none}
 use Rattle.rdf_graph.specs.declared.triple.Triple.{Triple}
 use Rattle.rdf_scans.specs.Outlines.{declaration, declarations}
 

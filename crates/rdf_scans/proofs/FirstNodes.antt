@@ -9,16 +9,16 @@ use Rattle.std.proofs.lemmas.Cmp.{tied_itself}
 use Rattle.std.proofs.lemmas.List.Elements.{Contains-append_cases, Contains-append_right}
 use Rattle.owl_characters.specs.Order.{text_cmp}
 use Rattle.owl_list.specs.Ascending.{IsAscending}
-use Rattle.owl_list.specs.AscendingLaws.{all_from, all_in, ascending_ascends, head_below, in_cases, in_head, in_map, in_none, in_tail, tail_ascends}
+use Rattle.owl_list.proofs.AscendingLaws.{all_from, all_in, ascending_ascends, head_below, in_cases, in_head, in_map, in_none, in_tail, tail_ascends}
 use Rattle.rdf_faults.specs.Firsts.{HoldsForNone, IsFirst}
 use Rattle.rdf_graph.specs.declared.term.Term.{Term}
 use Rattle.rdf_graph.specs.declared.term.Term.TheVariants.{Iri, Blank, Literal}
 use Rattle.rdf_graph.specs.declared.triple.Triple.{Triple}
-use Rattle.rdf_graph.specs.TermLaws.{terms_total, triples_total}
+use Rattle.rdf_graph.proofs.TermLaws.{terms_total, triples_total}
 use Rattle.rdf_graph.specs.Terms.{term_cmp, triple_cmp}
-use Rattle.rdf_meaning.specs.NodeLaws.{subjects_are}
+use Rattle.rdf_meaning.proofs.NodeLaws.{subjects_are}
 use Rattle.rdf_meaning.specs.Nodes.{subjects_of}
-use Rattle.rdf_roles.specs.NodeLaws.{same_label}
+use Rattle.rdf_roles.proofs.NodeLaws.{same_label}
 use Rattle.rdf_roles.specs.Tables.{blank_nodes, labels_in}
 
 not_itself : {X : Type 0} (cmp : X → X → Ordering) → IsTotalOrder cmp → (x : X) → cmp x x ≡ Less → ⊥

@@ -5,7 +5,7 @@ use Rattle.rdf_graph.specs.declared.term.Term.{Term}
 use Rattle.rdf_graph.specs.declared.term.Term.TheVariants.{Iri}
 use Rattle.rdf_graph.specs.declared.triple.Triple.{Triple}
 use Rattle.rdf_meaning.specs.declared.word.Word.{Word}
-use Rattle.rdf_meaning.specs.ListLaws.{same_front}
+use Rattle.rdf_meaning.proofs.ListLaws.{same_front}
 use Rattle.rdf_scans.specs.Headers.{iri_in}
 use Rattle.rdf_scans.proofs.Passed.{left}
 use Rattle.rdf_rows.specs.Chosen.{objects_with}

@@ -9,11 +9,11 @@ use Rattle.rdf_graph.specs.declared.term.Term.TheVariants.{Iri, Blank, Literal}
 use Rattle.rdf_graph.specs.declared.triple.Triple.{Triple}
 use Rattle.rdf_meaning.specs.declared.word.Word.{Word}
 use Rattle.rdf_meaning.specs.declared.word.Word.TheVariants as word
-use Rattle.rdf_meaning.specs.ListLaws.{same_front}
+use Rattle.rdf_meaning.proofs.ListLaws.{same_front}
 use Rattle.rdf_meaning.specs.Nodes.{chosen, of_subject}
 use Rattle.rdf_meaning.specs.Statements.{IsHeadOf, named, only, unnamed}
 use Rattle.rdf_rows.specs.Chosen.{objects_with}
-use Rattle.rdf_rows.specs.NodeTripleLaws.{chosen_is}
+use Rattle.rdf_rows.proofs.NodeTripleLaws.{chosen_is}
 use Rattle.rdf_scans.specs.Headers.{FindsIris, iri_in, may_have}
 
 -- nothing was found

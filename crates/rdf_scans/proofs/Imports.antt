@@ -8,18 +8,18 @@ use Rattle.std.proofs.lemmas.List.Kept.{IsStrictlySortedBy-filter}
 use Rattle.std.proofs.lemmas.Slice.Eq.{bytes_eq-Decides}
 use Rattle.owl_characters.specs.Order.{text_cmp}
 use Rattle.owl_list.specs.Ascending.{IsAscending}
-use Rattle.owl_list.specs.AscendingLaws.{all_from}
+use Rattle.owl_list.proofs.AscendingLaws.{all_from}
 use Rattle.rdf_graph.specs.declared.term.Term.{Term}
 use Rattle.rdf_graph.specs.declared.term.Term.TheVariants.{Iri}
 use Rattle.rdf_graph.specs.declared.triple.Triple.{Triple}
 use Rattle.rdf_graph.specs.Terms.{term_cmp, triple_cmp}
 use Rattle.rdf_meaning.specs.declared.word.Word.TheVariants as word
-use Rattle.owl_list.specs.FilterLaws.{from_filter}
-use Rattle.rdf_meaning.specs.NodeLaws.{from_subject}
+use Rattle.owl_list.proofs.FilterLaws.{from_filter}
+use Rattle.rdf_meaning.proofs.NodeLaws.{from_subject}
 use Rattle.rdf_meaning.specs.Nodes.{carries, is_same, of_subject}
 use Rattle.rdf_meaning.specs.Words.{is_type, word_iri}
 use Rattle.rdf_rows.specs.Carrying.{may_have}
-use Rattle.rdf_rows.specs.CarryingLaws.{by_link}
+use Rattle.rdf_rows.proofs.CarryingLaws.{by_link}
 use Rattle.rdf_rows.specs.Chosen.{carriers, objects_with}
 use Rattle.rdf_scans.proofs.Ascents.{ascends_before_map, less_object, map_ascends}
 

@@ -6,14 +6,14 @@ use Rattle.std.proofs.lemmas.List.{get_or-set_other, get_or-set_same, length-map
 use Rattle.std.proofs.lemmas.List.Elements.{Contains-append_cases, Contains-append_left, Contains-append_right}
 use Rattle.std.proofs.lemmas.Option.{same_Some}
 use Rattle.owl_list.specs.Ascending.{AreApart}
-use Rattle.owl_list.specs.AscendingLaws.{ascending_apart, in_cases, in_head, in_none, in_tail}
+use Rattle.owl_list.proofs.AscendingLaws.{ascending_apart, in_cases, in_head, in_none, in_tail}
 use Rattle.rdf_graph.specs.declared.term.Term.{Term}
 use Rattle.rdf_graph.specs.declared.term.Term.TheVariants.{Iri, Blank, Literal}
 use Rattle.rdf_graph.specs.declared.triple.Triple.{Triple}
 use Rattle.rdf_graph.specs.Terms.{term_cmp}
-use Rattle.rdf_graph.specs.TermLaws.{terms_total}
+use Rattle.rdf_graph.proofs.TermLaws.{terms_total}
 use Rattle.rdf_meaning.specs.Nodes.{subjects_of}
-use Rattle.rdf_roles.specs.NodeLaws.{from_labels, has_number, keys_are, same_label}
+use Rattle.rdf_roles.proofs.NodeLaws.{from_labels, has_number, keys_are, same_label}
 use Rattle.rdf_roles.specs.Tables.{HasNumber, IsNode, IsTableOf, RoleTable, blank_nodes, labels_in, with_role}
 use Rattle.rdf_scans.specs.Reach.{AddsMarks, HasRole, IsBySome, IsNodeWithRole, IsNumberWithRole, has_mark}
 

@@ -3,7 +3,7 @@ use Rattle.std.specs.Prelude.{◌≡◌, ◌↔◌, ◌≤◌, ℕ, suc, Bool, t
 use Rattle.std.proofs.Common.{inl, inr, ◌<◌, ◌++◌, drop, drop-cons, get_or, take, sym, ap, arith, ◌∙◌, subst}
 use Rattle.std.proofs.lemmas.List.{take-append-drop}
 use Rattle.std.proofs.lemmas.List.Elements.{Contains-append_right}
-use Rattle.owl_list.specs.AscendingLaws.{all_in, from_map, in_head, in_map}
+use Rattle.owl_list.proofs.AscendingLaws.{all_in, from_map, in_head, in_map}
 use Rattle.rdf_graph.specs.declared.term.Term.TheVariants.{Iri}
 use Rattle.rdf_graph.specs.declared.triple.Triple.{Triple}
 use Rattle.std.proofs.lemmas.Bool.{eq-eqb, eqb-true}
@@ -13,9 +13,9 @@ use Rattle.rdf_meaning.specs.declared.row.Site.{Site}
 use Rattle.rdf_meaning.specs.declared.row.Site.TheVariants.{TypedBy, LinkedBy}
 use Rattle.rdf_meaning.specs.declared.word.Word.{Word}
 use Rattle.rdf_meaning.specs.Nodes.{is_word, nil_iri, role_of}
-use Rattle.rdf_meaning.specs.WordLaws.{same_word}
-use Rattle.rdf_rows.specs.CarryingLaws.{own_word}
-use Rattle.rdf_faults.specs.BelowLaws.{elements_are}
+use Rattle.rdf_meaning.proofs.WordLaws.{same_word}
+use Rattle.rdf_rows.proofs.CarryingLaws.{own_word}
+use Rattle.rdf_faults.proofs.BelowLaws.{elements_are}
 use Rattle.rdf_meaning.specs.Rows.{axiom_rows, row_seen}
 use Rattle.rdf_meaning.specs.declared.row.Row as held
 use Rattle.rdf_faults.specs.Asked.{IsListOf, IsTypedAxiom, no_element}

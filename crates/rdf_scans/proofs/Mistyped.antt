@@ -17,7 +17,7 @@ use Rattle.rdf_faults.specs.Asked.{IsTypedNote, is_of_sort, role_gives}
 use Rattle.rdf_faults.specs.Faults.{no_axiom, no_note}
 use Rattle.rdf_scans.specs.declared.reading.Reading.{Reading}
 use Rattle.rdf_scans.specs.Sorts.{sort_in}
-use Rattle.rdf_scans.specs.SortLaws.{main_is}
+use Rattle.rdf_scans.proofs.SortLaws.{main_is}
 use Rattle.rdf_scans.specs.Statements.{IsNoAxiom, IsNoNote, IsUntypedIn}
 use Rattle.rdf_scans.proofs.Reserving.{main_sort}
 

@@ -3,14 +3,14 @@ use Rattle.std.specs.Prelude.{◌≡◌, ◌&&◌, ℕ, true, false, List, [], �
 use Rattle.std.specs.List.{list_any}
 use Rattle.std.proofs.Common.{◌∙◌, sym, ap, subst}
 use Rattle.std.proofs.lemmas.Bool.{and_parts}
-use Rattle.owl_list.specs.AscendingLaws.{in_head}
+use Rattle.owl_list.proofs.AscendingLaws.{in_head}
 use Rattle.rdf_graph.specs.declared.term.Term.TheVariants.{Blank}
 use Rattle.rdf_graph.specs.declared.triple.Triple.{Triple}
 use Rattle.rdf_meaning.specs.declared.role.Role.{Role}
 use Rattle.rdf_meaning.specs.declared.role.Role.TheVariants as role
-use Rattle.owl_list.specs.FilterLaws.{from_filter}
-use Rattle.rdf_meaning.specs.ListLaws.{some_passes}
-use Rattle.rdf_meaning.specs.NodeLaws.{from_subject}
+use Rattle.owl_list.proofs.FilterLaws.{from_filter}
+use Rattle.rdf_meaning.proofs.ListLaws.{some_passes}
+use Rattle.rdf_meaning.proofs.NodeLaws.{from_subject}
 use Rattle.rdf_meaning.specs.Nodes.{first_role, marked_roles, marks_role, of_subject, roles_of}
 use Rattle.rdf_scans.specs.declared.reading.Reading.{Reading}
 use Rattle.rdf_scans.specs.Notes.{FindsNothing, IsOfNothingIn, is_of_nothing, marks_nothing}

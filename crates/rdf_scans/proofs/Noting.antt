@@ -10,15 +10,15 @@ use Rattle.rdf_meaning.specs.declared.role.Role.{Role}
 use Rattle.rdf_meaning.specs.declared.role.Role.TheVariants as role
 use Rattle.rdf_meaning.specs.declared.word.Word.{Word}
 use Rattle.rdf_meaning.specs.declared.word.Word.TheVariants as word
-use Rattle.rdf_meaning.specs.ListLaws.{some_passes}
-use Rattle.rdf_meaning.specs.NodeLaws.{from_subject, in_subject, same_term}
+use Rattle.rdf_meaning.proofs.ListLaws.{some_passes}
+use Rattle.rdf_meaning.proofs.NodeLaws.{from_subject, in_subject, same_term}
 use Rattle.rdf_meaning.specs.Nodes.{carries, chosen, is_role, is_same, of_subject, role_of}
 use Rattle.rdf_meaning.specs.Statements.{ReifiesSome, an_axiom, an_annotation, reifies}
 use Rattle.rdf_rows.specs.Chosen.{objects_with}
 use Rattle.rdf_scans.specs.declared.reading.Reading.{Reading}
 use Rattle.rdf_scans.specs.Notes.{IsOfNothingIn, is_of_nothing, is_stated, names, reified_by, reifies_at, reifies_some, states_reified}
 use Rattle.rdf_scans.specs.Sorts.{annotates, is_main, sort_in}
-use Rattle.rdf_scans.specs.SortLaws.{main_is}
+use Rattle.rdf_scans.proofs.SortLaws.{main_is}
 use Rattle.rdf_scans.proofs.Reserving.{main_sort}
 use Rattle.rdf_scans.proofs.Subjects.{any_from}
 

@@ -8,21 +8,21 @@ use Rattle.std.proofs.lemmas.List.Elements.{Contains-append_cases, Contains-appe
 use Rattle.std.proofs.lemmas.List.Sorted.{Contains-permutation}
 use Rattle.std.proofs.lemmas.Option.{same_Some, slice_get_within}
 use Rattle.directed_graphs.specs.Cycles.{StandBehind, successors}
-use Rattle.directed_graphs.specs.CycleLaws.{in_range}
-use Rattle.owl_list.specs.AscendingLaws.{in_cases, in_head, in_none, in_tail}
+use Rattle.directed_graphs.proofs.CycleLaws.{in_range}
+use Rattle.owl_list.proofs.AscendingLaws.{in_cases, in_head, in_none, in_tail}
 use Rattle.rdf_graph.specs.declared.term.Term.{Term}
 use Rattle.rdf_graph.specs.declared.term.Term.TheVariants.{Blank}
 use Rattle.rdf_graph.specs.declared.triple.Triple.{Triple}
 use Rattle.rdf_meaning.specs.declared.role.Role.{Role}
 use Rattle.rdf_meaning.specs.declared.role.Role.TheVariants as role
 use Rattle.rdf_meaning.specs.Nodes.{is_own, is_structural, of_subject, role_of}
-use Rattle.rdf_meaning.specs.NodeLaws.{from_subject, in_subject}
+use Rattle.rdf_meaning.proofs.NodeLaws.{from_subject, in_subject}
 use Rattle.rdf_meaning.specs.Statements.{InSteps, IsDirectlyBelow, at_root, below_axiom, below_root, is_object, is_subject, main_triples, one_more, one_step}
 use Rattle.rdf_roles.specs.OrderLaws.{is_node}
 use Rattle.rdf_roles.specs.Tables.{AreEdges, IsNode, IsNodeOrder, blank_nodes}
-use Rattle.rdf_roles.specs.WayLaws.{numbered_by_role, structural_node}
+use Rattle.rdf_roles.proofs.WayLaws.{numbered_by_role, structural_node}
 use Rattle.rdf_scans.specs.declared.reading.Reading.{Reading}
-use Rattle.rdf_scans.specs.SortLaws.{main_is}
+use Rattle.rdf_scans.proofs.SortLaws.{main_is}
 use Rattle.rdf_scans.specs.Sorts.{sort_in}
 use Rattle.rdf_scans.specs.Reach.{AddsMarks, AreMarked, HasRole, IsBySome, IsEndOf, IsNext, IsNodeWithRole, IsObjectOf, IsReachedIn, IsRootIn, has_mark, reaches_on}
 use Rattle.rdf_scans.proofs.Marking.{no_marks}

@@ -21,7 +21,7 @@ use Rattle.rdf_scans.specs.declared.sorts.TripleSort.{TripleSort}
 use Rattle.rdf_scans.specs.declared.sorts.TripleSort.TheVariants.{Structural, Header, Annotation, Main}
 use Rattle.rdf_scans.specs.Reserved.{IsReservedIn, is_reserved, takes_at, takes_class, takes_declared, takes_reserved}
 use Rattle.rdf_scans.specs.Sorts.{is_main, sort_in}
-use Rattle.rdf_scans.specs.SortLaws.{main_is}
+use Rattle.rdf_scans.proofs.SortLaws.{main_is}
 
 module _ (k : List Entity) (t : Triple) where
   class_taken : (x : Term) → site_of t ≡ OtherType → t.object ≡ x → takes_class k x ≡ true → TakesReserved k t

@@ -8,21 +8,21 @@ use Rattle.std.proofs.lemmas.Bool.{and_parts, or_left, or_right}
 use Rattle.std.proofs.lemmas.List.Kept.{IsStrictlySortedBy-filter}
 use Rattle.std.proofs.lemmas.Slice.Eq.{bytes_eq-Decides}
 use Rattle.owl_list.specs.Ascending.{IsAscending}
-use Rattle.owl_list.specs.AscendingLaws.{all_from, ascending_ascends, ascending_unique, from_map, in_cases, in_map, in_none}
+use Rattle.owl_list.proofs.AscendingLaws.{all_from, ascending_ascends, ascending_unique, from_map, in_cases, in_map, in_none}
 use Rattle.rdf_graph.specs.declared.term.Term.{Term}
 use Rattle.rdf_graph.specs.declared.term.Term.TheVariants.{Iri}
 use Rattle.rdf_graph.specs.declared.triple.Triple.{Triple}
-use Rattle.rdf_graph.specs.TermLaws.{terms_total}
+use Rattle.rdf_graph.proofs.TermLaws.{terms_total}
 use Rattle.rdf_graph.specs.Terms.{term_cmp, triple_cmp}
 use Rattle.rdf_meaning.specs.declared.word.Word.TheVariants as word
-use Rattle.owl_list.specs.FilterLaws.{from_filter, in_filter}
-use Rattle.rdf_meaning.specs.ListLaws.{some_passes}
-use Rattle.rdf_meaning.specs.NodeLaws.{from_subject, in_subject, subjects_are, typed_object}
+use Rattle.owl_list.proofs.FilterLaws.{from_filter, in_filter}
+use Rattle.rdf_meaning.proofs.ListLaws.{some_passes}
+use Rattle.rdf_meaning.proofs.NodeLaws.{from_subject, in_subject, subjects_are, typed_object}
 use Rattle.rdf_meaning.specs.Nodes.{carries, is_same, of_subject, subjects_of, type_iri}
 use Rattle.rdf_meaning.specs.Statements.{headers}
 use Rattle.rdf_meaning.specs.Words.{is_type, word_iri}
 use Rattle.rdf_rows.specs.Chosen.{carriers}
-use Rattle.rdf_rows.specs.CarryingLaws.{by_class}
+use Rattle.rdf_rows.proofs.CarryingLaws.{by_class}
 use Rattle.rdf_scans.proofs.Ascents.{less_subject, map_ascends}
 
 pub any_from : {X : Type 0} (test : X → Bool) (xs : List X) (x : X) → Contains xs x → test x ≡ true → list_any test xs ≡ true

@@ -1,7 +1,6 @@
 pub mod Outlines
 pub mod Headers
 pub mod Sorts
-pub mod SortLaws
 pub mod Reserved
 pub mod Notes
 pub mod Reach

@@ -7,7 +7,7 @@ use Rattle.std.proofs.Math.Seq.{take-length}
 use Rattle.std.proofs.lemmas.List.{length-map, take_more}
 use Rattle.std.proofs.lemmas.List.Elements.{Contains-get_or, filter-append}
 use Rattle.std.proofs.lemmas.Option.{get_or_from_slice_get, same_Some, slice_get-get_or, slice_get_within}
-use Rattle.owl_list.specs.AscendingLaws.{in_head}
+use Rattle.owl_list.proofs.AscendingLaws.{in_head}
 use Rattle.owl_kind.specs.Kinds.{Entity}
 use Rattle.owl_tree.specs.Trees.{Tree, node, kids_of}
 use Rattle.rdf_graph.specs.declared.term.Term.{Term}
@@ -16,24 +16,24 @@ use Rattle.rdf_graph.specs.declared.triple.Triple.{Triple}
 use Rattle.rdf_meaning.specs.declared.role.Role.{Role}
 use Rattle.rdf_meaning.specs.declared.role.Role.TheVariants as role
 use Rattle.rdf_meaning.specs.Denotation.{of_node, of_triple}
-use Rattle.owl_list.specs.FilterLaws.{in_filter}
-use Rattle.rdf_meaning.specs.ListLaws.{only_one}
+use Rattle.owl_list.proofs.FilterLaws.{in_filter}
+use Rattle.rdf_meaning.proofs.ListLaws.{only_one}
 use Rattle.rdf_meaning.specs.Nodes.{is_blank, is_role, is_structural, nodes_of, role_of, subjects_of}
 use Rattle.rdf_meaning.specs.Statements.{AreAxioms, no_triple, triple, AreNodeAxioms, no_node, an_axiom, set, Annotates, IsAxiomOf, IsAxiomOfNode, Variants, bare, noted, axioms_of, is_annotation_triple, is_header_triple, main_triples, notes, notes_of}
-use Rattle.rdf_roles.specs.NodeLaws.{keys_are}
+use Rattle.rdf_roles.proofs.NodeLaws.{keys_are}
 use Rattle.rdf_roles.specs.Tables.{IsTableOf, RoleTable, blank_nodes, labels_in}
 use Rattle.rdf_scans.specs.Sorts.{is_main, sort_of}
 use Rattle.rdf_scans.specs.declared.sorts.TripleSort.{TripleSort}
 use Rattle.rdf_scans.specs.declared.sorts.TripleSort.TheVariants.{Structural, Header, Annotation, Main}
 use Rattle.tree_stores.specs.Stores.{Keeps, StandFor}
-use Rattle.tree_stores.specs.StoreLaws.{both_stand, keeps_all, keeps_more, stand_still}
+use Rattle.tree_stores.proofs.StoreLaws.{both_stand, keeps_all, keeps_more, stand_still}
 use Rattle.tree_stores.specs.declared.fault.TreeFault.{TreeFault}
 use Rattle.rdf_annotations.specs.Annotations.{IsFaultOfSome}
-use Rattle.rdf_annotations.specs.AnnotationLaws.{sets_kept}
+use Rattle.rdf_annotations.proofs.AnnotationLaws.{sets_kept}
 use Rattle.rdf_statements.specs.declared.form.AxiomForm.{AxiomForm}
 use Rattle.rdf_statements.specs.declared.known.Known.{Known}
 use Rattle.rdf_statements.specs.Forms.{IsAxiomForm}
-use Rattle.rdf_statements.specs.FormLaws.{axiom_form_says}
+use Rattle.rdf_statements.proofs.FormLaws.{axiom_form_says}
 use Rattle.rdf_statements.specs.GraphTrees.{IsTreeOf, of_axiom, of_axiom_node}
 use Rattle.rdf_statements.specs.Holding.{Adds, FormStands, IsKnown, IsOfForm, StandForSome, is_main_triple, main_nodes}
 use Rattle.rdf_statements.proofs.Faults.{fault_of_some}

@@ -7,7 +7,7 @@ use Rattle.tree_stores.specs.Stores.{IsTreeFault}
 use Rattle.tree_stores.specs.declared.fault.TreeFault.{TreeFault}
 use Rattle.tree_stores.specs.declared.fault.TreeFault.TheVariants.{TooDeep, TooHeavy, Memory}
 use Rattle.rdf_annotations.specs.Annotations.{IsFaultOfSome}
-use Rattle.rdf_statements.specs.PartLaws.{kid_depth, kid_weight}
+use Rattle.rdf_statements.proofs.PartLaws.{kid_depth, kid_weight}
 
 pub fault_of_some : {H : Type 0} (P Q : Tree → Type 0) → ((t : Tree) → P t → Q t) → (f : TreeFault H) → IsFaultOfSome P f → IsFaultOfSome Q f
 fault_of_some P Q w TooDeep h = (h.0, w h.0 h.1, h.2)

@@ -7,7 +7,7 @@ use Rattle.std.specs.declared.result.Result.TheVariants.{Ok, Err}
 use Rattle.std.proofs.lemmas.Bool.{and_parts, or_cases, or_left, or_right}
 use Rattle.std.proofs.lemmas.Bool.Decides.{leb_tells}
 use Rattle.std.proofs.lemmas.List.{length-append}
-use Rattle.owl_list.specs.AscendingLaws.{from_map}
+use Rattle.owl_list.proofs.AscendingLaws.{from_map}
 use Rattle.owl_kind.specs.Kinds.{Entity}
 use Rattle.owl_tree.specs.declared.row.Sort.{Sort}
 use Rattle.owl_tree.specs.declared.row.Sort.TheVariants as sort
@@ -19,15 +19,15 @@ use Rattle.rdf_graph.specs.declared.triple.Triple.{Triple}
 use Rattle.rdf_meaning.specs.declared.row.Part.{Part}
 use Rattle.rdf_meaning.specs.declared.row.Row as held
 use Rattle.rdf_meaning.specs.Denotation.{Bearer, Fits, Holds, declared_entity, no_parts, part, select}
-use Rattle.rdf_meaning.specs.ListLaws.{passes, same_only}
+use Rattle.rdf_meaning.proofs.ListLaws.{passes, same_only}
 use Rattle.rdf_meaning.specs.Rows.{Row, axiom_rows, row_seen}
 use Rattle.rdf_faults.specs.Asked.{HasElements, no_element, element, IsListOf, IsMet, is_key, is_of_sort}
 use Rattle.rdf_rows.specs.Chosen.{the_only}
 use Rattle.rdf_faults.specs.WantLaws.{axiom_known, is_known, met}
-use Rattle.rdf_asked.specs.ListedLaws.{same_elements}
+use Rattle.rdf_asked.proofs.ListedLaws.{same_elements}
 use Rattle.rdf_roles.specs.Tables.{RoleTable}
 use Rattle.rdf_nodes.specs.declared.form.Operand.{Operand}
-use Rattle.rdf_nodes.specs.OfSortLaws.{as_many_elements, found_is_of_sort}
+use Rattle.rdf_nodes.proofs.OfSortLaws.{as_many_elements, found_is_of_sort}
 use Rattle.rdf_nodes.specs.Operands.{AreElements}
 use Rattle.rdf_statements.specs.Forms.{AreKeyOperands, no_key, object_key, data_key, IsGivenAt, IsKeyAdded, an_object_key, a_data_key, IsNoAxiom, is_told}
 

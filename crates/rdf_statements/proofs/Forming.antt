@@ -5,7 +5,7 @@ use Rattle.std.specs.declared.vec.Vec.{Vec}
 use Rattle.std.specs.declared.result.Result.{Result}
 use Rattle.std.specs.declared.result.Result.TheVariants.{Ok, Err}
 use Rattle.std.proofs.lemmas.List.Elements.{Contains-get_or}
-use Rattle.owl_list.specs.AscendingLaws.{in_map}
+use Rattle.owl_list.proofs.AscendingLaws.{in_map}
 use Rattle.owl_kind.specs.declared.kind.Kind.{Kind}
 use Rattle.owl_kind.specs.declared.kind.Kind.TheVariants as kind
 use Rattle.owl_kind.specs.Kinds.{Entity}
@@ -29,7 +29,7 @@ use Rattle.rdf_meaning.specs.Rows.{Row, axiom_rows, row_seen}
 use Rattle.rdf_roles.specs.Tables.{RoleTable}
 use Rattle.rdf_rows.specs.Chosen.{objects_with, the_only}
 use Rattle.rdf_rows.specs.Fits.{FitsRow}
-use Rattle.rdf_rows.specs.NodeTripleLaws.{chosen_is, fits_is}
+use Rattle.rdf_rows.proofs.NodeTripleLaws.{chosen_is, fits_is}
 use Rattle.rdf_nodes.specs.declared.form.Operand.{Operand}
 use Rattle.rdf_nodes.specs.declared.form.Operand.TheVariants as operand
 use Rattle.rdf_nodes.specs.Operands.{IsCellWith, IsOperand, IsTree}

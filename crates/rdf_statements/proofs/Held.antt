@@ -3,7 +3,7 @@ use Rattle.std.specs.Prelude.{◌≡◌, ◌⊎◌, ◌&&◌, ◌||◌, Bool, tr
 use Rattle.std.proofs.Common.{inl, inr, refl, ap, sym, subst, ◌∙◌}
 use Rattle.std.proofs.lemmas.Bool.{and_from}
 use Rattle.std.proofs.lemmas.List.Elements.{Contains-append_left, Contains-append_right}
-use Rattle.owl_list.specs.AscendingLaws.{in_cases, in_head, in_none}
+use Rattle.owl_list.proofs.AscendingLaws.{in_cases, in_head, in_none}
 use Rattle.owl_kind.specs.Kinds.{Entity}
 use Rattle.owl_tree.specs.declared.tag.Tag.{Tag}
 use Rattle.owl_tree.specs.declared.tag.Tag.TheVariants as tag
@@ -11,21 +11,21 @@ use Rattle.owl_tree.specs.Trees.{Tree, node, kids_of}
 use Rattle.rdf_graph.specs.declared.term.Term.{Term}
 use Rattle.rdf_graph.specs.declared.triple.Triple.{Triple}
 use Rattle.rdf_meaning.specs.declared.role.Role.TheVariants as role
-use Rattle.rdf_meaning.specs.AxiomLaws.{axioms_of_nodes, axioms_of_triples, nodes_have_axioms, notes_of_triples}
+use Rattle.rdf_meaning.proofs.AxiomLaws.{axioms_of_nodes, axioms_of_triples, nodes_have_axioms, notes_of_triples}
 use Rattle.rdf_meaning.specs.Kinds.{HaveNoClash}
-use Rattle.owl_list.specs.FilterLaws.{in_filter}
+use Rattle.owl_list.proofs.FilterLaws.{in_filter}
 use Rattle.rdf_meaning.specs.Nodes.{is_same, is_structural, nodes_of, of_subject, role_of}
-use Rattle.rdf_meaning.specs.NodeLaws.{in_subject, nodes_are}
-use Rattle.rdf_meaning.specs.StatementLaws.{one_notes}
+use Rattle.rdf_meaning.proofs.NodeLaws.{in_subject, nodes_are}
+use Rattle.rdf_meaning.proofs.StatementLaws.{one_notes}
 use Rattle.rdf_meaning.specs.Statements.{Annotates, IsAxiomOfNode, IsNoteOf, header_notes, is_annotation_triple, main_triples, notes, notes_of}
-use Rattle.rdf_roles.specs.WayLaws.{numbered_by_role}
+use Rattle.rdf_roles.proofs.WayLaws.{numbered_by_role}
 use Rattle.rdf_roles.specs.Tables.{IsTableOf, RoleTable}
 use Rattle.tree_stores.specs.Stores.{StandFor}
 use Rattle.rdf_annotations.specs.Annotations.{AreSets, an_annotation, a_set, is_noted}
-use Rattle.rdf_annotations.specs.AnnotationLaws.{noted_or}
+use Rattle.rdf_annotations.proofs.AnnotationLaws.{noted_or}
 use Rattle.rdf_nodes.specs.Numbers.{AreAllHeld}
 use Rattle.rdf_statements.proofs.Adding.{labels_are}
-use Rattle.rdf_statements.specs.PartLaws.{part_of_part}
+use Rattle.rdf_statements.proofs.PartLaws.{part_of_part}
 use Rattle.rdf_statements.specs.GraphTrees.{AreStatements, IsHeldWithin, IsPartOf, itself, below, IsTreeOf, of_node, of_annotation, of_axiom, of_axiom_node}
 
 either : (h a b c n s : Bool) → ((h && a && b && c) || (n && s)) ≡ true → (h ≡ true) ⊎ ((n ≡ true) × (s ≡ true))

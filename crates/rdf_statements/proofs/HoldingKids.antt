@@ -8,7 +8,7 @@ use Rattle.std.specs.declared.result.Result.TheVariants.{Ok, Err}
 use Rattle.std.proofs.lemmas.List.{length-map}
 use Rattle.std.proofs.lemmas.List.Elements.{Contains-append_right}
 use Rattle.std.proofs.lemmas.Option.{slice_get_within}
-use Rattle.owl_list.specs.AscendingLaws.{from_map, in_head, in_tail}
+use Rattle.owl_list.proofs.AscendingLaws.{from_map, in_head, in_tail}
 use Rattle.owl_kind.specs.Kinds.{Entity}
 use Rattle.owl_tree.specs.declared.tag.Tag.{Tag}
 use Rattle.owl_tree.specs.Trees.{Tree, node, kids_of}
@@ -16,7 +16,7 @@ use Rattle.rdf_graph.specs.declared.triple.Triple.{Triple}
 use Rattle.rdf_meaning.specs.Statements.{axioms_of}
 use Rattle.rdf_roles.specs.Tables.{RoleTable}
 use Rattle.tree_stores.specs.Stores.{AreStanding, Keeps, StandFor}
-use Rattle.tree_stores.specs.StoreLaws.{keeps_all, keeps_more, stand_still, one_more_stands}
+use Rattle.tree_stores.proofs.StoreLaws.{keeps_all, keeps_more, stand_still, one_more_stands}
 use Rattle.tree_stores.specs.declared.fault.TreeFault.{TreeFault}
 use Rattle.rdf_annotations.specs.Annotations.{IsFaultOfSome}
 use Rattle.rdf_nodes.specs.declared.form.Operand.{Operand}
@@ -27,7 +27,7 @@ use Rattle.rdf_statements.specs.declared.form.AxiomForm.{AxiomForm}
 use Rattle.rdf_statements.specs.declared.form.Kid.{Kid}
 use Rattle.rdf_statements.specs.declared.form.Kid.TheVariants as kid
 use Rattle.rdf_statements.specs.Forms.{AllKidsMean, KidMeans}
-use Rattle.rdf_statements.specs.FormLaws.{split}
+use Rattle.rdf_statements.proofs.FormLaws.{split}
 use Rattle.rdf_statements.specs.Holding.{FormStands, HaveTrees, IsFaultOfOne, IsOfForm, IsOfKids, KidStands, KidsStand}
 use Rattle.rdf_statements.proofs.Faults.{fault_by_some, fault_of_node, fault_of_one, fault_of_some}
 use Rattle.rdf_statements.proofs.Standing.{both_mean}

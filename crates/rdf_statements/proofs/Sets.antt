@@ -2,11 +2,11 @@
 use Rattle.std.specs.Prelude.{◌≡◌, List, [], ◌∷◌, ◌++◌, Contains, map}
 use Rattle.std.proofs.Common.{refl, sym, ap, subst, append_assoc, append-nil, ◌∙◌}
 use Rattle.std.proofs.lemmas.List.Elements.{Contains-append_right}
-use Rattle.owl_list.specs.AscendingLaws.{in_head, in_map}
+use Rattle.owl_list.proofs.AscendingLaws.{in_head, in_map}
 use Rattle.owl_tree.specs.declared.tag.Tag.{Tag}
 use Rattle.owl_tree.specs.Trees.{Tree, node, kids_of}
 use Rattle.tree_stores.specs.Stores.{AreStanding, IsTreeFault, Keeps, StandFor}
-use Rattle.tree_stores.specs.StoreLaws.{keeps_all, keeps_more, stand_still, one_more_stands}
+use Rattle.tree_stores.proofs.StoreLaws.{keeps_all, keeps_more, stand_still, one_more_stands}
 use Rattle.tree_stores.specs.declared.fault.TreeFault.{TreeFault}
 use Rattle.rdf_meaning.specs.Statements.{axioms_of}
 use Rattle.rdf_statements.specs.Holding.{IsFaultOfOne}

@@ -14,9 +14,9 @@ use Rattle.rdf_graph.specs.declared.triple.Triple.{Triple}
 use Rattle.rdf_meaning.specs.Denotation.{of_node}
 use Rattle.rdf_meaning.specs.Nodes.{is_structural, of_subject}
 use Rattle.rdf_meaning.specs.Statements.{AreNodeAxioms, no_node, an_axiom, Annotates, no_note, note, IsAxiomWith, axioms_of, notes, notes_of}
-use Rattle.rdf_nodes.specs.DuplicateLaws.{axiom_too}
+use Rattle.rdf_nodes.proofs.DuplicateLaws.{axiom_too}
 use Rattle.rdf_nodes.specs.Duplicates.{HaveSameArcs, IsNumberOfDuplicate}
-use Rattle.rdf_nodes.specs.NumberTableLaws.{set_holds}
+use Rattle.rdf_nodes.proofs.NumberTableLaws.{set_holds}
 use Rattle.rdf_nodes.specs.Numbers.{HaveNone}
 use Rattle.rdf_nodes.specs.Operands.{labels}
 use Rattle.rdf_roles.specs.Tables.{RoleTable}

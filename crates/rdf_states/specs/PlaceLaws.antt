@@ -3,7 +3,7 @@ use Rattle.std.proofs.Common.{◌≡◌, ◌≤◌, ◌<◌, ◌+◌, ◌⊎◌,
 use Rattle.std.specs.Prelude.{Contains, map}
 use Rattle.std.proofs.lemmas.List.Elements.{Contains-append_cases, Contains-append_left, Contains-append_right}
 use Rattle.owl_list.specs.Ascending.{AreApart}
-use Rattle.owl_list.specs.AscendingLaws.{in_cases, in_head, in_none, in_tail}
+use Rattle.owl_list.proofs.AscendingLaws.{in_cases, in_head, in_none, in_tail}
 use Rattle.owl_tree.specs.Ontologies.{Ontology}
 use Rattle.owl_tree.specs.Trees.{Tree}
 use Rattle.rdf_graph.specs.declared.term.Term.{Term}
@@ -15,7 +15,7 @@ use Rattle.rdf_mapping.specs.Forms.{Form, made, Arcs, arc_nodes, blank, link, no
 use Rattle.rdf_mapping.specs.Frames.{IsAny, Keeps}
 use Rattle.rdf_mapping.specs.GraphEntries.{IsAt, first as at_first, next as at_next, group_others, group_roots, made_entries, made_nodes, made_others, made_roots, standing_others, standing_roots, statement_others, statement_roots}
 use Rattle.rdf_mapping.specs.GroupFrames.{group_nodes}
-use Rattle.rdf_mapping.specs.GraphEntryLaws.{made_drawn}
+use Rattle.rdf_mapping.proofs.GraphEntryLaws.{made_drawn}
 use Rattle.rdf_mapping.specs.Graphs.{bare_axioms, group_of, groups_of, head_triples, header_nodes, header_term, main_triple, made_triples, notes_from, set_nodes, sets_of, standing_nodes, statement_nodes, statement_triples}
 use Rattle.rdf_mapping.specs.GroupFrames.{EachGroupKept}
 use Rattle.rdf_mapping.specs.Notes.{Notes, note_nodes}

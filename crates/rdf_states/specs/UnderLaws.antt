@@ -2,7 +2,7 @@
 use Rattle.std.proofs.Common.{◌≡◌, ◌+◌, ◌⊎◌, ℕ, suc, true, List, [], ◌∷◌, ◌++◌, inl, inr, refl, sym, ◌∙◌, subst}
 use Rattle.std.specs.Prelude.{Contains}
 use Rattle.std.proofs.lemmas.List.Elements.{Contains-append_cases, Contains-append_left, Contains-append_right}
-use Rattle.owl_list.specs.AscendingLaws.{in_cases, in_head, in_none, in_tail}
+use Rattle.owl_list.proofs.AscendingLaws.{in_cases, in_head, in_none, in_tail}
 use Rattle.rdf_graph.specs.declared.term.Term.{Term}
 use Rattle.rdf_graph.specs.declared.term.Term.TheVariants.{Iri}
 use Rattle.rdf_graph.specs.declared.triple.Triple.{Triple}

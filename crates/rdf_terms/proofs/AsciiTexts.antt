@@ -6,10 +6,10 @@ use denote.Ref.{Bor}
 use Rattle.std.proofs.lemmas.Slice.Eq.{bytes_eq-Decides}
 use Rattle.std.proofs.lemmas.Str.{encodes-chars}
 use Rattle.owl_characters.specs.Iri.{is_ascii}
-use Rattle.owl_characters.specs.AsciiLaws.{from_bytes, front_is}
+use Rattle.owl_characters.proofs.AsciiLaws.{from_bytes, front_is}
 use Rattle.rdf_terms.specs.Datatypes.{has}
 use Rattle.rdf_terms.specs.Tables.{begins_with_name, is_name, are_ascii, shown}
-use Rattle.rdf_terms.specs.TableLaws.{any_same, is_name-ascii}
+use Rattle.rdf_terms.proofs.TableLaws.{any_same, is_name-ascii}
 
 pub one_of : (result : Bool) (names : List (Bor (List ℕ))) (text : List ℕ) → IsUtf8 text → result ≡ is_name names text → are_ascii names ≡ true → result ≡ has (shown names) (chars text)
 one_of result names text u e h = e ∙ ap (is_name names) (sym (encodes-chars text u)) ∙ is_name-ascii names (chars text) h

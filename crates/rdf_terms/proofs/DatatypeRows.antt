@@ -6,7 +6,7 @@ use Rattle.std.proofs.lemmas.Bool.{and_parts}
 use Rattle.rdf_terms.specs.declared.datatypes.DatatypeRow.{DatatypeRow as RowOfNames}
 use Rattle.rdf_terms.specs.Datatypes.{DatatypeRow, has}
 use Rattle.rdf_terms.specs.Tables.{are_ascii, shown, has_datatype, has_facet, is_name}
-use Rattle.rdf_terms.specs.TableLaws.{any_same, is_name-ascii}
+use Rattle.rdf_terms.proofs.TableLaws.{any_same, is_name-ascii}
 
 abbrev pub shown_row : RowOfNames → DatatypeRow
 shown_row row = record { datatypes = shown row.datatypes.now; facets = shown row.facets.now }

@@ -7,7 +7,7 @@ use Rattle.std.proofs.lemmas.List.{get_or-map, length-map}
 use Rattle.std.proofs.lemmas.List.Elements.{All-contains, Contains-get_or}
 use Rattle.std.proofs.lemmas.List.Sums.{AllPass-from_list_all}
 use Rattle.owl_characters.specs.Iri.{is_ascii}
-use Rattle.owl_characters.specs.AsciiLaws.{from_bytes, from_characters}
+use Rattle.owl_characters.proofs.AsciiLaws.{from_bytes, from_characters}
 use Rattle.rdf_terms.specs.declared.lexical.IntegerRow.{IntegerRow as RowOfName}
 use Rattle.rdf_terms.specs.Datatypes.{IntegerRow, IsIntegerForm}
 use Rattle.rdf_terms.specs.Tables.{FitsRows, range}

@@ -6,9 +6,9 @@ use denote.Ref.{Bor}
 use Rattle.std.proofs.lemmas.Bool.{false_from_ne_true, eqb-true, not_from_false, both_ways}
 use Rattle.std.proofs.lemmas.Str.Pattern.{IsSplitOnceResult}
 use Rattle.owl_characters.specs.Iri.{AllAre, IsIri, IsScheme, is_iri_character, is_scheme_character}
-use Rattle.owl_characters.specs.IriLaws.{scheme_characters}
-use Rattle.owl_characters.specs.AllAreLaws.{AllAre-weaker}
-use Rattle.owl_characters.specs.CutLaws.{found, same_cut}
+use Rattle.owl_characters.proofs.IriLaws.{scheme_characters}
+use Rattle.owl_characters.proofs.AllAreLaws.{AllAre-weaker}
+use Rattle.owl_characters.proofs.CutLaws.{found, same_cut}
 use Rattle.rdf_terms.proofs.Characters.{NoneAre, cut_at, front_utf8, none_of}
 
 -- a character that passes a test is not one that fails it

@@ -12,9 +12,9 @@ use Rattle.std.proofs.lemmas.Str.Pattern.{IsSplitOnceResult, split_once_first, s
 use Rattle.std.proofs.lemmas.Str.{chars-IsAscii, encodes-IsAscii, encodes-chars}
 use Rattle.owl_characters.specs.Iri.{AllAre, is_ascii}
 use Rattle.owl_characters.specs.Names.{AreSubtags, IsLanguageTag, IsRunOf, is_hyphen}
-use Rattle.owl_characters.specs.AllAreLaws.{AllAre-weaker, all_are}
-use Rattle.owl_characters.specs.LanguageTagLaws.{alphabetic_is_alphanumeric}
-use Rattle.owl_characters.specs.AsciiLaws.{ascii_text}
+use Rattle.owl_characters.proofs.AllAreLaws.{AllAre-weaker, all_are}
+use Rattle.owl_characters.proofs.LanguageTagLaws.{alphabetic_is_alphanumeric}
+use Rattle.owl_characters.proofs.AsciiLaws.{ascii_text}
 use Rattle.rdf_terms.specs.Characters.{is_run_of}
 
 -- a run that is not empty

@@ -13,7 +13,7 @@ use Rattle.std.proofs.lemmas.Str.{chars-nil, digit_value_digit, encodes-chars}
 use Rattle.std.proofs.lemmas.Str.Pattern.{IsSplitOnceResult}
 use Rattle.owl_characters.specs.Iri.{AllAre}
 use Rattle.owl_characters.specs.Names.{IsRunOf}
-use Rattle.owl_characters.specs.CutLaws.{found, same_cut}
+use Rattle.owl_characters.proofs.CutLaws.{found, same_cut}
 use Rattle.rdf_terms.specs.Datatypes.{IsDecimalForm, UnsignedDecimal, whole, pointed, fraction}
 use Rattle.rdf_terms.proofs.Characters.{NoneAre, cut_at, front_utf8}
 use Rattle.rdf_terms.proofs.Iris.{another, without}

@@ -9,9 +9,9 @@ use Rattle.std.specs.Option.{option_map}
 use Rattle.rdf_terms.specs.declared.fault.LiteralFault.{LiteralFault}
 use Rattle.rdf_terms.specs.declared.fault.LiteralFault.TheVariants.{BadLiteral}
 use Rattle.owl_characters.specs.Names.{IsLanguageTag}
-use Rattle.owl_characters.specs.CutLaws.{found}
-use Rattle.owl_characters.specs.AsciiLaws.{ascii_chars}
-use Rattle.rdf_terms.specs.FormLaws.{rest_passes, same_last_cut}
+use Rattle.owl_characters.proofs.CutLaws.{found}
+use Rattle.owl_characters.proofs.AsciiLaws.{ascii_chars}
+use Rattle.rdf_terms.proofs.FormLaws.{rest_passes, same_last_cut}
 use Rattle.rdf_terms.specs.Literals.{DenotesLiteral, DenotesTyped, FitsTag, LiteralParts, PlainForm, PlainParts, lang_string, of_datatype, plain_literal, string, with_tag}
 use Rattle.rdf_terms.proofs.Characters.{NoneAre, back_utf8, cut_at, none_of}
 

@@ -1,9 +1,6 @@
 pub mod Characters
 pub mod Vocabulary
-pub mod WordLaws
 pub mod Literals
-pub mod FormLaws
 pub mod LiteralLaws
 pub mod Datatypes
 pub mod Tables
-pub mod TableLaws

@@ -7,7 +7,7 @@ use Rattle.owl_arena.specs.Growth.{Adds, IsTooDeep, IsTooHeavy}
 use Rattle.owl_arena.specs.Held.{AreHeld, node_over, tree_at, trees_at}
 use Rattle.owl_arena.specs.Shared.{AreShared, deepest, heaviest}
 use Rattle.owl_tree.specs.Canonical.{canonical}
-use Rattle.owl_tree.specs.CanonicalLaws.{canonical_depth, canonical_node}
+use Rattle.owl_tree.proofs.CanonicalLaws.{canonical_depth, canonical_node}
 use Rattle.owl_tree.specs.declared.tag.Tag.{Tag}
 use Rattle.owl_tree.specs.Trees.{Tree, depth, kids_in, kids_of, node, weight}
 use Rattle.tree_stores.specs.Stores.{AreStanding, HasNumber, IsDeep, IsHeavy, IsNew, Keeps, StandFor}

@@ -1,2 +1,5 @@
-pub mod Growing
+pub mod ArenaLaws
 pub mod Counting
+pub mod Growing
+pub mod KidLaws
+pub mod StoreLaws

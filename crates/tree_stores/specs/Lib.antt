@@ -1,4 +1,1 @@
 pub mod Stores
-pub mod StoreLaws
-pub mod ArenaLaws
-pub mod KidLaws

@@ -5,17 +5,17 @@ use Rattle.grammar.specs.Derivations.{Derives, Event}
 use Rattle.grammar.specs.Derivations.Event.{Do}
 use Rattle.grammar.specs.Grammars.{Entry, has_rule}
 use Rattle.grammar.specs.Lowering.{lower}
-use Rattle.grammar.specs.LoweringLaws.{lowered}
+use Rattle.grammar.proofs.LoweringLaws.{lowered}
 use Rattle.grammar.specs.Predictions.{IsPredictive}
 use Rattle.grammar.specs.declared.symbol.Symbol.TheVariants.{Rule}
 use Rattle.owl_lexer.specs.declared.placed.Placed.{Placed}
 use Rattle.owl_reader.specs.Defects.{Begin, HasDefect, IsRefused}
 use Rattle.owl_reader.specs.Defects.HasDefect.{at_end, at_token, no_token}
 use Rattle.owl_reader.specs.Defects.IsRefused.{barred, wrong_end, wrong_token}
-use Rattle.owl_reader.specs.OneDefectLaws.{ComeOneWay, Fronts, fronts, never_taken}
-use Rattle.owl_reader.specs.OneDefectLaws.Fronts.{alike, later, sooner}
+use Rattle.owl_reader.proofs.OneDefectLaws.{ComeOneWay, Fronts, fronts, never_taken}
+use Rattle.owl_reader.proofs.OneDefectLaws.Fronts.{alike, later, sooner}
 use Rattle.owl_reader.specs.Readings.{IsRead}
-use Rattle.owl_reader.specs.SameStepsLaws.{same_acts_next, same_steps}
+use Rattle.owl_reader.proofs.SameStepsLaws.{same_acts_next, same_steps}
 use Rattle.owl_reader.specs.Standing.{Ends}
 use Rattle.owl_reader.specs.Steps.{MayFollow, Step, events_of, plain, tokens_in}
 use Rattle.owl_reader.specs.Syntaxes.{Rules}

@@ -1,3 +1,9 @@
-pub mod Words
 pub mod Defects
+pub mod DocumentLaws
+pub mod LabelLaws
+pub mod PageTable
 pub mod Refusals
+pub mod RunLaws
+pub mod TypedLiteralLaws
+pub mod Words
+pub mod WorkedCases

@@ -4,7 +4,7 @@ use Rattle.std.specs.Prelude.{nat_lt, if◌then◌else◌}
 use Rattle.grammar.specs.Derivations.{DerivesOf, Event}
 use Rattle.grammar.specs.Derivations.Event.{Do, Take}
 use Rattle.grammar.specs.Lowering as lowering
-use Rattle.grammar.specs.LoweringLaws.{taken}
+use Rattle.grammar.proofs.LoweringLaws.{taken}
 use Rattle.grammar.specs.declared.symbol.Symbol.TheVariants.{Rule}
 use Rattle.owl_atom.specs.declared.prefixes.Prefix.{Prefix}
 use Rattle.owl_lexer.specs.Splitting.{Splits}
@@ -21,11 +21,11 @@ use Rattle.rdf_graph.specs.declared.triple.Triple.{Triple}
 use Rattle.ttl_tokens.specs.TurtleSpellings as tokens
 use Rattle.ttl_tokens.specs.declared.token.Token.{Token}
 use Rattle.ttl_grammar.specs.Classes.{class_of}
-use Rattle.ttl_grammar.specs.DocumentLaws.{is_predictive, splits_one_way}
+use Rattle.ttl_grammar.proofs.DocumentLaws.{is_predictive, splits_one_way}
 use Rattle.ttl_grammar.specs.Documents.{IsFirstDefect, ReadsTurtle, tokens_of}
 use Rattle.ttl_grammar.specs.Labels.{graph_of}
 use Rattle.ttl_grammar.specs.Rules.{has_document, turtle_rules}
-use Rattle.ttl_grammar.specs.RunLaws.{run_steps}
+use Rattle.ttl_grammar.proofs.RunLaws.{run_steps}
 use Rattle.ttl_grammar.specs.Runs.{and_then, limited, run}
 use Rattle.ttl_grammar.specs.States.{State, start}
 use Rattle.ttl_grammar.specs.Table.{turtle}

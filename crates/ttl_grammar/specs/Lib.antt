@@ -2,15 +2,9 @@ pub mod Classes
 pub mod Acts
 pub mod Page
 pub mod Table
-pub mod PageTable
 pub mod TypedLiterals
-pub mod TypedLiteralLaws
 pub mod States
 pub mod Labels
-pub mod LabelLaws
 pub mod Runs
-pub mod RunLaws
 pub mod Rules
 pub mod Documents
-pub mod DocumentLaws
-pub mod WorkedCases

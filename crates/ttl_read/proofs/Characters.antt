@@ -2,7 +2,7 @@
 use Rattle.std.proofs.Common.{◌≡◌, IsTrue, inl, inr, ℕ, Bool, true, false, List}
 use Rattle.std.specs.List.{list_all}
 use Rattle.std.proofs.lemmas.Bool.{both_ways, cases_Bool}
-use Rattle.owl_characters.specs.AllAreLaws.{all_are}
+use Rattle.owl_characters.proofs.AllAreLaws.{all_are}
 use Rattle.owl_characters.specs.Iri.{AllAre, is_iri_character}
 
 pub all_told : (cs : List ℕ) → AllAre is_iri_character cs → list_all is_iri_character cs ≡ true

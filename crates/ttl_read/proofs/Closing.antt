@@ -7,7 +7,7 @@ use Rattle.rdf_graph.specs.Graphs.{most_triples}
 use Rattle.rdf_graph.specs.declared.fault.GraphFault.{GraphFault}
 use Rattle.rdf_graph.specs.declared.fault.GraphFault.TheVariants as graph
 use Rattle.rdf_graph.specs.declared.triple.Triple.{Triple}
-use Rattle.ttl_grammar.specs.LabelLaws.{graph_same}
+use Rattle.ttl_grammar.proofs.LabelLaws.{graph_same}
 use Rattle.ttl_grammar.specs.Labels.{graph_of}
 use Rattle.ttl_grammar.specs.Runs.{limited}
 use Rattle.ttl_grammar.specs.States.{Facts, State}

@@ -5,11 +5,11 @@ use Rattle.std.specs.List.{AllByRecursion}
 use Rattle.std.proofs.lemmas.List.{length-append, length-map}
 use Rattle.std.proofs.lemmas.List.Elements.{Contains-append_left, Contains-append_right}
 use Rattle.blank_labels.specs.FreshLabels.{fresh_name}
-use Rattle.blank_labels.specs.FreshLabelLaws.{fresh_apart, fresh_new, in_flat}
+use Rattle.blank_labels.proofs.FreshLabelLaws.{fresh_apart, fresh_new, in_flat}
 use Rattle.owl_list.specs.Ascending.{AreApart}
-use Rattle.owl_list.specs.AscendingLaws.{all_in, from_map, in_head, in_map, in_tail}
+use Rattle.owl_list.proofs.AscendingLaws.{all_in, from_map, in_head, in_map, in_tail}
 use Rattle.rdf_graph.specs.Graphs.{set_of}
-use Rattle.rdf_graph.specs.GraphLaws.{set_holds}
+use Rattle.rdf_graph.proofs.GraphLaws.{set_holds}
 use Rattle.rdf_graph.specs.declared.triple.Triple.{Triple}
 use Rattle.ttl_grammar.specs.Labels.{graph_of, labels_of, named, named_object, named_triple, named_triples, node_labels, object_labels, triple_labels}
 use Rattle.ttl_grammar.specs.declared.node.Node.{Node}

@@ -4,7 +4,7 @@ use Rattle.std.specs.Prelude.{Contains}
 use Rattle.std.proofs.lemmas.List.{append_assoc, append-nil, map-append}
 use Rattle.std.proofs.lemmas.List.Elements.{Contains-append_cases, Contains-append_left, Contains-append_right, Contains-push, Contains-push_cases}
 use Rattle.owl_list.specs.Ascending.{HoldSame}
-use Rattle.owl_list.specs.AscendingLaws.{in_cases, in_head, in_tail, same_trans}
+use Rattle.owl_list.proofs.AscendingLaws.{in_cases, in_head, in_tail, same_trans}
 
 module _ {X : Type 0} (g p q : List X) (x : X) where
   taken_from : (z : X) → Contains ((g ++ x ∷ []) ++ (p ++ q)) z → Contains (g ++ (p ++ x ∷ q)) z

@@ -6,7 +6,7 @@ use Rattle.rdf_terms.specs.declared.fault.LiteralFault.TheVariants as literal
 use Rattle.owl_reader.specs.declared.fault.TokenFault.{TokenFault}
 use Rattle.owl_reader.specs.declared.fault.TokenFault.TheVariants.{Memory}
 use Rattle.ttl_grammar.specs.States.{literal_term}
-use Rattle.ttl_grammar.specs.TypedLiteralLaws.{nothing_is_denoted}
+use Rattle.ttl_grammar.proofs.TypedLiteralLaws.{nothing_is_denoted}
 use Rattle.ttl_grammar.specs.TypedLiterals.{typed_literal}
 use Rattle.ttl_read.specs.Refusals.{of_literal}
 

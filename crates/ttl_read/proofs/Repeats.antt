@@ -10,7 +10,7 @@ use Rattle.indexmap.specs.IndexSet.{insert_key}
 use Rattle.indexmap.proofs.CallerLemmas.{Contains-list_any}
 use Rattle.owl_characters.specs.Order.{text_eq}
 use Rattle.owl_list.specs.Ascending.{AreApart}
-use Rattle.owl_list.specs.AscendingLaws.{all_pushed, in_cases, in_head, in_none, in_tail}
+use Rattle.owl_list.proofs.AscendingLaws.{all_pushed, in_cases, in_head, in_none, in_tail}
 use Rattle.rdf_graph.specs.Graphs.{most_triples}
 use Rattle.rdf_terms.specs.Literals.{LiteralParts, literal_eq}
 use Rattle.ttl_grammar.specs.contracts.node.NodePartialEq.TheImpl as equal_nodes

@@ -9,13 +9,13 @@ use Rattle.grammar.specs.Derivations.Event.{Do, Take}
 use Rattle.owl_reader.specs.Steps.{GoesOn}
 use Rattle.owl_reader.specs.declared.fault.TokenFault.{TokenFault}
 use Rattle.owl_reader.specs.declared.fault.TokenFault.TheVariants.{Memory, TooMany}
-use Rattle.ttl_tokens.specs.TokenFormLaws.{tokens_formed}
+use Rattle.ttl_tokens.proofs.TokenFormLaws.{tokens_formed}
 use Rattle.ttl_tokens.specs.TokenForms.{IsFormed}
 use Rattle.ttl_tokens.specs.TurtleSpellings.{Spells}
 use Rattle.ttl_tokens.specs.declared.token.Token.{Token}
 use Rattle.rdf_graph.specs.Graphs.{most_triples}
 use Rattle.ttl_grammar.specs.Labels.{graph_of}
-use Rattle.ttl_grammar.specs.RunLaws.{run_acts, run_last, run_nothing}
+use Rattle.ttl_grammar.proofs.RunLaws.{run_acts, run_last, run_nothing}
 use Rattle.ttl_grammar.specs.Runs.{all_done, and_then, answer, limited, run}
 use Rattle.ttl_grammar.specs.States.{State, start}
 use Rattle.ttl_read.specs.Computing.{TurnsTo}

@@ -2,7 +2,7 @@
 use Rattle.std.proofs.Common.{◌≡◌, ℕ, Option, None, Some, List, [], ◌∷◌, ◌++◌, drop, refl, sym, ap, ◌∙◌, subst}
 use Rattle.std.proofs.lemmas.List.{append_assoc}
 use Rattle.ttl_tokens.specs.EscapedText.{behind_text}
-use Rattle.ttl_tokens.specs.EscapeLaws.{unescaped_behind-drop}
+use Rattle.ttl_tokens.proofs.EscapeLaws.{unescaped_behind-drop}
 use Rattle.ttl_tokens.specs.Escapes.{first_character, in_front, length_behind, unescaped, unescaped_behind}
 
 pub behind_text-in_front : (text : List ℕ) (c : ℕ) (others : Option (List ℕ)) → behind_text text (in_front (Some c) others) ≡ behind_text (text ++ c ∷ []) others

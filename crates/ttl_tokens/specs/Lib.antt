@@ -4,13 +4,7 @@ pub mod TurtleTable
 pub mod TurtleLaws
 pub mod Escapes
 pub mod EscapedText
-pub mod EscapeLaws
 pub mod TurtleValues
-pub mod WorkedCases
-pub mod StringLaws
-pub mod NameLaws
 pub mod TurtleSpellings
 pub mod TokenForms
-pub mod PatternWithinLaws
-pub mod TokenFormLaws
 pub mod TurtleSpellingLaws

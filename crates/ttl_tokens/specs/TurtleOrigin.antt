@@ -1,6 +1,6 @@
 -- How the table of Turtle came about; `tools/make_table.py` made it.
 use Rattle.std.specs.Prelude.{[], ◌∷◌}
-use Rattle.owl_lexer.specs.TableTests.{Origin}
+use Rattle.owl_lexer.proofs.TableCheckLaws.{Origin}
 
 unfoldable pub turtle_origin : Origin
 turtle_origin = record {

@@ -6,12 +6,12 @@ use Rattle.std.proofs.Math.Bool.{or_assoc, or_comm}
 use Rattle.owl_characters.specs.Iri.{is_among}
 use Rattle.std.proofs.lemmas.Bool.{and_parts, eqb-true, or_cases}
 use Rattle.owl_characters.specs.Names.{IsRunOf}
-use Rattle.owl_lexer.specs.GapTestLaws.{Stand, table_is_language, table_is_prompt}
-use Rattle.owl_lexer.specs.GapTests.{Quote, check_gaps, check_quiet}
+use Rattle.owl_lexer.proofs.GapTestLaws.{Stand, table_is_language, table_is_prompt}
+use Rattle.owl_lexer.proofs.GapCheckLaws.{Quote, check_gaps, check_quiet}
 use Rattle.owl_lexer.specs.Grammars.{IsLexeme, IsLexemeOf, Terminal, test_of}
 use Rattle.owl_lexer.specs.Languages.{IsCommentText, IsLanguage, IsLexemeWith, IsPrompt}
 use Rattle.owl_lexer.specs.Languages.IsLexemeWith.{token, space, comment}
-use Rattle.owl_lexer.specs.PatternLaws.{Means, comment_is, each_is, one_is, run_is}
+use Rattle.owl_lexer.proofs.PatternLaws.{Means, comment_is, each_is, one_is, run_is}
 use Rattle.owl_lexer.specs.Patterns.Pattern.{both, many, one}
 use Rattle.owl_lexer.specs.PatternWords.{some}
 use Rattle.owl_lexer.specs.Splitting.{is_line_end, is_space}

@@ -1,5 +1,5 @@
 -- What lexemes of Turtle stand for (RDF 1.1 Turtle, sections 2.4, 2.5 and 6.4).
-use Rattle.std.specs.Prelude.{ℕ, ◌-◌, ◌*◌, ◌==◌, Bool, not, ◌||◌, List, [], length, take, drop, filter, Option, None, Some, unwrap_or, if◌then◌else◌}
+use Rattle.std.specs.Prelude.{◌≡◌, ℕ, ◌-◌, ◌*◌, ◌==◌, Bool, not, ◌||◌, List, [], length, take, drop, filter, Option, None, Some, unwrap_or, if◌then◌else◌}
 use Rattle.std.specs.List.{after_first, before_first}
 use Rattle.ttl_tokens.specs.Escapes.{unescaped}
 use Rattle.ttl_tokens.specs.TurtleGrammar.{iriref_kind, prefixed_name_kind, blank_node_label_kind, langtag_kind, integer_kind, decimal_kind, double_kind, string_literal_quote_kind, string_literal_single_quote_kind, string_literal_long_quote_kind, string_literal_long_single_quote_kind, a_word_kind, true_word_kind, false_word_kind, prefix_word_kind, base_word_kind, dot_kind, semicolon_kind, comma_kind, open_bracket_kind, close_bracket_kind, open_parenthesis_kind, close_parenthesis_kind, circumflexes_kind}
@@ -65,3 +65,7 @@ token_of kind cs =
     else if (kind == string_literal_quote_kind) || (kind == string_literal_single_quote_kind) then Some (Str (string_text (inside 1 cs)))
     else if (kind == string_literal_long_quote_kind) || (kind == string_literal_long_single_quote_kind) then Some (Str (string_text (inside 3 cs)))
     else symbol_token (symbol_of kind)
+
+-- the string between so many quotes is undone to its text
+abbrev pub IsUndone : ℕ → List ℕ → Type 0
+IsUndone count cs = unescaped (inside count cs) ≡ Some (string_text (inside count cs))

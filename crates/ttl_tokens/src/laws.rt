@@ -9,12 +9,11 @@ ghost use Rattle.owl_lexer.specs.Tables.{automaton_of};
 ghost use Rattle.owl_characters.specs.Names.{IsPrefixName, SpellsLocal};
 ghost use Rattle.ttl_tokens.specs.EscapedText.{IsPiece, Piece, characters_of, piece_spelling};
 ghost use Rattle.ttl_tokens.specs.Escapes.{unescaped};
-ghost use Rattle.ttl_tokens.specs.StringLaws.{IsUndone};
+ghost use Rattle.ttl_tokens.specs.TurtleValues.{IsUndone, local_text, prefix_text};
 ghost use Rattle.ttl_tokens.specs.TokenForms.{IsFormed};
 ghost use Rattle.ttl_tokens.specs.TurtleGrammar.{string_literal_long_quote_kind, string_literal_long_single_quote_kind, string_literal_quote_kind, string_literal_single_quote_kind, turtle_grammar};
 ghost use Rattle.ttl_tokens.specs.TurtleSpellings.{Spells, long_quotes};
 ghost use Rattle.ttl_tokens.specs.TurtleTable.{turtle_table};
-ghost use Rattle.ttl_tokens.specs.TurtleValues.{local_text, prefix_text};
 ghost use Rattle.ttl_tokens.specs.declared.token.Token.{Token};
 
 /// A law: the automaton of Turtle knows the lexemes of the grammar.

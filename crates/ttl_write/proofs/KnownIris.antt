@@ -6,9 +6,9 @@ use Rattle.std.specs.List.{list_all, list_any, position_or_len}
 use Rattle.std.proofs.Math.Seq.{take-append_seam}
 use Rattle.std.proofs.lemmas.Bool.{and_from, or_right}
 use Rattle.std.proofs.lemmas.List.Folds.{list_any-append}
-use Rattle.owl_characters.specs.AllAreLaws.{all_are}
+use Rattle.owl_characters.proofs.AllAreLaws.{all_are}
 use Rattle.owl_characters.specs.Iri.{AllAre, IsIri, IsScheme, is_iri_character, is_scheme_character}
-use Rattle.owl_characters.specs.IriLaws.{iri_characters, scheme_characters}
+use Rattle.owl_characters.proofs.IriLaws.{iri_characters, scheme_characters}
 use Rattle.iri_references.specs.References.{before, colon, has_scheme, is_scheme}
 use Rattle.owl_reader.specs.declared.fault.Reason.TheVariants.{BadIri}
 use Rattle.owl_reader.specs.declared.fault.TokenFault.TheVariants.{Defect}

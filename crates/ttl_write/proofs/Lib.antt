@@ -1,8 +1,9 @@
-mod Spelled
-mod Stops
-mod Rows
-mod Steps
 mod KnownIris
-mod ReadTerms
 mod ReadLines
+mod ReadTerms
 mod ReadsBack
+mod Rows
+mod Spelled
+mod Steps
+mod Stops
+pub mod WorkedCases

@@ -10,11 +10,11 @@ use Rattle.owl_atom.specs.declared.prefixes.Prefix.{Prefix}
 use Rattle.owl_characters.specs.Iri.{IsIri}
 use Rattle.owl_characters.specs.Names.{IsLanguageTag, IsPrefixName}
 use Rattle.owl_characters.specs.Order.{text_eq}
-use Rattle.owl_list.specs.AscendingLaws.{all_in}
+use Rattle.owl_list.proofs.AscendingLaws.{all_in}
 use Rattle.owl_reader.specs.declared.fault.TokenFault.{TokenFault}
-use Rattle.owl_writing.specs.AbbreviationLaws.{IsAnswer, best_answer, cuts_fact}
+use Rattle.owl_writing.proofs.AbbreviationLaws.{IsAnswer, best_answer, cuts_fact}
 use Rattle.owl_writing.specs.Abbreviations.{best_prefix, local_behind}
-use Rattle.owl_writing.specs.TableLaws.{looked_up}
+use Rattle.owl_writing.proofs.TableLaws.{looked_up}
 use Rattle.owl_writing.specs.Terms.{full_iri, iri_text, literal_end, shortened_by}
 use Rattle.rdf_graph.specs.Terms.{IsSubject}
 use Rattle.rdf_graph.specs.declared.term.Term.{Term}
@@ -24,7 +24,7 @@ use Rattle.ttl_grammar.specs.Classes.{class_number, class_of}
 use Rattle.ttl_grammar.specs.declared.class.Class.TheVariants.{AtBase, AtPrefix, Language}
 use Rattle.ttl_grammar.specs.Documents.{AreNamespaces}
 use Rattle.ttl_grammar.specs.States.{Names, Namespace, State, iri_of, iri_term, literal_term, prefixed_iri, reading, typed_term}
-use Rattle.ttl_grammar.specs.TypedLiteralLaws.{denoted_is_found}
+use Rattle.ttl_grammar.proofs.TypedLiteralLaws.{denoted_is_found}
 use Rattle.ttl_grammar.specs.declared.node.Nest.{Nest}
 use Rattle.ttl_grammar.specs.declared.node.Node.TheVariants as node
 use Rattle.ttl_grammar.specs.declared.node.NodeTriple.{NodeTriple}

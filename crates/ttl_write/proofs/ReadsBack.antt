@@ -13,13 +13,13 @@ use Rattle.owl_atom.specs.declared.prefixes.Prefix.{Prefix}
 use Rattle.owl_characters.specs.Limit.{most_bytes}
 use Rattle.owl_characters.specs.Order.{text_cmp, text_eq}
 use Rattle.owl_characters.specs.Utf8.{behind_mark, mark_size}
-use Rattle.owl_characters.specs.Utf8Laws.{no_bytes}
+use Rattle.owl_characters.proofs.Utf8Laws.{no_bytes}
 use Rattle.owl_lexer.specs.Splitting.{Splits, SplitsFrom}
 use Rattle.owl_lexer.specs.declared.placed.Placed.{Placed}
 use Rattle.owl_list.specs.Ascending.{by_order}
 use Rattle.owl_writing.specs.Tables.{HaveIris, with_prefix, written_prefixes}
-use Rattle.owl_writing.specs.WrittenTableLaws.{written_table}
-use Rattle.rdf_graph.specs.GraphLaws.{set_again}
+use Rattle.owl_writing.proofs.WrittenTableLaws.{written_table}
+use Rattle.rdf_graph.proofs.GraphLaws.{set_again}
 use Rattle.rdf_graph.specs.Graphs.{IsGraph, set_of}
 use Rattle.rdf_graph.specs.Terms.{HaveSubjects, IsSubject}
 use Rattle.rdf_graph.specs.declared.term.Term.{Term}

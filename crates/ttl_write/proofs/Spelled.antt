@@ -7,25 +7,25 @@ use Rattle.std.proofs.Math.Seq.{take-append_seam}
 use Rattle.std.proofs.lemmas.Bool.{both_ways, cases_Bool, eqb-true, or_cases, or_left, or_right}
 use Rattle.std.proofs.lemmas.List.{append_assoc, length-append}
 use Rattle.owl_characters.specs.Iri.{AllAre, IsIri, is_among, is_iri_character}
-use Rattle.owl_characters.specs.IriLaws.{iri_characters}
-use Rattle.owl_characters.specs.LanguageTagLaws.{tag_from_fits}
+use Rattle.owl_characters.proofs.IriLaws.{iri_characters}
+use Rattle.owl_characters.proofs.LanguageTagLaws.{tag_from_fits}
 use Rattle.owl_characters.specs.Names.{IsLabel, IsLanguageTag, IsPrefixName, base_ranges, ends_in_dot, in_ranges, is_base, is_dot, is_inner, is_label_start, is_part, is_start, part_ranges, start_ranges}
 use Rattle.owl_atom.specs.Prefixes.{IsPlainLocal, is_plain_character, is_plain_start}
 use Rattle.owl_lexer.specs.Grammars.{IsLexeme, test_of}
-use Rattle.owl_lexer.specs.PatternLaws.{each_is}
+use Rattle.owl_lexer.proofs.PatternLaws.{each_is}
 use Rattle.owl_lexer.specs.Patterns.{Matches, Pattern}
 use Rattle.owl_lexer.specs.Patterns.Pattern.{empty, one, both, either, many}
 use Rattle.owl_tokens.specs.CharacterLaws.{differs, functional_tests, ranges_are}
 use Rattle.owl_tokens.specs.FunctionalGrammar.{functional_grammar}
 use Rattle.owl_tokens.specs.SharedPatterns.{language_tag}
 use Rattle.owl_tokens.specs.TagPatternLaws.{matches_tag}
-use Rattle.owl_writing.specs.PlainLocalLaws.{spells_nothing, spells_plain}
+use Rattle.owl_writing.proofs.PlainLocalLaws.{spells_nothing, spells_plain}
 use Rattle.owl_writing.specs.Terms.{full_iri}
-use Rattle.ttl_tokens.specs.EscapeLaws.{at_piece}
+use Rattle.ttl_tokens.proofs.EscapeLaws.{at_piece}
 use Rattle.ttl_tokens.specs.EscapedText.Piece.{plain, echar}
 use Rattle.ttl_tokens.specs.Escapes.{in_front, string_escape as escape_of, unescaped}
-use Rattle.ttl_tokens.specs.NameLaws.{local_is_read, prefix_is_read}
-use Rattle.ttl_tokens.specs.PatternWithinLaws.{matches_within}
+use Rattle.ttl_tokens.proofs.NameLaws.{local_is_read, prefix_is_read}
+use Rattle.ttl_tokens.proofs.PatternWithinLaws.{matches_within}
 use Rattle.ttl_tokens.specs.TurtleGrammar.{blank_node_label_kind, circumflexes_kind, dot_kind, iriref_kind, langtag, langtag_kind, prefixed_name_kind, string_escape, string_literal_quote_kind, turtle_grammar}
 use Rattle.ttl_tokens.specs.TurtleLaws.{turtle_knows}
 use Rattle.ttl_tokens.specs.TurtleSpellings.{Spells}

@@ -15,7 +15,7 @@ use Rattle.ttl_grammar.specs.Table.{turtle}
 use Rattle.ttl_tokens.specs.TurtleSpellings.{Spells}
 use Rattle.ttl_tokens.specs.declared.token.Token.{Token}
 use Rattle.ttl_write.proofs.Rows.{Has}
-use Rattle.owl_writing.specs.CutLaws.{Cuts, cuts_none, cuts_space, cuts_token, cuts_weaker}
+use Rattle.owl_writing.proofs.CutLaws.{Cuts, cuts_none, cuts_space, cuts_token, cuts_weaker}
 
 abbrev pub first_of : List Token → Option Token
 first_of [] = None

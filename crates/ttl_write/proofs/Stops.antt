@@ -1,14 +1,13 @@
 -- Before what a token of a written text is the longest.
-use Rattle.std.proofs.Common.{◌≡◌, ℕ, Bool, true, false, not, if◌then◌else◌, Option, None, Some, List, [], ◌∷◌, codes, refl, ap}
+use Rattle.std.proofs.Common.{◌≡◌, ℕ, Bool, true, false, not, if◌then◌else◌, Option, None, Some, List, [], ◌∷◌, codes, refl, ap, inl, inr}
 use Rattle.std.specs.Prelude.{◌==◌, ◌||◌, drop}
 use Rattle.std.specs.List.{AllByRecursion, list_all}
 use Rattle.std.proofs.lemmas.Bool.{both_ways, cases_Bool, eqb-true, false_from_ne_true, or_cases}
-use Rattle.std.proofs.Common.{inl, inr}
 use Rattle.owl_characters.specs.Iri.{is_among}
-use Rattle.owl_lexer.specs.GapTests.{class_of, tokens_end}
-use Rattle.owl_lexer.specs.GapTestLaws.{passes_among}
+use Rattle.owl_lexer.proofs.GapCheckLaws.{class_of, tokens_end}
+use Rattle.owl_lexer.proofs.GapTestLaws.{passes_among}
 use Rattle.owl_lexer.specs.Splitting.{IsLongest}
-use Rattle.owl_lexer.specs.StopLaws.{longest_always, longest_before, tokens_are_closed}
+use Rattle.owl_lexer.proofs.StopLaws.{longest_always, longest_before, tokens_are_closed}
 use Rattle.ttl_tokens.specs.Escapes.{unescaped}
 use Rattle.ttl_tokens.specs.TurtleGrammar.{a_word_kind, base_word_kind, blank_node_label_kind, circumflexes_kind, close_bracket_kind, close_parenthesis_kind, comma_kind, comment_kind, decimal_kind, dot_kind, double_kind, false_word_kind, integer_kind, iriref_kind, langtag_kind, open_bracket_kind, open_parenthesis_kind, prefix_word_kind, prefixed_name_kind, semicolon_kind, string_literal_long_quote_kind, string_literal_long_single_quote_kind, string_literal_quote_kind, string_literal_single_quote_kind, true_word_kind, white_space_kind}
 use Rattle.ttl_tokens.specs.TurtleSpellingLaws.{is_gap, turtle_is_language}

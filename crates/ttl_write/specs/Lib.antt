@@ -1,3 +1,2 @@
 pub mod Text
 pub mod Formed
-pub mod WorkedCases

@@ -15,7 +15,7 @@ use owl_writing::{Draft, WriteFault};
 use rdf_graph::{Graph, Triple};
 
 /// Adds the lines of a graph, in which IRIs are abbreviated by these prefixes.
-#[tactic(auto, using(owl_characters::specs::Utf8Laws::size_append))]
+#[tactic(auto, using(owl_characters::proofs::Utf8Laws::size_append))]
 pub fn add_graph(draft: &mut Draft, prefixes: &Prefixes, graph: &Graph) -> Result<(), WriteFault>
     ensures ok { OnOk result (draft.new ≡ draft.old ++ lines_of prefixes.now graph.now) }
     ensures too_long { IsErrOf result WriteFault.TooLong
@@ -42,7 +42,7 @@ fn add_prefixes(draft: &mut Draft, prefixes: &Prefixes) -> Result<(), WriteFault
 }
 
 /// Adds the line of a prefix.
-#[tactic(auto, using(owl_characters::specs::Utf8Laws::size_append))]
+#[tactic(auto, using(owl_characters::proofs::Utf8Laws::size_append))]
 fn add_prefix(draft: &mut Draft, name: &str, iri: &Iri) -> Result<(), WriteFault>
     ensures ok { OnOk result (draft.new ≡ draft.old ++ namespace_line (chars name.now) iri.now) }
     ensures too_long { IsErrOf result WriteFault.TooLong
@@ -73,7 +73,7 @@ fn add_triples(draft: &mut Draft, prefixes: &Prefixes, graph: &Graph) -> Result<
 }
 
 /// Adds the line of a triple.
-#[tactic(auto, using(owl_characters::specs::Utf8Laws::size_append))]
+#[tactic(auto, using(owl_characters::proofs::Utf8Laws::size_append))]
 fn add_triple(draft: &mut Draft, prefixes: &Prefixes, triple: &Triple) -> Result<(), WriteFault>
     ensures ok { OnOk result (draft.new ≡ draft.old ++ triple_line prefixes.now triple.now) }
     ensures too_long { IsErrOf result WriteFault.TooLong
@@ -93,7 +93,7 @@ fn add_triple(draft: &mut Draft, prefixes: &Prefixes, triple: &Triple) -> Result
 }
 
 /// Adds the terms of a triple, with IRIs in full.
-#[tactic(auto, using(owl_characters::specs::Utf8Laws::size_append))]
+#[tactic(auto, using(owl_characters::proofs::Utf8Laws::size_append))]
 pub fn add_full_triple(
     draft: &mut Draft,
     none: &Prefixes,

@@ -42,7 +42,7 @@ pub fn add_term(draft: &mut Draft, prefixes: &Prefixes, term: &Term) -> Result<(
 }
 
 /// Adds a literal: a string alone, with its language tag, or with its datatype.
-#[tactic(auto, using(owl_characters::specs::Utf8Laws::size_append))]
+#[tactic(auto, using(owl_characters::proofs::Utf8Laws::size_append))]
 fn add_literal(draft: &mut Draft, prefixes: &Prefixes, literal: &Literal) -> Result<(), WriteFault>
     ensures ok { OnOk result (draft.new ≡ draft.old ++ literal_text prefixes.now literal.now) }
     ensures too_long { IsErrOf result WriteFault.TooLong
@@ -53,7 +53,7 @@ fn add_literal(draft: &mut Draft, prefixes: &Prefixes, literal: &Literal) -> Res
 }
 
 /// Adds a string with its quotes and escapes.
-#[tactic(auto, using(owl_characters::specs::Utf8Laws::size_append))]
+#[tactic(auto, using(owl_characters::proofs::Utf8Laws::size_append))]
 fn add_string(draft: &mut Draft, form: &str) -> Result<(), WriteFault>
     ensures ok { OnOk result (draft.new ≡ draft.old ++ string_text (chars form.now)) }
     ensures too_long { IsErrOf result WriteFault.TooLong

@@ -6,7 +6,7 @@ use Rattle.std.proofs.lemmas.Bool.{eqb-true, not_from_false, not-true, or_cases}
 use Rattle.owl_characters.specs.Iri.{AllAre, is_among}
 use Rattle.owl_characters.specs.Names.{IsRunOf}
 use Rattle.owl_lexer.specs.Automata.{Spells, kind_at, run, step_from}
-use Rattle.owl_lexer.specs.HoldingLaws.{run-append, run-none}
+use Rattle.owl_lexer.proofs.HoldingLaws.{run-append, run-none}
 use Rattle.owl_lexer.specs.Languages.{BeginsNoGap, IsCommentText, IsLanguage, IsLexemeWith}
 use Rattle.owl_lexer.specs.Languages.IsLexemeWith.{token, space, comment}
 use Rattle.owl_lexer.specs.Splitting.{is_comment_start, is_line_end, is_space}

@@ -1,6 +1,6 @@
 use Rattle.std.proofs.Common.{sym}
-use Rattle.owl_list.specs.ArrangedLaws.{arranged}
-use Rattle.owl_list.specs.AscendingLaws.{ascending_again}
+use Rattle.owl_list.proofs.ArrangedLaws.{arranged}
+use Rattle.owl_list.proofs.AscendingLaws.{ascending_again}
 use Rattle.owl_list.specs.Ascending.{IsAscending}
 use Rattle.std.proofs.Common.{subst}
 use Rattle.owl_list.proofs.arrange.Goals as goal

@@ -1,4 +1,4 @@
-use Rattle.owl_list.specs.AscendingLaws.{ascending_ascends, ascending_holds, ascending_is, ascending_again, ascending_same, same_ascending}
+use Rattle.owl_list.proofs.AscendingLaws.{ascending_ascends, ascending_holds, ascending_is, ascending_again, ascending_same, same_ascending}
 use Rattle.owl_list.proofs.lists_in_order.Goals as goal
 
 pub returns-clause-ascends : goal.returns-clause-ascends

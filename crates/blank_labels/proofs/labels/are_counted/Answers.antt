@@ -4,7 +4,7 @@ use Rattle.std.specs.Char.{is_ascii_digit}
 use borrow.Author.Tests.{tests}
 use Rattle.std.proofs.lemmas.Iterator.Adapters.{YieldsList-from_bytes}
 use Rattle.std.proofs.lemmas.Iterator.Search.{all_from_yields_List}
-use Rattle.blank_labels.specs.LabelLaws.{counted_where}
+use Rattle.blank_labels.proofs.LabelLaws.{counted_where}
 use Rattle.blank_labels.proofs.labels.are_counted.Goals as goal
 
 pub returns-then-digits-le-MOST_DIGITS : goal.returns-then-digits-le-MOST_DIGITS

@@ -1,5 +1,5 @@
 use Rattle.std.proofs.Common.{◌<◌, ◌^◌, subst, sym, ◌∙◌}
-use Rattle.blank_labels.specs.LabelLaws.{counted_below}
+use Rattle.blank_labels.proofs.LabelLaws.{counted_below}
 use Rattle.blank_labels.proofs.Digits.{number_read}
 use Rattle.blank_labels.proofs.labels.counted_number.Goals as goal
 

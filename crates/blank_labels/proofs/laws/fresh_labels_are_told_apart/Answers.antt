@@ -1,4 +1,4 @@
-use Rattle.blank_labels.specs.FreshLabelLaws.{fresh_apart, fresh_is_label, fresh_new}
+use Rattle.blank_labels.proofs.FreshLabelLaws.{fresh_apart, fresh_is_label, fresh_new}
 use Rattle.blank_labels.proofs.laws.fresh_labels_are_told_apart.Goals as goal
 
 pub returns-clause-apart : goal.returns-clause-apart

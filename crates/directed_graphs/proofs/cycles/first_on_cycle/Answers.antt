@@ -1,6 +1,6 @@
 use Rattle.std.proofs.Common.{below_more, arith}
 use Rattle.directed_graphs.specs.Cycles.{edges_of}
-use Rattle.directed_graphs.specs.CycleLaws.{graph_size, leads_within}
+use Rattle.directed_graphs.proofs.CycleLaws.{graph_size, leads_within}
 use Rattle.directed_graphs.proofs.Ranking.{clear_by_ranks}
 use Rattle.directed_graphs.proofs.cycles.first_on_cycle.Goals as goal
 

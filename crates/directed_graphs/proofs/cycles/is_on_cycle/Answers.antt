@@ -1,5 +1,5 @@
 use Rattle.directed_graphs.specs.Cycles.{edges_of}
-use Rattle.directed_graphs.specs.CycleLaws.{leads_within}
+use Rattle.directed_graphs.proofs.CycleLaws.{leads_within}
 use Rattle.directed_graphs.proofs.cycles.is_on_cycle.Goals as goal
 
 pub returns : goal.returns

@@ -1,6 +1,6 @@
 use Rattle.std.proofs.Common.{◌<◌, ◌≡◌, ◌∙◌, List, ℕ, length, subst, sym}
 use Rattle.directed_graphs.specs.Cycles.{edges_of}
-use Rattle.directed_graphs.specs.CycleLaws.{begins_within, graph_size}
+use Rattle.directed_graphs.proofs.CycleLaws.{begins_within, graph_size}
 use Rattle.directed_graphs.specs.Ranks.{AreByRank}
 use Rattle.directed_graphs.proofs.Ranking.{order_by_ranks}
 use Rattle.directed_graphs.proofs.Reaching.{lower_reach}

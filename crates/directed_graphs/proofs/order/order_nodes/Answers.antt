@@ -1,6 +1,6 @@
 use Rattle.std.proofs.Common.{length, subst, sym}
 use Rattle.directed_graphs.specs.Cycles.{edges_of}
-use Rattle.directed_graphs.specs.CycleLaws.{begins_within, graph_size}
+use Rattle.directed_graphs.proofs.CycleLaws.{begins_within, graph_size}
 use Rattle.directed_graphs.specs.Ranks.{AllGoDown, AreByRank}
 use Rattle.directed_graphs.proofs.Ranking.{order_by_ranks}
 use Rattle.directed_graphs.proofs.order.order_nodes.Goals as goal

@@ -1,6 +1,6 @@
 use Rattle.std.proofs.Common.{◌∙◌, sym, arith, rules}
 use Rattle.directed_graphs.specs.Cycles.{edges_of}
-use Rattle.directed_graphs.specs.CycleLaws.{graph_size}
+use Rattle.directed_graphs.proofs.CycleLaws.{graph_size}
 use Rattle.directed_graphs.proofs.Finding.{all_followed, few_followed, none_followed, none_left, one_followed}
 use Rattle.directed_graphs.proofs.reach.found_from.Goals as goal
 

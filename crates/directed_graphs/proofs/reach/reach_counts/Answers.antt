@@ -1,6 +1,6 @@
 use Rattle.std.proofs.Common.{◌∙◌, ◌≡◌, ◌++◌, ◌∷◌, List, [], length, ℕ, subst, sym, rules}
 use Rattle.directed_graphs.specs.Cycles.{edges_of}
-use Rattle.directed_graphs.specs.CycleLaws.{graph_size}
+use Rattle.directed_graphs.proofs.CycleLaws.{graph_size}
 use Rattle.directed_graphs.specs.Searches.{AreReachCounts, CountsReached}
 use Rattle.directed_graphs.proofs.Reaching.{found_are_counted, one_more_count}
 use Rattle.directed_graphs.proofs.reach.reach_counts.Goals as goal

@@ -1,4 +1,4 @@
-use Rattle.fss_defects.specs.DocumentLaws.{read_alike, read_one_way}
+use Rattle.fss_defects.proofs.DocumentLaws.{read_alike, read_one_way}
 use Rattle.fss_defects.proofs.laws.documents_are_read_one_way.Goals as goal
 
 pub returns : goal.returns

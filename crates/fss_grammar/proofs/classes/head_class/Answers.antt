@@ -1,7 +1,7 @@
 use Rattle.std.proofs.Common.{true, false, codes, refl, sym, ap}
-use Rattle.owl_characters.specs.AsciiLaws.{ascii_chars}
+use Rattle.owl_characters.proofs.AsciiLaws.{ascii_chars}
 use Rattle.fss_grammar.specs.Classes.{class_number}
-use Rattle.fss_grammar.specs.ClassLaws.{head_told, text_told}
+use Rattle.fss_grammar.proofs.ClassLaws.{head_told, text_told}
 use Rattle.fss_grammar.proofs.classes.head_class.Goals as goal
 
 pub returns-then-is : goal.returns-then-is

@@ -1,7 +1,7 @@
 use Rattle.std.proofs.Common.{true, false, refl, sym, ap}
-use Rattle.owl_characters.specs.AsciiLaws.{ascii_chars}
+use Rattle.owl_characters.proofs.AsciiLaws.{ascii_chars}
 use Rattle.fss_grammar.specs.Classes.{class_number}
-use Rattle.fss_grammar.specs.ClassLaws.{name_told}
+use Rattle.fss_grammar.proofs.ClassLaws.{name_told}
 use Rattle.fss_grammar.proofs.classes.name_class.Goals as goal
 
 pub returns-then-is : goal.returns-then-is

@@ -1,6 +1,6 @@
 use Rattle.std.proofs.Common.{refl, sym, ap, ◌∙◌}
 use Rattle.fss_grammar.specs.Classes.{class_number, named_class}
-use Rattle.fss_grammar.specs.ClassLaws.{named_none, named_some}
+use Rattle.fss_grammar.proofs.ClassLaws.{named_none, named_some}
 use Rattle.fss_grammar.proofs.classes.word_class.Goals as goal
 
 pub returns-in-Some : goal.returns-in-Some

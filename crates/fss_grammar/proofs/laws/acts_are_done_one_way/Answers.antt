@@ -1,4 +1,4 @@
-use Rattle.fss_grammar.specs.OneWayLaws.{acts_one_way, does_one_way}
+use Rattle.fss_grammar.proofs.OneWayLaws.{acts_one_way, does_one_way}
 use Rattle.fss_grammar.proofs.laws.acts_are_done_one_way.Goals as goal
 
 pub returns : goal.returns

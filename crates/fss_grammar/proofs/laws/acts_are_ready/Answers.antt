@@ -1,5 +1,5 @@
-use Rattle.fss_grammar.specs.ReadyFeedingLaws.{fed_acts_are_ready, last_acts_are_ready}
-use Rattle.fss_grammar.specs.ReadyLaws.{acts_are_ready}
+use Rattle.fss_grammar.proofs.ReadyFeedingLaws.{fed_acts_are_ready, last_acts_are_ready}
+use Rattle.fss_grammar.proofs.ReadyLaws.{acts_are_ready}
 use Rattle.fss_grammar.proofs.laws.acts_are_ready.Goals as goal
 
 pub returns : goal.returns

@@ -1,6 +1,6 @@
 use Rattle.grammar.specs.Derivations.{own_class}
 use Rattle.fss_grammar.specs.Classes.{class_of}
-use Rattle.fss_grammar.specs.DeclaringLaws.{declarations_come_first, ontology_is_behind}
+use Rattle.fss_grammar.proofs.DeclaringLaws.{declarations_come_first, ontology_is_behind}
 use Rattle.fss_grammar.proofs.laws.declarations_come_first.Goals as goal
 
 pub returns : goal.returns

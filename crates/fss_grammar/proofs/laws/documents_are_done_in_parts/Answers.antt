@@ -1,4 +1,4 @@
-use Rattle.fss_grammar.specs.WritingLaws.{all_before_act, all_behind_act, all_behind_ontology, cut_where_taken}
+use Rattle.fss_grammar.proofs.WritingLaws.{all_before_act, all_behind_act, all_behind_ontology, cut_where_taken}
 use Rattle.fss_grammar.proofs.laws.documents_are_done_in_parts.Goals as goal
 
 pub returns : goal.returns

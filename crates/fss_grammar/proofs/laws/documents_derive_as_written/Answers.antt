@@ -1,4 +1,4 @@
-use Rattle.fss_grammar.specs.DocumentLaws.{documents_are_written}
+use Rattle.fss_grammar.proofs.DocumentLaws.{documents_are_written}
 use Rattle.fss_grammar.proofs.laws.documents_derive_as_written.Goals as goal
 
 pub returns : goal.returns

@@ -1,4 +1,4 @@
-use Rattle.fss_grammar.specs.WritingLaws.{documents_do_as_written}
+use Rattle.fss_grammar.proofs.WritingLaws.{documents_do_as_written}
 use Rattle.fss_grammar.proofs.laws.documents_do_as_written.Goals as goal
 
 pub returns : goal.returns

@@ -1,4 +1,4 @@
-use Rattle.fss_grammar.specs.WritingLaws.{fed_leads, underived_is_unwritten, what_is_done_is_written}
+use Rattle.fss_grammar.proofs.WritingLaws.{fed_leads, underived_is_unwritten, what_is_done_is_written}
 use Rattle.fss_grammar.proofs.laws.fed_documents_are_written.Goals as goal
 
 pub returns : goal.returns

@@ -1,4 +1,4 @@
-use Rattle.fss_grammar.specs.OneTableLaws.{made_is_done}
+use Rattle.fss_grammar.proofs.OneTableLaws.{made_is_done}
 use Rattle.fss_grammar.proofs.laws.one_table_serves.Goals as goal
 
 pub returns : goal.returns

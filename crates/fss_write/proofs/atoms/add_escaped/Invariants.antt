@@ -1,6 +1,6 @@
 use Rattle.std.specs.Str.{chars}
 use Rattle.owl_tokens.specs.Tokens.{character_spelling}
-use Rattle.owl_writing.specs.CharacterLaws.{IsLeft}
+use Rattle.owl_writing.proofs.CharacterLaws.{IsLeft}
 use Rattle.fss_write.proofs.atoms.add_escaped.Given as goal
 
 abbrev pub invariant-loop-c : goal.invariant-loop-c

@@ -1,7 +1,7 @@
 use Rattle.std.proofs.Common.{Err, ap}
 use Rattle.fss_write.specs.Text.{import_line}
 use Rattle.owl_writing.specs.declared.fault.WriteFault.TheVariants.{TooLong}
-use Rattle.owl_writing.specs.DraftLaws.{too_long_at, passed_on}
+use Rattle.owl_writing.proofs.DraftLaws.{too_long_at, passed_on}
 use Rattle.fss_write.proofs.lines.add_imports.Goals as goal
 
 pub returns-in_err-add_import-clause-too_long : goal.returns-in_err-add_import-clause-too_long

@@ -5,7 +5,7 @@ use Rattle.owl_arena.specs.Held.{tree_at}
 use Rattle.owl_writing.specs.Limits.{IsTooLong}
 use Rattle.fss_write.specs.Text.{item_line}
 use Rattle.owl_writing.specs.declared.fault.WriteFault.TheVariants.{TooLong}
-use Rattle.owl_writing.specs.DraftLaws.{flat_of_map, too_long_at, passed_on}
+use Rattle.owl_writing.proofs.DraftLaws.{flat_of_map, too_long_at, passed_on}
 use Rattle.fss_write.proofs.lines.add_items.Goals as goal
 
 pub returns-in_err-add_line-clause-too_long : goal.returns-in_err-add_line-clause-too_long

@@ -6,7 +6,7 @@ use Rattle.owl_writing.specs.Limits.{IsTooLong}
 use Rattle.owl_writing.specs.Terms.{full_iri}
 use Rattle.fss_write.specs.Text.{prefix_line}
 use Rattle.owl_writing.specs.declared.fault.WriteFault.TheVariants.{TooLong}
-use Rattle.owl_writing.specs.DraftLaws.{all_more, line_more, passed_on, stands_at, too_long_at}
+use Rattle.owl_writing.proofs.DraftLaws.{all_more, line_more, passed_on, stands_at, too_long_at}
 use Rattle.fss_write.proofs.lines.add_prefixes.Goals as goal
 
 -- what is added for a prefix is its line

@@ -4,7 +4,7 @@ use Rattle.owl_atom.specs.declared.prefixes.Prefix.{Prefix}
 use Rattle.owl_writing.specs.Limits.{IsTooLong}
 use Rattle.fss_write.specs.Text.{axiom_text, written_text}
 use Rattle.owl_writing.specs.declared.fault.WriteFault.TheVariants.{TooLong}
-use Rattle.owl_writing.specs.DraftLaws.{passed_on, too_long_in_bytes}
+use Rattle.owl_writing.proofs.DraftLaws.{passed_on, too_long_in_bytes}
 use Rattle.fss_write.proofs.writer.axiom_text.Goals as goal
 
 pub returns-in_err-add_item-clause-too_long : goal.returns-in_err-add_item-clause-too_long

@@ -11,7 +11,7 @@ use Rattle.owl_writing.specs.Tables.{HaveIris, declared_prefixes, written_prefix
 use Rattle.owl_writing.specs.Limits.{IsTooLong}
 use Rattle.fss_write.specs.Text.{lines_of, text_of}
 use Rattle.owl_writing.specs.declared.fault.WriteFault.TheVariants.{TooLong}
-use Rattle.owl_writing.specs.DraftLaws.{passed_on, too_long_in_bytes}
+use Rattle.owl_writing.proofs.DraftLaws.{passed_on, too_long_in_bytes}
 use Rattle.fss_write.proofs.ReadsBack.{document_reads_back}
 use Rattle.fss_write.proofs.writer.write.Goals as goal
 

@@ -2,7 +2,7 @@
 use Rattle.std.proofs.Common.{reverse, rules}
 use Rattle.std.specs.Prelude.{IfErr, ◌≡◌}
 use Rattle.grammar.specs.Grammars.{entry}
-use Rattle.grammar.specs.PredictiveLaws.{predictive}
+use Rattle.grammar.proofs.PredictiveLaws.{predictive}
 use Rattle.grammar.specs.Tables.{NoneIsTaken}
 use Rattle.grammar.specs.declared.fault.ParseFault.TheVariants.{Unexpected}
 use Rattle.grammar.proofs.Settling.{act_step, if_err, refuse_step, rule_step}

@@ -1,7 +1,7 @@
 -- A mask of 128 bits has no class beyond them.
 use Rattle.std.proofs.Common.{arith}
 use Rattle.std.proofs.lemmas.Bool.{ltb-true}
-use Rattle.grammar.specs.ClassSetLaws.{has_below}
+use Rattle.grammar.proofs.ClassSetLaws.{has_below}
 use Rattle.grammar.proofs.table.has_class.Goals as goal
 
 pub returns-else-class-lt128 : goal.returns-else-class-lt128

@@ -1,6 +1,6 @@
 use Rattle.std.proofs.Common.{◌∙◌, ◌++◌, Some, ap, refl, sym}
 use Rattle.std.specs.Str.{chars}
-use Rattle.owl_characters.specs.AsciiLaws.{ascii_chars}
+use Rattle.owl_characters.proofs.AsciiLaws.{ascii_chars}
 use Rattle.iri_references.specs.References.{before, colon, question_mark}
 use Rattle.iri_references.specs.Resolution.{through_last_slash}
 use Rattle.iri_references.specs.Views.{seen}

@@ -1,4 +1,4 @@
-use Rattle.owl_answer.specs.TypingLaws.{same_ontology_typed, same_ontology_untyped}
+use Rattle.owl_answer.proofs.TypingLaws.{same_ontology_typed, same_ontology_untyped}
 use Rattle.owl_answer.proofs.laws.equivalent_ontologies_are_typed_alike.Goals as goal
 
 pub returns-clause-typed : goal.returns-clause-typed

@@ -1,4 +1,4 @@
-use Rattle.owl_answer.specs.TypingLaws.{same_kinds_clash, same_kinds_typed, same_kinds_untyped}
+use Rattle.owl_answer.proofs.TypingLaws.{same_kinds_clash, same_kinds_typed, same_kinds_untyped}
 use Rattle.owl_answer.proofs.laws.typing_depends_on_what_is_declared.Goals as goal
 
 pub returns-clause-clash : goal.returns-clause-clash

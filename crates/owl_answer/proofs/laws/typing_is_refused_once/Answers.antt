@@ -1,5 +1,5 @@
-use Rattle.owl_kind.specs.OrderLaws.{clash_once}
-use Rattle.owl_answer.specs.TypingLaws.{not_all_typed, untyped_once}
+use Rattle.owl_kind.proofs.OrderLaws.{clash_once}
+use Rattle.owl_answer.proofs.TypingLaws.{not_all_typed, untyped_once}
 use Rattle.owl_answer.proofs.laws.typing_is_refused_once.Goals as goal
 
 pub returns-clause-clash : goal.returns-clause-clash

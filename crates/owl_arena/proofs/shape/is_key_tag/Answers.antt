@@ -1,4 +1,4 @@
-use Rattle.owl_tree.specs.ShapeTestLaws.{or_first, or_second, tag_told}
+use Rattle.owl_tree.proofs.ShapeTestLaws.{or_first, or_second, tag_told}
 use Rattle.owl_arena.proofs.shape.is_key_tag.Goals as goal
 
 pub returns-then-eq : goal.returns-then-eq

@@ -4,7 +4,7 @@ use borrow.Author.Tests.{tests}
 use Rattle.std.proofs.lemmas.Iterator.{YieldsList-from_chars}
 use Rattle.std.proofs.lemmas.Iterator.Search.{all_from_yields_List}
 use Rattle.owl_characters.specs.Iri.{AllAre}
-use Rattle.owl_characters.specs.AllAreLaws.{all_are}
+use Rattle.owl_characters.proofs.AllAreLaws.{all_are}
 use Rattle.owl_atom.specs.Prefixes.{is_plain_character}
 use Rattle.owl_atom.proofs.prefixes.are_plain.Goals as goal
 

@@ -1,7 +1,7 @@
 use Rattle.std.proofs.Common.{ℕ, List, None, get_or, ap, sym, subst, ◌∙◌, take, refl, rules}
 use Rattle.std.specs.List.{AllByRecursion}
 use Rattle.std.proofs.lemmas.List.{take_all, take_more}
-use Rattle.owl_list.specs.AscendingLaws.{all_pushed}
+use Rattle.owl_list.proofs.AscendingLaws.{all_pushed}
 use Rattle.owl_doc.specs.declared.head.Head as held
 use Rattle.owl_close.specs.Imports.{IsFirstMissing, heads_of}
 use Rattle.owl_close.specs.Searches.{FindsLeast, IsLeastMissing}

@@ -1,4 +1,4 @@
-use Rattle.owl_arena.specs.HeldLaws.{entry_at}
+use Rattle.owl_arena.proofs.HeldLaws.{entry_at}
 use Rattle.owl_doc.proofs.builder.weight_of.Goals as goal
 
 pub returns-clause-shaped : goal.returns-clause-shaped

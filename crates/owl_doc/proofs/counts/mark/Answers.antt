@@ -1,7 +1,7 @@
 use Rattle.std.proofs.Common.{ℕ, ◌<◌, ◌⊎◌, List, Contains, length, subst, sym, arith, rules}
 use Rattle.std.specs.Prelude.{◌↔◌}
 use Rattle.std.proofs.lemmas.List.{take_all}
-use Rattle.owl_list.specs.AscendingLaws.{all_in}
+use Rattle.owl_list.proofs.AscendingLaws.{all_in}
 use Rattle.owl_doc.specs.Marks.{IsMarked}
 use Rattle.owl_doc.proofs.Marking.{one_more, set_marks}
 use Rattle.owl_doc.proofs.counts.mark.Goals as goal

@@ -1,6 +1,6 @@
 use Rattle.std.proofs.Common.{◌∙◌, Option, ap, sym}
 use Rattle.owl_kind.specs.declared.kind.Kind.{Kind}
-use Rattle.owl_tree.specs.ShapeTestLaws.{not_other}
+use Rattle.owl_tree.proofs.ShapeTestLaws.{not_other}
 use Rattle.owl_doc.specs.Entities.{declared_kind, entity_of}
 use Rattle.owl_doc.proofs.Declaring.{declares_second}
 use Rattle.owl_doc.proofs.declarations.declaration.Goals as goal

@@ -1,6 +1,6 @@
 use Rattle.std.proofs.Common.{arith, sym, ◌<◌, length}
 use Rattle.owl_arena.specs.Held.{tree_at}
-use Rattle.owl_list.specs.AscendingLaws.{all_in, all_later}
+use Rattle.owl_list.proofs.AscendingLaws.{all_in, all_later}
 use Rattle.owl_doc.proofs.SameTrees.{above_each, above_within, differ_at, same_tree}
 use Rattle.owl_doc.proofs.same.+same.Goals as goal
 

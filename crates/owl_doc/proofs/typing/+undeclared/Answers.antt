@@ -1,6 +1,6 @@
 use Rattle.std.proofs.Common.{◌∙◌, ◌<◌, List, arith, ap, length, subst, sym}
 use Rattle.owl_arena.specs.Held.{tree_at}
-use Rattle.owl_list.specs.AscendingLaws.{all_in, all_later}
+use Rattle.owl_list.proofs.AscendingLaws.{all_in, all_later}
 use Rattle.owl_kind.specs.Kinds.{Entity}
 use Rattle.owl_tree.specs.Trees.{Tree, kids_of}
 use Rattle.owl_doc.specs.Entities.{FindsUndeclared, entities_of, entity_seen}

@@ -1,5 +1,5 @@
 use Rattle.std.proofs.Common.{◌≡◌, ◌≤◌, Err, length, ap, arith}
-use Rattle.owl_characters.specs.ResultLaws.{passed}
+use Rattle.owl_characters.proofs.ResultLaws.{passed}
 use Rattle.owl_documents.specs.declared.trouble.Trouble.TheVariants.{ReadFailed}
 use Rattle.owl_documents.proofs.Refusing.{defect_trouble, few_fed, shelf_failed, shelf_trouble}
 use Rattle.owl_documents.proofs.reading.read_in.Goals as goal

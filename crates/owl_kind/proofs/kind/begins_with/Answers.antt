@@ -1,7 +1,7 @@
 use Rattle.std.proofs.Common.{◌∙◌, ap, nat_eq}
 use Rattle.std.specs.List.{starts_with}
 use Rattle.std.proofs.lemmas.Str.Pattern.{starts_text}
-use Rattle.owl_characters.specs.AsciiLaws.{front_is}
+use Rattle.owl_characters.proofs.AsciiLaws.{front_is}
 use Rattle.owl_kind.proofs.kind.begins_with.Goals as goal
 
 pub returns : goal.returns

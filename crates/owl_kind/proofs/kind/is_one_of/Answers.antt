@@ -4,7 +4,7 @@ use Rattle.std.specs.Str.{bytes_eq}
 use borrow.Author.Tests.{tests}
 use Rattle.std.proofs.lemmas.Iterator.{YieldsList-from_slice}
 use Rattle.std.proofs.lemmas.Iterator.Search.{any_from_yields_List}
-use Rattle.rdf_terms.specs.TableLaws.{names_are}
+use Rattle.rdf_terms.proofs.TableLaws.{names_are}
 use Rattle.owl_kind.proofs.kind.is_one_of.Goals as goal
 
 pub returns : goal.returns

@@ -1,7 +1,7 @@
 -- Characters are held again and the longest lexeme in front is cut, until nothing is taken again.
 use Rattle.std.proofs.Common.{rules, refl}
 use Rattle.std.proofs.lemmas.Result.{IfErr-weaker}
-use Rattle.owl_characters.specs.ResultLaws.{passed}
+use Rattle.owl_characters.proofs.ResultLaws.{passed}
 use Rattle.owl_lexer.specs.Retaking.{begun_with}
 use Rattle.owl_lexer.proofs.Cuts.{again_behind, again_memory, settles_badly, settles_more}
 use Rattle.owl_lexer.proofs.again.settle.Goals as goal

@@ -1,7 +1,7 @@
 -- The character is held, or no lexeme begins.
 use Rattle.std.proofs.Common.{rules, refl, sym, subst, List, [], ◌∷◌, ℕ}
 use Rattle.owl_lexer.specs.Holding.{NoneBeyond}
-use Rattle.owl_lexer.specs.HoldingLaws.{nothing_held}
+use Rattle.owl_lexer.proofs.HoldingLaws.{nothing_held}
 use Rattle.std.proofs.lemmas.Result.{IfErr-weaker}
 use Rattle.owl_lexer.specs.Hands.{begun_of}
 use Rattle.owl_lexer.proofs.Feeding.{refuses_here, refuses_memory}

@@ -2,7 +2,7 @@
 use Rattle.std.proofs.Common.{rules, refl, sym, ◌∙◌, [], ◌∷◌}
 use Rattle.owl_lexer.specs.Hands.{begun_of}
 use Rattle.std.proofs.lemmas.Result.{IfErr-weaker}
-use Rattle.owl_characters.specs.ResultLaws.{passed}
+use Rattle.owl_characters.proofs.ResultLaws.{passed}
 use Rattle.owl_lexer.proofs.Feeding.{all_front, gives_all, none_behind, refuses_front, refuses_memory, takes_front, takes_held}
 use Rattle.owl_lexer.proofs.characters.push.Goals as goal
 

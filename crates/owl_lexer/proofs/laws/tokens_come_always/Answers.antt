@@ -1,6 +1,6 @@
 -- One way at least, as each lexeme that comes is the longest.
 use Rattle.std.proofs.Common.{true, ◌++◌}
-use Rattle.owl_lexer.specs.LexingLaws.{always_split}
+use Rattle.owl_lexer.proofs.LexingLaws.{always_split}
 use Rattle.owl_lexer.proofs.laws.tokens_come_always.Goals as goal
 
 pub returns-clause-whole : goal.returns-clause-whole

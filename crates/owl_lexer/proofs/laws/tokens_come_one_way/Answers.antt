@@ -1,5 +1,5 @@
 -- One way at most, by the laws of languages.
-use Rattle.owl_lexer.specs.OneWayLaws.{same_continues, same_splits}
+use Rattle.owl_lexer.proofs.OneWayLaws.{same_continues, same_splits}
 use Rattle.owl_lexer.proofs.laws.tokens_come_one_way.Goals as goal
 
 pub returns-clause-whole : goal.returns-clause-whole

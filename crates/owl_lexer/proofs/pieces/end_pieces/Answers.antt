@@ -2,8 +2,7 @@
 use Rattle.std.proofs.Common.{arith, ap, subst}
 use Rattle.std.proofs.lemmas.Result.{IfErr-weaker, IfOk-weaker}
 use Rattle.owl_lexer.specs.BytesGiving.{BegunBytes, end_of_bytes}
-use Rattle.owl_lexer.specs.LexingLaws.{bytes_of}
-use Rattle.owl_lexer.specs.Sources.{EndsPieces, EndsPiecesBadly, EndsSomePieces, begun_with_again, bytes_with}
+use Rattle.owl_lexer.specs.Sources.{bytes_of, EndsPieces, EndsPiecesBadly, EndsSomePieces, begun_with_again, bytes_with}
 use Rattle.owl_lexer.proofs.Moving.{open_told, same_told}
 use Rattle.owl_lexer.proofs.Tokens.{end_is, ends_pieces, ends_pieces_badly, ends_some_pieces}
 use Rattle.owl_lexer.proofs.pieces.end_pieces.Goals as goal

@@ -3,8 +3,7 @@ use Rattle.std.proofs.Common.{arith, ap, subst}
 use Rattle.std.proofs.lemmas.Result.{IfErr-weaker, IfOk-weaker}
 use Rattle.owl_lexer.specs.BytesGiving.{BegunBytes, end_of_bytes}
 use Rattle.owl_lexer.specs.Lexing.{taken_of}
-use Rattle.owl_lexer.specs.LexingLaws.{bytes_of}
-use Rattle.owl_lexer.specs.Sources.{RefusesPiece, TakesPiece, begun_with_again, bytes_with}
+use Rattle.owl_lexer.specs.Sources.{bytes_of, RefusesPiece, TakesPiece, begun_with_again, bytes_with}
 use Rattle.owl_lexer.proofs.Moving.{open_told, same_told}
 use Rattle.owl_lexer.proofs.Tokens.{end_is, refuses_piece, takes_piece}
 use Rattle.owl_lexer.proofs.pieces.take_piece.Goals as goal

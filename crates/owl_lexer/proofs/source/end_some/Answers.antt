@@ -1,6 +1,6 @@
 -- What is left is settled, and a character that is cut off is no character.
 use Rattle.std.proofs.Common.{refl, ◌∙◌}
-use Rattle.owl_characters.specs.ResultLaws.{passed}
+use Rattle.owl_characters.proofs.ResultLaws.{passed}
 use Rattle.owl_lexer.proofs.Bytes.{unfinished_of}
 use Rattle.owl_lexer.proofs.Moving.{ends_all, ends_badly, ends_cut, ends_some}
 use Rattle.owl_lexer.proofs.source.end_some.Goals as goal

@@ -1,7 +1,7 @@
 -- A byte is begun, or makes a character whole, or begins none.
 use Rattle.std.proofs.Common.{refl, sym, ◌∙◌}
 use Rattle.owl_lexer.proofs.Bytes.{fed_whole, turns_back, refuses_bad, refuses_last, refuses_whole, takes_mark, takes_unfinished, takes_whole}
-use Rattle.owl_characters.specs.ResultLaws.{passed}
+use Rattle.owl_characters.proofs.ResultLaws.{passed}
 use Rattle.owl_lexer.proofs.source.take.Goals as goal
 
 pub returns-then-passes-clause-taken : goal.returns-then-passes-clause-taken

@@ -3,7 +3,7 @@ use Rattle.std.proofs.Common.{rules, arith, refl, ◌≡◌, ◌≤◌, ◌+◌,
 use Rattle.std.proofs.lemmas.List.{length-take-le}
 use Rattle.std.proofs.lemmas.Result.{IfErr-weaker}
 use Rattle.std.proofs.lemmas.Str.{len_utf8_bounds}
-use Rattle.owl_characters.specs.ResultLaws.{passed}
+use Rattle.owl_characters.proofs.ResultLaws.{passed}
 use Rattle.owl_lexer.proofs.Runs.{refuses_ascii, refuses_run, rest_length, takes_ascii, takes_on, takes_run}
 use Rattle.owl_lexer.proofs.source.take_ascii.Goals as goal
 

@@ -1,7 +1,7 @@
 -- The first byte is taken, and a run behind it; or its character turns back, and what is taken again then is settled.
 use Rattle.std.proofs.Common.{rules, ℕ, List, [], ◌∷◌, ◌++◌, ap, ◌∙◌}
 use Rattle.std.proofs.lemmas.Result.{IfErr-weaker}
-use Rattle.owl_characters.specs.ResultLaws.{passed}
+use Rattle.owl_characters.proofs.ResultLaws.{passed}
 use Rattle.owl_lexer.proofs.Moving.{first_refused, front_refused, front_taken, turned_memory, turned_refused, turned_taken}
 use Rattle.owl_lexer.proofs.source.take_front.Goals as goal
 

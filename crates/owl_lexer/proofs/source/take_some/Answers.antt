@@ -1,6 +1,6 @@
 -- Some bytes more were taken, or refused.
 use Rattle.std.proofs.Common.{arith}
-use Rattle.owl_characters.specs.ResultLaws.{passed}
+use Rattle.owl_characters.proofs.ResultLaws.{passed}
 use Rattle.owl_lexer.proofs.Moving.{again_on, again_refused}
 use Rattle.owl_lexer.proofs.Runs.{rest_length}
 use Rattle.owl_lexer.proofs.source.take_some.Goals as goal

@@ -1,4 +1,4 @@
-use Rattle.owl_list.specs.LentLaws.{moved_back}
+use Rattle.owl_list.proofs.LentLaws.{moved_back}
 use Rattle.owl_list.proofs.ranks.sort_by_ranks.Goals as goal
 
 pub returns-then-is_ok : goal.returns-then-is_ok

@@ -1,6 +1,6 @@
 use Rattle.std.proofs.Common.{ap, sym, ◌∙◌}
 use Rattle.owl_port.specs.MemShelf.{Kept, document_in}
-use Rattle.owl_port.specs.ByNameLaws.{place_in, put_at, put_others}
+use Rattle.owl_port.proofs.ByNameLaws.{place_in, put_at, put_others}
 use Rattle.owl_port.proofs.Documents.{added_one, added_others}
 use Rattle.owl_port.proofs.mem_shelf.keep.Goals as goal
 

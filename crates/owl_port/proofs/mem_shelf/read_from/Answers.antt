@@ -1,5 +1,5 @@
 use Rattle.owl_port.specs.MemShelf.{Kept}
-use Rattle.owl_port.specs.ByNameLaws.{absent, place_in, written_over, raised_where_absent}
+use Rattle.owl_port.proofs.ByNameLaws.{absent, place_in, written_over, raised_where_absent}
 use Rattle.owl_port.proofs.Documents.{failed_of, count_of, bytes_of, left_of, quiet_of, raised_of, grows_of, failed_where_absent}
 use Rattle.owl_port.proofs.mem_shelf.read_from.Goals as goal
 

@@ -1,5 +1,5 @@
 use Rattle.owl_reader.proofs.Reporting.{can_end, is_read, refused_end}
-use Rattle.owl_characters.specs.ResultLaws.{passed}
+use Rattle.owl_characters.proofs.ResultLaws.{passed}
 use Rattle.owl_reader.proofs.reader.end.Goals as goal
 
 pub returns-in_err-take_last-clause-refuses : goal.returns-in_err-take_last-clause-refuses

@@ -1,7 +1,7 @@
 use Rattle.std.proofs.Common.{refl, arith, ◌-◌}
 use Rattle.owl_characters.specs.Limit.{most_bytes}
 use Rattle.std.proofs.lemmas.Result.{IfErr-weaker}
-use Rattle.owl_characters.specs.ResultLaws.{passed}
+use Rattle.owl_characters.proofs.ResultLaws.{passed}
 use Rattle.owl_reader.proofs.Early.{none_before_space}
 use Rattle.owl_reader.proofs.Reporting.{first_always, front_fits, piece_fits, refuses_front, refuses_long}
 use Rattle.owl_reader.proofs.reader.read.Goals as goal

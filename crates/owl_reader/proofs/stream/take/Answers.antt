@@ -1,6 +1,6 @@
 -- A portion more was taken, or refused; and all were taken.
 use Rattle.std.proofs.Common.{arith, rules}
-use Rattle.owl_characters.specs.ResultLaws.{passed}
+use Rattle.owl_characters.proofs.ResultLaws.{passed}
 use Rattle.owl_reader.proofs.Streams.{all_left, begins_within, more_left, none_so_far, rest_refused}
 use Rattle.owl_reader.proofs.stream.take.Goals as goal
 

@@ -1,5 +1,5 @@
 -- A portion more was taken, or refused; and all were taken.
-use Rattle.owl_characters.specs.ResultLaws.{passed}
+use Rattle.owl_characters.proofs.ResultLaws.{passed}
 use Rattle.owl_reader.proofs.Streams.{more_ended, none_ended, open_ends}
 use Rattle.owl_reader.proofs.stream.take_last.Goals as goal
 

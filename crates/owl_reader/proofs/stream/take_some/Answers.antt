@@ -1,6 +1,6 @@
 -- A portion of tokens is taken, or one of them is refused, or what stands behind them is.
 use Rattle.std.proofs.Common.{rules}
-use Rattle.owl_characters.specs.ResultLaws.{passed}
+use Rattle.owl_characters.proofs.ResultLaws.{passed}
 use Rattle.owl_reader.proofs.Streams.{front_refused, open_more, refused_among, refused_before, stopped_there}
 use Rattle.owl_reader.proofs.stream.take_some.Goals as goal
 

@@ -1,6 +1,6 @@
 -- A portion of the last tokens is taken, or one of them is refused, or what stands behind them is.
 use Rattle.std.proofs.Common.{rules}
-use Rattle.owl_characters.specs.ResultLaws.{passed}
+use Rattle.owl_characters.proofs.ResultLaws.{passed}
 use Rattle.owl_reader.proofs.Streams.{all_taken, ends_more, ending_refused, refused_last, stopped_last}
 use Rattle.owl_reader.proofs.stream.take_some_last.Goals as goal
 

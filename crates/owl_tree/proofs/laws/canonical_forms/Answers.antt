@@ -1,5 +1,5 @@
-use Rattle.owl_tree.specs.CanonicalLaws.{canonical_again, canonical_ascends, canonical_depth, canonical_equivalent, canonical_node, canonical_tag, canonical_weight, only_canonical}
-use Rattle.owl_tree.specs.ShapeLaws.{canonical_shape}
+use Rattle.owl_tree.proofs.CanonicalLaws.{canonical_again, canonical_ascends, canonical_depth, canonical_equivalent, canonical_node, canonical_tag, canonical_weight, only_canonical}
+use Rattle.owl_tree.proofs.ShapeLaws.{canonical_shape}
 use Rattle.owl_tree.proofs.laws.canonical_forms.Goals as goal
 
 pub returns-clause-equivalent : goal.returns-clause-equivalent

@@ -1,6 +1,6 @@
-use Rattle.owl_tree.specs.CanonicalLaws.{equivalent_depth, equivalent_tag}
-use Rattle.owl_tree.specs.EquivalenceLaws.{equivalent_is_equal_form, equivalent_refl, equivalent_sym, equivalent_trans}
-use Rattle.owl_tree.specs.ShapeLaws.{equivalent_shape}
+use Rattle.owl_tree.proofs.CanonicalLaws.{equivalent_depth, equivalent_tag}
+use Rattle.owl_tree.proofs.EquivalenceLaws.{equivalent_is_equal_form, equivalent_refl, equivalent_sym, equivalent_trans}
+use Rattle.owl_tree.proofs.ShapeLaws.{equivalent_shape}
 use Rattle.owl_tree.proofs.laws.equivalence_is_equal_forms.Goals as goal
 
 pub returns-clause-forms : goal.returns-clause-forms

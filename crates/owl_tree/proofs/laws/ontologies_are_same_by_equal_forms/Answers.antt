@@ -1,4 +1,4 @@
-use Rattle.owl_tree.specs.OntologyLaws.{canonical_is_ontology, canonical_ontology_again, canonical_same_ontology, same_ontology_is_equal_form, same_ontology_refl, same_ontology_shape, same_ontology_sym, same_ontology_trans, same_ontology_weight}
+use Rattle.owl_tree.proofs.OntologyLaws.{canonical_is_ontology, canonical_ontology_again, canonical_same_ontology, same_ontology_is_equal_form, same_ontology_refl, same_ontology_shape, same_ontology_sym, same_ontology_trans, same_ontology_weight}
 use Rattle.owl_tree.proofs.laws.ontologies_are_same_by_equal_forms.Goals as goal
 
 pub returns-clause-forms : goal.returns-clause-forms

@@ -3,7 +3,7 @@ use Rattle.std.specs.Prelude.{slice_get, Some}
 use Rattle.owl_atom.specs.declared.prefixes.Prefix.{Prefix}
 use Rattle.owl_atom.specs.Prefixes.{fixed_prefixes}
 use Rattle.owl_writing.specs.Tables.{with_prefix}
-use Rattle.owl_writing.specs.DraftLaws.{stands_at}
+use Rattle.owl_writing.proofs.DraftLaws.{stands_at}
 use Rattle.owl_writing.proofs.SetTables.{one_set}
 use Rattle.owl_writing.proofs.prefixes.written_prefixes.Goals as goal
 

@@ -1,7 +1,7 @@
 use Rattle.std.proofs.Common.{refl, sym, ◌∙◌}
 use Rattle.std.specs.Cmp.{both_ways}
 use Rattle.std.proofs.lemmas.Slice.Eq.{bytes_eq-Decides}
-use Rattle.owl_characters.specs.AsciiLaws.{from_bytes, from_characters}
+use Rattle.owl_characters.proofs.AsciiLaws.{from_bytes, from_characters}
 use Rattle.rdf_terms.specs.Literals.{string}
 use Rattle.owl_writing.proofs.terms.is_string.Goals as goal
 

@@ -1,6 +1,6 @@
 use Rattle.std.proofs.Common.{arith, [], subst, sym}
 use Rattle.rdf_meaning.specs.Statements.{notes}
-use Rattle.tree_stores.specs.StoreLaws.{few_are_small, only_memory}
+use Rattle.tree_stores.proofs.StoreLaws.{few_are_small, only_memory}
 use Rattle.tree_stores.specs.Stores.{StandFor}
 use Rattle.rdf_annotations.proofs.hold_sets.hold_empty.Goals as goal
 

@@ -1,4 +1,4 @@
-use Rattle.rdf_annotations.specs.AnnotationLaws.{annotations_of_header, annotations_of_node}
+use Rattle.rdf_annotations.proofs.AnnotationLaws.{annotations_of_header, annotations_of_node}
 use Rattle.rdf_annotations.proofs.laws.annotations_are_of_their_nodes.Goals as goal
 
 pub returns-clause-nodes : goal.returns-clause-nodes

@@ -1,4 +1,4 @@
-use Rattle.rdf_roles.specs.NodeLaws.{keys_are}
+use Rattle.rdf_roles.proofs.NodeLaws.{keys_are}
 use Rattle.std.proofs.Common.{subst}
 use Rattle.std.specs.Prelude.{None, Some}
 use Rattle.std.proofs.lemmas.Result.{on_ok_weaker}

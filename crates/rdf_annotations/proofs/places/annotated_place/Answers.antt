@@ -1,7 +1,7 @@
 use Rattle.std.specs.Prelude.{◌≡◌, ℕ, List, Some, slice_get}
 use Rattle.std.proofs.Common.{subst, sym, ◌∙◌}
 use Rattle.std.proofs.lemmas.Bool.{both_ways}
-use Rattle.rdf_roles.specs.NodeLaws.{keys_are}
+use Rattle.rdf_roles.proofs.NodeLaws.{keys_are}
 use Rattle.rdf_annotations.proofs.Reifying.{is_formed, noted_node, other_node}
 use Rattle.rdf_annotations.proofs.places.annotated_place.Goals as goal
 

@@ -3,7 +3,7 @@ use Rattle.std.proofs.lemmas.Fn.{always_returns_same}
 use Rattle.owl_list.specs.Ascending.{IsAscending}
 use Rattle.rdf_graph.specs.declared.triple.Triple.{Triple}
 use Rattle.rdf_graph.specs.Terms.{triple_cmp}
-use Rattle.rdf_graph.specs.TermLaws.{only_equal_triples_tie, triples_total}
+use Rattle.rdf_graph.proofs.TermLaws.{only_equal_triples_tie, triples_total}
 use Rattle.rdf_annotations.specs.Noters.{IsPlaceOf}
 use Rattle.rdf_annotations.proofs.Placing.{found}
 use Rattle.rdf_annotations.proofs.places.place_of.Goals as goal

@@ -1,5 +1,5 @@
 use Rattle.std.proofs.Common.{sym, ◌∙◌}
-use Rattle.rdf_asked.specs.ListedLaws.{cell_told, no_cell_told}
+use Rattle.rdf_asked.proofs.ListedLaws.{cell_told, no_cell_told}
 use Rattle.rdf_asked.proofs.lists.cell_of.Goals as goal
 
 pub returns-in-List-clause-some : goal.returns-in-List-clause-some

@@ -1,5 +1,5 @@
 use Rattle.std.proofs.Common.{◌+◌, refl, sym, ◌∙◌, arith}
-use Rattle.rdf_asked.specs.ListedLaws.{walk_ends, walk_fails, walk_goes_on, walk_is_long}
+use Rattle.rdf_asked.proofs.ListedLaws.{walk_ends, walk_fails, walk_goes_on, walk_is_long}
 use Rattle.rdf_asked.proofs.KnownLists.{walk_known}
 use Rattle.rdf_asked.proofs.lists.is_list_of.Goals as goal
 

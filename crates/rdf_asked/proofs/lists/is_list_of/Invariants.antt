@@ -1,5 +1,5 @@
 use Rattle.rdf_asked.specs.Elements.{is_element}
-use Rattle.rdf_asked.specs.ListedLaws.{IsWalked}
+use Rattle.rdf_asked.proofs.ListedLaws.{IsWalked}
 use Rattle.rdf_asked.proofs.lists.is_list_of.Given as goal
 
 abbrev pub invariant-loop-count : goal.invariant-loop-count

@@ -1,5 +1,5 @@
 use Rattle.std.specs.Prelude.{Contains}
-use Rattle.owl_list.specs.AscendingLaws.{all_in}
+use Rattle.owl_list.proofs.AscendingLaws.{all_in}
 use Rattle.rdf_meaning.specs.Rows.{row_seen}
 use Rattle.rdf_faults.specs.Asked.{rows}
 use Rattle.rdf_asked.proofs.TypedNodes.{typed_by_role, typed_by_row}

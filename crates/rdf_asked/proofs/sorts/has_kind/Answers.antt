@@ -1,4 +1,4 @@
-use Rattle.rdf_meaning.specs.KindLaws.{has_kind_is}
+use Rattle.rdf_meaning.proofs.KindLaws.{has_kind_is}
 use Rattle.rdf_meaning.specs.Kinds.{has_kind}
 use Rattle.std.specs.Bool.{one_answer}
 use Rattle.rdf_asked.proofs.sorts.has_kind.Goals as goal

@@ -1,6 +1,6 @@
 use Rattle.std.specs.Prelude.{IfSome}
 use Rattle.rdf_faults.specs.Faults.{IsUntypedPart}
-use Rattle.rdf_roles.specs.FirstLaws.{HoldsNowhereBelow}
+use Rattle.rdf_roles.proofs.FirstLaws.{HoldsNowhereBelow}
 use Rattle.rdf_asked.specs.Asking.{IsTypedNode}
 use Rattle.rdf_asked.proofs.typed.untyped_in.Given as goal
 

@@ -1,4 +1,4 @@
-use Rattle.rdf_axioms.specs.WellDrawnLaws.{axiom_well_drawn}
+use Rattle.rdf_axioms.proofs.WellDrawnLaws.{axiom_well_drawn}
 use Rattle.rdf_axioms.proofs.laws.axioms_are_well_drawn.Goals as goal
 
 pub returns : goal.returns

@@ -1,6 +1,6 @@
 use Rattle.std.proofs.Common.{List, ℕ, option_map, rules, arith, ap, sym, ◌∙◌, subst}
 use Rattle.rdf_meaning.specs.Rows.{row_seen}
-use Rattle.rdf_counts.specs.ArenaLaws.{above_kids, none_left, tag_told}
+use Rattle.rdf_counts.proofs.ArenaLaws.{above_kids, none_left, tag_told}
 use Rattle.rdf_counts.proofs.Taking.{TakesOn, node_taken, takes_both, takes_end, takes_front}
 use Rattle.rdf_counts.proofs.count.+trees.Goals as goal
 

@@ -1,5 +1,5 @@
 use Rattle.std.proofs.Common.{ap, sym, subst}
-use Rattle.rdf_counts.specs.ArenaLaws.{first_and, statement_at}
+use Rattle.rdf_counts.proofs.ArenaLaws.{first_and, statement_at}
 use Rattle.rdf_counts.specs.Counts.{Takes, statement_drawn}
 use Rattle.rdf_counts.proofs.count.count_axiom.Goals as goal
 

@@ -1,4 +1,4 @@
-use Rattle.rdf_faults.specs.FirstLaws.{first_is_one, first_once}
+use Rattle.rdf_faults.proofs.FirstLaws.{first_is_one, first_once}
 use Rattle.rdf_faults.specs.Faults.{IsBadNode, IsUntypedPart}
 use Rattle.rdf_faults.proofs.laws.firsts_are_one.Goals as goal
 

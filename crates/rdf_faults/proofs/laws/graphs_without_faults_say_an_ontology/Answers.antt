@@ -1,4 +1,4 @@
-use Rattle.rdf_faults.specs.ConverseLaws.{faultless_says, head_of_header, says_faultless}
+use Rattle.rdf_faults.proofs.ConverseLaws.{faultless_says, head_of_header, says_faultless}
 use Rattle.rdf_faults.proofs.laws.graphs_without_faults_say_an_ontology.Goals as goal
 
 pub returns-clause-says : goal.returns-clause-says

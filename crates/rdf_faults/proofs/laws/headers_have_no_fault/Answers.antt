@@ -1,4 +1,4 @@
-use Rattle.rdf_faults.specs.FaultLaws.{no_bad_header, no_missing_header, no_second_header}
+use Rattle.rdf_faults.proofs.FaultLaws.{no_bad_header, no_missing_header, no_second_header}
 use Rattle.rdf_faults.proofs.laws.headers_have_no_fault.Goals as goal
 
 pub returns-clause-some : goal.returns-clause-some

@@ -1,4 +1,4 @@
-use Rattle.rdf_faults.specs.MeantLaws.{node_meant}
+use Rattle.rdf_faults.proofs.MeantLaws.{node_meant}
 use Rattle.rdf_faults.proofs.laws.nodes_are_meant.Goals as goal
 
 pub returns : goal.returns

@@ -1,4 +1,4 @@
-use Rattle.rdf_faults.specs.FaultLaws.{no_note_of_nothing, no_orphan}
+use Rattle.rdf_faults.proofs.FaultLaws.{no_note_of_nothing, no_orphan}
 use Rattle.rdf_faults.proofs.laws.nodes_belong.Goals as goal
 
 pub returns-clause-orphan : goal.returns-clause-orphan

@@ -1,4 +1,4 @@
-use Rattle.rdf_faults.specs.FaultLaws.{no_bad_cell, no_bad_node, no_cyclic, no_mixed}
+use Rattle.rdf_faults.proofs.FaultLaws.{no_bad_cell, no_bad_node, no_cyclic, no_mixed}
 use Rattle.rdf_faults.proofs.laws.nodes_have_their_form.Goals as goal
 
 pub returns-clause-mixed : goal.returns-clause-mixed

@@ -1,4 +1,4 @@
-use Rattle.rdf_faults.specs.WayDownLaws.{all_grounded}
+use Rattle.rdf_faults.proofs.WayDownLaws.{all_grounded}
 use Rattle.rdf_faults.proofs.laws.nodes_without_a_cycle_are_grounded.Goals as goal
 
 pub returns : goal.returns

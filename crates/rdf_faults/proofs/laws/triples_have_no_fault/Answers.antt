@@ -1,4 +1,4 @@
-use Rattle.rdf_faults.specs.FaultLaws.{no_reservation, no_untyped_part, no_untyped_statement}
+use Rattle.rdf_faults.proofs.FaultLaws.{no_reservation, no_untyped_part, no_untyped_statement}
 use Rattle.rdf_faults.proofs.laws.triples_have_no_fault.Goals as goal
 
 pub returns-clause-reserved : goal.returns-clause-reserved

@@ -1,6 +1,6 @@
 use Rattle.std.proofs.Common.{arith}
-use Rattle.owl_arena.specs.HeldLaws.{below_later}
-use Rattle.rdf_counts.specs.ArenaLaws.{first_and}
+use Rattle.owl_arena.proofs.HeldLaws.{below_later}
+use Rattle.rdf_counts.proofs.ArenaLaws.{first_and}
 use Rattle.rdf_forward.proofs.Axioms.{axiom_notes_first}
 use Rattle.rdf_forward.proofs.Taking.{first_below}
 use Rattle.rdf_forward.proofs.axiom.notes_of_axiom.Goals as goal

@@ -1,5 +1,5 @@
 use Rattle.std.proofs.Common.{rules}
-use Rattle.rdf_counts.specs.ArenaLaws.{first_and, none_left}
+use Rattle.rdf_counts.proofs.ArenaLaws.{first_and, none_left}
 use Rattle.rdf_forward.proofs.GroupCounting.{group_out, groups_taken, next_taken}
 use Rattle.rdf_forward.proofs.GroupWriting.{held_others, ordered_others}
 use Rattle.rdf_forward.proofs.bounds.count_groups.Goals as goal

@@ -1,5 +1,5 @@
 use Rattle.std.proofs.Common.{rules}
-use Rattle.rdf_counts.specs.ArenaLaws.{first_and}
+use Rattle.rdf_counts.proofs.ArenaLaws.{first_and}
 use Rattle.rdf_forward.proofs.Taking.{below_kid, first_below, second_below, takes_keys, takes_list, takes_whole, two_and}
 use Rattle.rdf_forward.proofs.drawn.take_part.Goals as goal
 

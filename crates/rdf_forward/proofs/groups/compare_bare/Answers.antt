@@ -1,4 +1,4 @@
-use Rattle.rdf_counts.specs.ArenaLaws.{first_and}
+use Rattle.rdf_counts.proofs.ArenaLaws.{first_and}
 use Rattle.rdf_forward.proofs.Bare.{bare_parts}
 use Rattle.rdf_forward.proofs.groups.compare_bare.Goals as goal
 

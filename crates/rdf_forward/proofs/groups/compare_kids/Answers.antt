@@ -1,5 +1,5 @@
 use Rattle.std.proofs.Common.{sym, ◌∙◌, ◌<◌, length, rules}
-use Rattle.rdf_counts.specs.ArenaLaws.{none_left}
+use Rattle.rdf_counts.proofs.ArenaLaws.{none_left}
 use Rattle.rdf_forward.proofs.Bare.{fewer_kids}
 use Rattle.rdf_forward.proofs.groups.compare_kids.Goals as goal
 

@@ -1,9 +1,9 @@
 use Rattle.std.proofs.Common.{ℕ, ◌-◌, ◌<◌, ◌≤◌, length, List, take, drop, arith, sym, subst}
 use Rattle.std.specs.List.{AllByRecursion}
 use Rattle.std.proofs.lemmas.Result.{on_ok_weaker}
-use Rattle.owl_arena.specs.HeldLaws.{below_later}
+use Rattle.owl_arena.proofs.HeldLaws.{below_later}
 use Rattle.blank_labels.specs.LabelNumbers.{Counts}
-use Rattle.rdf_counts.specs.ArenaLaws.{above_all, above_kids, above_rest, first_and, none_left}
+use Rattle.rdf_counts.proofs.ArenaLaws.{above_all, above_kids, above_rest, first_and, none_left}
 use Rattle.rdf_forward.proofs.Counting.{CountsOn, counts_end, counts_next, kids_counted}
 use Rattle.rdf_forward.proofs.labels.+labels.Goals as goal
 

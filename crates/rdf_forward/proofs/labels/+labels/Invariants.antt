@@ -1,6 +1,6 @@
 use Rattle.std.proofs.Common.{◌*◌, ◌+◌, ◌≤◌, length}
 use Rattle.owl_arena.specs.Held.{AreHeld}
-use Rattle.rdf_counts.specs.ArenaLaws.{above_all}
+use Rattle.rdf_counts.proofs.ArenaLaws.{above_all}
 use Rattle.rdf_forward.proofs.Counting.{CountsOn}
 use Rattle.rdf_forward.proofs.labels.+labels.Given as goal
 

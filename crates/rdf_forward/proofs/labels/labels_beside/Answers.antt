@@ -1,6 +1,6 @@
 use Rattle.std.proofs.Common.{◌∙◌, ap, subst}
 use Rattle.blank_labels.specs.LabelNumbers.{Counts, LabelNumbers, names_beside}
-use Rattle.blank_labels.specs.FreshLabelLaws.{names_are_fresh}
+use Rattle.blank_labels.proofs.FreshLabelLaws.{names_are_fresh}
 use Rattle.owl_doc.specs.Documents.{ontology_of}
 use Rattle.rdf_mapping.specs.Graphs.{labels_of}
 use Rattle.rdf_forward.proofs.labels.labels_beside.Goals as goal

@@ -6,7 +6,7 @@ use Rattle.std.proofs.lemmas.List.Sorted.{IsPartitionPoint-from_clause}
 use Rattle.rdf_graph.specs.ByObject.{is_before}
 use Rattle.rdf_graph.specs.Graphs.{object_at}
 use Rattle.rdf_graph.specs.Terms.{term_cmp}
-use Rattle.rdf_graph.specs.TermLaws.{terms_total}
+use Rattle.rdf_graph.proofs.TermLaws.{terms_total}
 use Rattle.rdf_graph.proofs.Places.{parted}
 use Rattle.rdf_graph.proofs.by_object.count_before.Goals as goal
 

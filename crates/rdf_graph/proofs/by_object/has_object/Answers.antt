@@ -3,7 +3,7 @@ use Rattle.std.specs.Prelude.{option_map}
 use Rattle.std.proofs.lemmas.Option.{same_Some, slice_get-get_or}
 use Rattle.rdf_graph.specs.declared.triple.Triple.{Triple}
 use Rattle.rdf_graph.specs.Graphs.{object_at}
-use Rattle.rdf_graph.specs.TermLaws.{same_term}
+use Rattle.rdf_graph.proofs.TermLaws.{same_term}
 use Rattle.rdf_graph.proofs.by_object.has_object.Goals as goal
 
 pub returns : goal.returns

@@ -1,8 +1,8 @@
 use Rattle.std.proofs.Common.{sym, ◌∙◌}
 use Rattle.owl_list.specs.Ascending.{ascending}
-use Rattle.owl_list.specs.LentLaws.{moved_holds}
-use Rattle.rdf_graph.specs.GraphLaws.{same_set}
-use Rattle.rdf_graph.specs.TermLaws.{only_equal_triples_tie, same_triple_order}
+use Rattle.owl_list.proofs.LentLaws.{moved_holds}
+use Rattle.rdf_graph.proofs.GraphLaws.{same_set}
+use Rattle.rdf_graph.proofs.TermLaws.{only_equal_triples_tie, same_triple_order}
 use Rattle.rdf_graph.proofs.gather.order.Goals as goal
 
 pub arrange-requires : goal.arrange-requires

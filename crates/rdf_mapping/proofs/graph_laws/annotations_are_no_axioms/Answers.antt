@@ -1,4 +1,4 @@
-use Rattle.rdf_mapping.specs.NoAxiomLaws.{head_named, header_note, noted_aside}
+use Rattle.rdf_mapping.proofs.NoAxiomLaws.{head_named, header_note, noted_aside}
 use Rattle.rdf_mapping.proofs.graph_laws.annotations_are_no_axioms.Goals as goal
 
 pub returns-clause-noted : goal.returns-clause-noted

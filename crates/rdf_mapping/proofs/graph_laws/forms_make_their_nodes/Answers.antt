@@ -1,4 +1,4 @@
-use Rattle.rdf_mapping.specs.FormSortLaws.{list_sort, made_sort, twice_sort}
+use Rattle.rdf_mapping.proofs.FormSortLaws.{list_sort, made_sort, twice_sort}
 use Rattle.rdf_mapping.proofs.graph_laws.forms_make_their_nodes.Goals as goal
 
 pub returns-clause-made : goal.returns-clause-made

@@ -1,4 +1,4 @@
-use Rattle.rdf_mapping.specs.SortLaws.{mains_are, structural_has_role, structural_of_node}
+use Rattle.rdf_mapping.proofs.SortLaws.{mains_are, structural_has_role, structural_of_node}
 use Rattle.rdf_mapping.proofs.graph_laws.graphs_are_sorted.Goals as goal
 
 pub returns-clause-of_node : goal.returns-clause-of_node

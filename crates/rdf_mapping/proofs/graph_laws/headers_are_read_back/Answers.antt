@@ -1,4 +1,4 @@
-use Rattle.rdf_mapping.specs.HeaderLaws.{notes_are, one_header}
+use Rattle.rdf_mapping.proofs.HeaderLaws.{notes_are, one_header}
 use Rattle.rdf_mapping.proofs.graph_laws.headers_are_read_back.Goals as goal
 
 pub returns-clause-header : goal.returns-clause-header

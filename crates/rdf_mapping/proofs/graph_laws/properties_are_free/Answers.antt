@@ -1,4 +1,4 @@
-use Rattle.rdf_mapping.specs.FreeLaws.{free_beside, free_carries, free_tells_none, no_class, property_free}
+use Rattle.rdf_mapping.proofs.FreeLaws.{free_beside, free_carries, free_tells_none, no_class, property_free}
 use Rattle.rdf_mapping.proofs.graph_laws.properties_are_free.Goals as goal
 
 pub returns-clause-free : goal.returns-clause-free

@@ -1,4 +1,4 @@
-use Rattle.rdf_mapping.specs.RoleLaws.{individual_role, main_role}
+use Rattle.rdf_mapping.proofs.RoleLaws.{individual_role, main_role}
 use Rattle.rdf_mapping.proofs.graph_laws.roles_are_read_back.Goals as goal
 
 pub returns-clause-individual : goal.returns-clause-individual

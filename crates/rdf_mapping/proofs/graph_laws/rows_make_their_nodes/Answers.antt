@@ -1,4 +1,4 @@
-use Rattle.rdf_mapping.specs.RowSortLaws.{row_sort}
+use Rattle.rdf_mapping.proofs.RowSortLaws.{row_sort}
 use Rattle.rdf_mapping.proofs.graph_laws.rows_make_their_nodes.Goals as goal
 
 pub returns : goal.returns

@@ -1,4 +1,4 @@
-use Rattle.rdf_mapping.specs.TreeSortLaws.{tree_sort}
+use Rattle.rdf_mapping.proofs.TreeSortLaws.{tree_sort}
 use Rattle.rdf_mapping.proofs.graph_laws.trees_make_their_nodes.Goals as goal
 
 pub returns : goal.returns

@@ -1,4 +1,4 @@
-use Rattle.rdf_mapping.specs.StandingLaws.{standing_drawn, standing_kept}
+use Rattle.rdf_mapping.proofs.StandingLaws.{standing_drawn, standing_kept}
 use Rattle.rdf_mapping.proofs.laws.axioms_with_nodes_are_drawn.Goals as goal
 
 pub returns-clause-kept : goal.returns-clause-kept

@@ -1,4 +1,4 @@
-use Rattle.rdf_mapping.specs.WholeFrameLaws.{fresh_named_apart, graph_keeps}
+use Rattle.rdf_mapping.proofs.WholeFrameLaws.{fresh_named_apart, graph_keeps}
 use Rattle.rdf_mapping.proofs.laws.graphs_keep_their_groups.Goals as goal
 
 pub returns-clause-labels : goal.returns-clause-labels

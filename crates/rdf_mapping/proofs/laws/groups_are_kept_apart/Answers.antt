@@ -1,4 +1,4 @@
-use Rattle.rdf_mapping.specs.GroupFrameLaws.{groups_kept, note_subjects, statement_owned}
+use Rattle.rdf_mapping.proofs.GroupFrameLaws.{groups_kept, note_subjects, statement_owned}
 use Rattle.rdf_mapping.proofs.laws.groups_are_kept_apart.Goals as goal
 
 pub returns-clause-annotations : goal.returns-clause-annotations

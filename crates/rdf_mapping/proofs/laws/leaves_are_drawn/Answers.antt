@@ -1,4 +1,4 @@
-use Rattle.rdf_mapping.specs.LeafDrawingLaws.{leaf_drawn}
+use Rattle.rdf_mapping.proofs.LeafDrawingLaws.{leaf_drawn}
 use Rattle.rdf_mapping.proofs.laws.leaves_are_drawn.Goals as goal
 
 pub returns : goal.returns

@@ -1,4 +1,4 @@
-use Rattle.rdf_mapping.specs.SpellingLaws.{axiom_row_written_well, node_row_written_well, spelled_fits, spelled_holds}
+use Rattle.rdf_mapping.proofs.SpellingLaws.{axiom_row_written_well, node_row_written_well, spelled_fits, spelled_holds}
 use Rattle.rdf_mapping.proofs.laws.nodes_are_of_the_rows_that_they_spell.Goals as goal
 
 pub returns-clause-expression_rows : goal.returns-clause-expression_rows

@@ -1,4 +1,4 @@
-use Rattle.rdf_mapping.specs.RowDrawingLaws.{parts_drawn}
+use Rattle.rdf_mapping.proofs.RowDrawingLaws.{parts_drawn}
 use Rattle.rdf_mapping.proofs.laws.parts_are_drawn.Goals as goal
 
 pub returns : goal.returns

@@ -1,4 +1,4 @@
-use Rattle.rdf_mapping.specs.StatementFrameLaws.{linked_back_kept, linked_kept, looped_kept}
+use Rattle.rdf_mapping.proofs.StatementFrameLaws.{linked_back_kept, linked_kept, looped_kept}
 use Rattle.rdf_mapping.proofs.laws.statements_are_kept.Goals as goal
 
 pub returns-clause-forth : goal.returns-clause-forth

@@ -1,4 +1,4 @@
-use Rattle.rdf_mapping.specs.TreeDrawingLaws.{tree_drawn}
+use Rattle.rdf_mapping.proofs.TreeDrawingLaws.{tree_drawn}
 use Rattle.rdf_mapping.proofs.laws.trees_are_drawn.Goals as goal
 
 pub returns : goal.returns

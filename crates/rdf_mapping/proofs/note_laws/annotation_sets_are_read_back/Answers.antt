@@ -1,4 +1,4 @@
-use Rattle.rdf_mapping.specs.SetLaws.{notes_said, sets_read, sets_said}
+use Rattle.rdf_mapping.proofs.SetLaws.{notes_said, sets_read, sets_said}
 use Rattle.rdf_mapping.proofs.note_laws.annotation_sets_are_read_back.Goals as goal
 
 pub returns-clause-sets : goal.returns-clause-sets

@@ -1,4 +1,4 @@
-use Rattle.rdf_mapping.specs.MainNoteLaws.{main_notes}
+use Rattle.rdf_mapping.proofs.MainNoteLaws.{main_notes}
 use Rattle.rdf_mapping.specs.NoteLaws.{note_role, notes_entry, reifies_entry}
 use Rattle.rdf_mapping.proofs.note_laws.entries_are_read_back.Goals as goal
 

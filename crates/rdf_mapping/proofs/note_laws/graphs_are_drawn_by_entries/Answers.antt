@@ -1,4 +1,4 @@
-use Rattle.rdf_mapping.specs.GraphEntryLaws.{made_drawn, statement_drawn}
+use Rattle.rdf_mapping.proofs.GraphEntryLaws.{made_drawn, statement_drawn}
 use Rattle.rdf_mapping.proofs.note_laws.graphs_are_drawn_by_entries.Goals as goal
 
 pub returns-clause-statement : goal.returns-clause-statement

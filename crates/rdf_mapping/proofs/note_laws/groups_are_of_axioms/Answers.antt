@@ -1,4 +1,4 @@
-use Rattle.rdf_mapping.specs.GroupLaws.{axiom_in_group, group_of_axiom, set_of_axiom}
+use Rattle.rdf_mapping.proofs.GroupLaws.{axiom_in_group, group_of_axiom, set_of_axiom}
 use Rattle.rdf_mapping.proofs.note_laws.groups_are_of_axioms.Goals as goal
 
 pub returns-clause-axiom : goal.returns-clause-axiom

@@ -1,4 +1,4 @@
-use Rattle.rdf_mapping.specs.AsideLaws.{groups_aside, statement_aside}
+use Rattle.rdf_mapping.proofs.AsideLaws.{groups_aside, statement_aside}
 use Rattle.rdf_mapping.proofs.note_laws.others_are_aside.Goals as goal
 
 pub returns-clause-statement : goal.returns-clause-statement

@@ -1,7 +1,7 @@
 use Rattle.std.proofs.Common.{refl, ap, ◌∙◌}
-use Rattle.owl_characters.specs.AsciiLaws.{ascii_chars}
+use Rattle.owl_characters.proofs.AsciiLaws.{ascii_chars}
 use Rattle.rdf_graph.specs.declared.term.Term.TheVariants.{Iri}
-use Rattle.rdf_terms.specs.WordLaws.{http_iri}
+use Rattle.rdf_terms.proofs.WordLaws.{http_iri}
 use Rattle.rdf_mapping.proofs.words.nil.Goals as goal
 
 pub known-requires : goal.known-requires

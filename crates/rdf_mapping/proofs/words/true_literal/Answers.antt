@@ -1,6 +1,6 @@
 use Rattle.std.proofs.Common.{◌≡◌, IfOk, subst, refl}
 use Rattle.std.specs.Prelude.{codes}
-use Rattle.owl_characters.specs.AsciiLaws.{ascii_chars}
+use Rattle.owl_characters.proofs.AsciiLaws.{ascii_chars}
 use Rattle.rdf_terms.specs.Literals.{of_datatype}
 use Rattle.rdf_mapping.proofs.WordTexts.{of_xml_schema}
 use Rattle.rdf_mapping.proofs.words.true_literal.Goals as goal

@@ -1,4 +1,4 @@
-use Rattle.rdf_meaning.specs.AxiomLaws.{notes_of_triples, triples_have_notes}
+use Rattle.rdf_meaning.proofs.AxiomLaws.{notes_of_triples, triples_have_notes}
 use Rattle.rdf_meaning.proofs.laws.annotations_are_of_triples.Goals as goal
 
 pub returns-clause-triples : goal.returns-clause-triples

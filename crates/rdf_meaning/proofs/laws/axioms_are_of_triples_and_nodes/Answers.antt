@@ -1,4 +1,4 @@
-use Rattle.rdf_meaning.specs.AxiomLaws.{axioms_of_nodes, axioms_of_triples, nodes_have_axioms, triples_have_axioms}
+use Rattle.rdf_meaning.proofs.AxiomLaws.{axioms_of_nodes, axioms_of_triples, nodes_have_axioms, triples_have_axioms}
 use Rattle.rdf_meaning.proofs.laws.axioms_are_of_triples_and_nodes.Goals as goal
 
 pub returns-clause-triples : goal.returns-clause-triples

@@ -1,4 +1,4 @@
-use Rattle.rdf_meaning.specs.GroundLaws.{keys_grounded, list_grounded, main_grounded, no_cycle, one_grounded}
+use Rattle.rdf_meaning.proofs.GroundLaws.{keys_grounded, list_grounded, main_grounded, no_cycle, one_grounded}
 use Rattle.rdf_meaning.proofs.laws.denoted_nodes_are_grounded.Goals as goal
 
 pub returns-clause-term : goal.returns-clause-term

@@ -1,5 +1,5 @@
-use Rattle.rdf_meaning.specs.GroundLaws.{sound_grounded}
-use Rattle.rdf_meaning.specs.SoundLaws.{ends_sound, main_leads, one_sound}
+use Rattle.rdf_meaning.proofs.GroundLaws.{sound_grounded}
+use Rattle.rdf_meaning.proofs.SoundLaws.{ends_sound, main_leads, one_sound}
 use Rattle.rdf_meaning.proofs.laws.denoted_nodes_are_sound.Goals as goal
 
 pub returns-clause-term : goal.returns-clause-term

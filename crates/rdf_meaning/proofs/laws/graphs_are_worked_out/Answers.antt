@@ -1,5 +1,5 @@
-use Rattle.rdf_meaning.specs.WorkedCases.{cycle_denotes_nothing, restriction_denotes, union_denotes}
-use Rattle.rdf_meaning.specs.WorkedWhole.{small_says}
+use Rattle.rdf_meaning.proofs.WorkedCases.{cycle_denotes_nothing, restriction_denotes, union_denotes}
+use Rattle.rdf_meaning.proofs.WorkedWhole.{small_says}
 use Rattle.rdf_meaning.proofs.laws.graphs_are_worked_out.Goals as goal
 
 pub returns-clause-union : goal.returns-clause-union

@@ -1,4 +1,4 @@
-use Rattle.rdf_meaning.specs.StatementLaws.{one_ontology, one_statement}
+use Rattle.rdf_meaning.proofs.StatementLaws.{one_ontology, one_statement}
 use Rattle.rdf_meaning.proofs.laws.graphs_state_one_ontology.Goals as goal
 
 pub returns-clause-states : goal.returns-clause-states

@@ -1,4 +1,4 @@
-use Rattle.rdf_meaning.specs.KindLaws.{has_kind_is, no_shared}
+use Rattle.rdf_meaning.proofs.KindLaws.{has_kind_is, no_shared}
 use Rattle.rdf_meaning.proofs.laws.kinds_are_told_apart.Goals as goal
 
 pub returns-clause-has_kind : goal.returns-clause-has_kind

@@ -1,4 +1,4 @@
-use Rattle.rdf_meaning.specs.NodeLaws.{chosen_is, nodes_are}
+use Rattle.rdf_meaning.proofs.NodeLaws.{chosen_is, nodes_are}
 use Rattle.rdf_meaning.proofs.laws.nodes_are_by_their_triples.Goals as goal
 
 pub returns-clause-chosen : goal.returns-clause-chosen

@@ -1,4 +1,4 @@
-use Rattle.rdf_meaning.specs.ShapeLaws.{each_axiom_has_a_row, each_expression_has_a_row, each_way_has_a_row}
+use Rattle.rdf_meaning.proofs.ShapeLaws.{each_axiom_has_a_row, each_expression_has_a_row, each_way_has_a_row}
 use Rattle.rdf_meaning.proofs.laws.rows_are_complete.Goals as goal
 
 pub returns-clause-expressions : goal.returns-clause-expressions

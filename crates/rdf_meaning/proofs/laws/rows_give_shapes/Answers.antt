@@ -1,4 +1,4 @@
-use Rattle.rdf_meaning.specs.ShapeLaws.{annotation_fits, axiom_fits, chain_fits, data_keys_fit, expression_fits, notes_fit, object_keys_fit}
+use Rattle.rdf_meaning.proofs.ShapeLaws.{annotation_fits, axiom_fits, chain_fits, data_keys_fit, expression_fits, notes_fit, object_keys_fit}
 use Rattle.rdf_meaning.proofs.laws.rows_give_shapes.Goals as goal
 
 pub returns-clause-expression : goal.returns-clause-expression

@@ -1,4 +1,4 @@
-use Rattle.rdf_meaning.specs.DenotationLaws.{one_axiom_row, one_key_list, one_list, one_node_row, one_of_parts, one_tree, one_tree_of_node}
+use Rattle.rdf_meaning.proofs.DenotationLaws.{one_axiom_row, one_key_list, one_list, one_node_row, one_of_parts, one_tree, one_tree_of_node}
 use Rattle.rdf_meaning.proofs.laws.terms_denote_one_tree.Goals as goal
 
 pub returns-clause-tree : goal.returns-clause-tree

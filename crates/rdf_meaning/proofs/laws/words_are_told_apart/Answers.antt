@@ -1,5 +1,5 @@
-use Rattle.rdf_meaning.specs.NodeLaws.{one_word}
-use Rattle.rdf_meaning.specs.WordLaws.{same_iri, same_number}
+use Rattle.rdf_meaning.proofs.NodeLaws.{one_word}
+use Rattle.rdf_meaning.proofs.WordLaws.{same_iri, same_number}
 use Rattle.rdf_meaning.proofs.laws.words_are_told_apart.Goals as goal
 
 pub returns-clause-numbers : goal.returns-clause-numbers

@@ -3,7 +3,7 @@ use Rattle.std.proofs.lemmas.Option.{same_Some}
 use Rattle.owl_tree.specs.declared.atom.Atom.TheVariants as atom
 use Rattle.owl_tree.specs.declared.tag.Tag.TheVariants as tag
 use Rattle.owl_tree.specs.Trees.{kids_of, leaf, node}
-use Rattle.tree_stores.specs.StoreLaws.{are_standing, few_are_small, only_memory}
+use Rattle.tree_stores.proofs.StoreLaws.{are_standing, few_are_small, only_memory}
 use Rattle.tree_stores.specs.Stores.{StandFor}
 use Rattle.rdf_nodes.proofs.build.hold_facet.Goals as goal
 

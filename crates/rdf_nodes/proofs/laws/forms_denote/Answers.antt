@@ -1,4 +1,4 @@
-use Rattle.rdf_nodes.specs.OperandLaws.{form_denotes}
+use Rattle.rdf_nodes.proofs.OperandLaws.{form_denotes}
 use Rattle.rdf_nodes.proofs.laws.forms_denote.Goals as goal
 
 pub returns : goal.returns

@@ -2,7 +2,7 @@ use Rattle.std.proofs.Common.{subst, sym}
 use Rattle.std.proofs.lemmas.Bool.{both_ways}
 use Rattle.tree_stores.specs.Stores.{HasNumber}
 use Rattle.rdf_nodes.specs.Numbers.{AreKnown, AreNumbered}
-use Rattle.rdf_nodes.specs.DenotedLaws.{typed_denote_trees}
+use Rattle.rdf_nodes.proofs.DenotedLaws.{typed_denote_trees}
 use Rattle.rdf_nodes.proofs.nodes.denote.Goals as goal
 
 pub are_shallow-requires-clause-trees : goal.are_shallow-requires-clause-trees

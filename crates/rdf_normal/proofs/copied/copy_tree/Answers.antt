@@ -1,7 +1,7 @@
 use Rattle.std.proofs.Common.{rules, ◌<◌, subst, sym}
 use Rattle.std.specs.List.{AllByRecursion}
 use Rattle.std.proofs.lemmas.Result.{on_ok_weaker}
-use Rattle.owl_arena.specs.HeldLaws.{entry_at}
+use Rattle.owl_arena.proofs.HeldLaws.{entry_at}
 use Rattle.owl_tree.specs.Shape.{IsShaped}
 use Rattle.rdf_normal.proofs.Copying.{copied_one, leaf_is, node_copied}
 use Rattle.rdf_normal.proofs.copied.copy_tree.Goals as goal

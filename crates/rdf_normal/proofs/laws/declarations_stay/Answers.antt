@@ -1,4 +1,4 @@
-use Rattle.rdf_normal.specs.DeclaredLaws.{declares_same}
+use Rattle.rdf_normal.proofs.DeclaredLaws.{declares_same}
 use Rattle.rdf_normal.proofs.laws.declarations_stay.Goals as goal
 
 pub returns : goal.returns

@@ -1,4 +1,4 @@
-use Rattle.rdf_normal.specs.NormalFormLaws.{annotations_have_leaf, axioms_have_leaf}
+use Rattle.rdf_normal.proofs.NormalFormLaws.{annotations_have_leaf, axioms_have_leaf}
 use Rattle.rdf_normal.proofs.laws.leaves_stay.Goals as goal
 
 pub returns-clause-axioms : goal.returns-clause-axioms

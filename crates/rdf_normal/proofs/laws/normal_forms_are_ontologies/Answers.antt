@@ -1,4 +1,4 @@
-use Rattle.rdf_normal.specs.ShapedLaws.{normal_is_ontology}
+use Rattle.rdf_normal.proofs.ShapedLaws.{normal_is_ontology}
 use Rattle.rdf_normal.proofs.laws.normal_forms_are_ontologies.Goals as goal
 
 pub returns : goal.returns

@@ -1,5 +1,5 @@
 use Rattle.rdf_normal.specs.NormalForms.{unsettled_annotations, unsettled_axioms}
-use Rattle.rdf_normal.specs.NormalFormLaws.{nothing_else, stays}
+use Rattle.rdf_normal.proofs.NormalFormLaws.{nothing_else, stays}
 use Rattle.rdf_normal.proofs.laws.what_is_kept.Goals as goal
 
 pub returns-clause-axioms : goal.returns-clause-axioms

@@ -1,6 +1,6 @@
 use Rattle.std.proofs.Common.{rules, ◌≡◌, ◌<◌, ◌∷◌, [], ◌++◌, not, ap, sym, ◌∙◌, subst, length}
 use Rattle.owl_arena.specs.Held.{AreHeld, trees_at}
-use Rattle.owl_list.specs.AscendingLaws.{all_pushed}
+use Rattle.owl_list.proofs.AscendingLaws.{all_pushed}
 use Rattle.rdf_normal.specs.NormalForms.{is_needless}
 use Rattle.rdf_normal.proofs.Extending.{taken_held}
 use Rattle.rdf_normal.proofs.Looping.{fails, passes}

@@ -8,7 +8,7 @@ use Rattle.owl_tree.specs.Ontologies.{IsAnnotation, IsAxiom, canonical_ontology}
 use Rattle.rdf_normal.specs.Building.{document_with}
 use Rattle.rdf_normal.specs.NormalForms.{unsettled_annotations, unsettled_axioms}
 use Rattle.rdf_normal.specs.declared.fault.NormFault.TheVariants.{TooHeavy}
-use Rattle.rdf_normal.specs.ShapedLaws.{normal_is_ontology}
+use Rattle.rdf_normal.proofs.ShapedLaws.{normal_is_ontology}
 use Rattle.rdf_normal.proofs.Filling.{passed_on}
 use Rattle.rdf_normal.proofs.SettleTrees.{form_is, settled_apart, weight_is}
 use Rattle.rdf_normal.proofs.steps.normal.Goals as goal

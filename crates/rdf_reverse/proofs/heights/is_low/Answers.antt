@@ -1,4 +1,4 @@
-use Rattle.rdf_reverse.specs.HeightLaws.{low_graph}
+use Rattle.rdf_reverse.proofs.HeightLaws.{low_graph}
 use Rattle.rdf_reverse.proofs.heights.is_low.Goals as goal
 
 pub returns : goal.returns

@@ -1,4 +1,4 @@
-use Rattle.rdf_reverse.specs.ReverseLaws.{limits_alone, never_both, said_one_way, unsaid_one_way}
+use Rattle.rdf_reverse.proofs.ReverseLaws.{limits_alone, never_both, said_one_way, unsaid_one_way}
 use Rattle.rdf_reverse.proofs.laws.graphs_are_read_one_way.Goals as goal
 
 pub returns-clause-ontology : goal.returns-clause-ontology

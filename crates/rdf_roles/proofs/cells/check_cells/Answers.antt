@@ -1,10 +1,10 @@
 use Rattle.std.proofs.Common.{arith}
 use Rattle.rdf_faults.specs.Faults.{IsBadCell}
-use Rattle.rdf_roles.specs.FirstLaws.{holds_for_none}
-use Rattle.rdf_roles.specs.NodeLaws.{table_length}
+use Rattle.rdf_roles.proofs.FirstLaws.{holds_for_none}
+use Rattle.rdf_roles.proofs.NodeLaws.{table_length}
 use Rattle.rdf_roles.specs.Tables.{blank_nodes}
 use Rattle.rdf_roles.proofs.CellTriples.{bad_cell_stops}
-use Rattle.owl_characters.specs.ResultLaws.{passed}
+use Rattle.owl_characters.proofs.ResultLaws.{passed}
 use Rattle.rdf_roles.proofs.cells.check_cells.Goals as goal
 
 pub returns-in_err-check_cell-clause-fault : goal.returns-in_err-check_cell-clause-fault

@@ -1,5 +1,5 @@
 use Rattle.rdf_faults.specs.Faults.{IsBadCell}
-use Rattle.rdf_roles.specs.FirstLaws.{HoldsNowhereBelow}
+use Rattle.rdf_roles.proofs.FirstLaws.{HoldsNowhereBelow}
 use Rattle.rdf_roles.specs.Tables.{blank_nodes}
 use Rattle.rdf_roles.proofs.cells.check_cells.Given as goal
 

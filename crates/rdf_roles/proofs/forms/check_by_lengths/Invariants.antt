@@ -1,5 +1,5 @@
 use Rattle.rdf_faults.specs.Faults.{IsBadNode}
-use Rattle.rdf_roles.specs.FirstLaws.{HoldsNowhereBelow}
+use Rattle.rdf_roles.proofs.FirstLaws.{HoldsNowhereBelow}
 use Rattle.rdf_roles.specs.Tables.{blank_nodes}
 use Rattle.rdf_roles.proofs.forms.check_by_lengths.Given as goal
 

@@ -1,6 +1,6 @@
 use Rattle.std.proofs.Common.{◌<◌, ◌∙◌, subst, sym}
 use Rattle.rdf_roles.specs.Lengths.{AreKnownBelow}
-use Rattle.rdf_roles.specs.NodeLaws.{table_length}
+use Rattle.rdf_roles.proofs.NodeLaws.{table_length}
 use Rattle.rdf_roles.proofs.CellLengths.{all_passed, next_known_below, next_within, none_passed, one_passed, passed_ahead}
 use Rattle.rdf_roles.proofs.lengths.lengths_of.Goals as goal
 

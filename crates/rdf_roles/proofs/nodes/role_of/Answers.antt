@@ -2,7 +2,7 @@ use Rattle.std.proofs.Common.{ap, sym, ◌∙◌}
 use Rattle.std.specs.Option.{unwrap_or}
 use Rattle.rdf_meaning.specs.Nodes.{role_of}
 use Rattle.rdf_meaning.specs.declared.role.Role.TheVariants as role
-use Rattle.rdf_roles.specs.NodeLaws.{table_is, table_tells}
+use Rattle.rdf_roles.proofs.NodeLaws.{table_is, table_tells}
 use Rattle.rdf_roles.proofs.nodes.role_of.Goals as goal
 
 pub returns-in-Blank : goal.returns-in-Blank

@@ -1,5 +1,5 @@
 use Rattle.std.proofs.Common.{arith}
-use Rattle.rdf_roles.specs.NodeLaws.{table_length}
+use Rattle.rdf_roles.proofs.NodeLaws.{table_length}
 use Rattle.rdf_roles.proofs.NotedUnder.{all_ways}
 use Rattle.rdf_roles.proofs.notes.add_notes.Goals as goal
 

@@ -2,7 +2,7 @@ use Rattle.std.proofs.Common.{◌∙◌, ◌<◌, length, refl, sym, subst, arit
 use Rattle.std.proofs.lemmas.Bool.{both_ways}
 use Rattle.std.proofs.lemmas.Option.{slice_get_within}
 use Rattle.directed_graphs.specs.Cycles.{edges_of}
-use Rattle.directed_graphs.specs.CycleLaws.{graph_size}
+use Rattle.directed_graphs.proofs.CycleLaws.{graph_size}
 use Rattle.rdf_meaning.specs.declared.word.Word.TheVariants as word
 use Rattle.rdf_rows.specs.Chosen.{objects_with}
 use Rattle.rdf_roles.specs.Tables.{blank_nodes}

@@ -2,7 +2,7 @@ use Rattle.std.proofs.Common.{◌<◌, ◌∙◌, [], get_or, length, subst, sym
 use Rattle.std.proofs.lemmas.Option.{none-some, slice_get-get_or}
 use Rattle.directed_graphs.specs.Cycles.{IsAnswer, edges_of}
 use Rattle.rdf_roles.specs.Tables.{AreEdges, blank_nodes}
-use Rattle.rdf_roles.specs.WayLaws.{ordered_has_no_cycle}
+use Rattle.rdf_roles.proofs.WayLaws.{ordered_has_no_cycle}
 use Rattle.rdf_roles.proofs.CycleStops.{cycle_stops}
 use Rattle.rdf_roles.proofs.order.order_by_ways.Goals as goal
 

@@ -1,5 +1,5 @@
 use Rattle.std.proofs.Common.{sym}
-use Rattle.owl_characters.specs.ResultLaws.{passed}
+use Rattle.owl_characters.proofs.ResultLaws.{passed}
 use Rattle.rdf_roles.proofs.Walk.{ahead, walk_adds, walk_ends, walk_is_new, walk_passes, walk_stops, walked_all}
 use Rattle.rdf_roles.proofs.table.add_nodes.Goals as goal
 

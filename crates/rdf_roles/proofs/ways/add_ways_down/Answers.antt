@@ -1,7 +1,7 @@
 use Rattle.std.proofs.Common.{arith, ap, sym, subst, ◌∙◌}
 use Rattle.std.proofs.lemmas.List.{map_push}
 use Rattle.directed_graphs.specs.Cycles.{edges_of}
-use Rattle.rdf_roles.specs.NodeLaws.{table_length}
+use Rattle.rdf_roles.proofs.NodeLaws.{table_length}
 use Rattle.rdf_roles.specs.Ways.{HaveWaysDown}
 use Rattle.rdf_roles.proofs.Down.{ways_end, ways_go_on}
 use Rattle.rdf_roles.proofs.ways.add_ways_down.Goals as goal

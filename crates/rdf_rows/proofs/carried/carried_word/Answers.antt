@@ -2,7 +2,7 @@ use Rattle.std.proofs.Common.{◌≡◌, sym, ◌∙◌}
 use Rattle.std.proofs.lemmas.Bool.{both_ways}
 use Rattle.std.proofs.lemmas.Slice.Eq.{bytes_eq-Decides}
 use Rattle.rdf_meaning.specs.Nodes.{type_iri}
-use Rattle.rdf_rows.specs.CarryingLaws.{of_link, of_type}
+use Rattle.rdf_rows.proofs.CarryingLaws.{of_link, of_type}
 use Rattle.rdf_rows.proofs.carried.carried_word.Goals as goal
 
 pub returns-then-is_type_iri : goal.returns-then-is_type_iri

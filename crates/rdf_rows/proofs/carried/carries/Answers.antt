@@ -4,7 +4,7 @@ use Rattle.rdf_graph.specs.declared.term.Term.TheVariants.{Iri}
 use Rattle.rdf_meaning.specs.Nodes.{is_same}
 use Rattle.rdf_meaning.specs.Words.{word_iri}
 use Rattle.rdf_rows.specs.Carrying.{may_have}
-use Rattle.rdf_rows.specs.CarryingLaws.{by_class, by_link}
+use Rattle.rdf_rows.proofs.CarryingLaws.{by_class, by_link}
 use Rattle.rdf_rows.proofs.carried.carries.Goals as goal
 
 pub returns-then-is_type_iri : goal.returns-then-is_type_iri

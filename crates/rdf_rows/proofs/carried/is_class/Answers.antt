@@ -2,7 +2,7 @@ use Rattle.std.proofs.Common.{sym, ap, ◌∙◌}
 use Rattle.rdf_graph.specs.declared.term.Term.TheVariants.{Iri}
 use Rattle.rdf_meaning.specs.Nodes.{is_same}
 use Rattle.rdf_meaning.specs.Words.{word_iri}
-use Rattle.rdf_rows.specs.CarryingLaws.{iri_is}
+use Rattle.rdf_rows.proofs.CarryingLaws.{iri_is}
 use Rattle.rdf_rows.proofs.carried.is_class.Goals as goal
 
 pub returns-in-Iri : goal.returns-in-Iri

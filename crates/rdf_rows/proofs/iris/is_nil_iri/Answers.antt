@@ -1,6 +1,6 @@
 use Rattle.std.proofs.Common.{◌≡◌, ◌↔◌, refl, subst}
 use Rattle.std.specs.Prelude.{IsTrue}
-use Rattle.owl_characters.specs.AsciiLaws.{ascii_chars}
+use Rattle.owl_characters.proofs.AsciiLaws.{ascii_chars}
 use Rattle.rdf_rows.proofs.iris.is_nil_iri.Goals as goal
 
 pub returns : goal.returns

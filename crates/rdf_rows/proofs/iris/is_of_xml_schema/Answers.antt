@@ -1,7 +1,7 @@
 use Rattle.std.proofs.Common.{[], refl, ap, ◌∙◌, nat_eq}
 use Rattle.std.specs.List.{starts_with}
 use Rattle.std.proofs.lemmas.Str.Pattern.{starts_text}
-use Rattle.owl_characters.specs.AsciiLaws.{front_is}
+use Rattle.owl_characters.proofs.AsciiLaws.{front_is}
 use Rattle.rdf_terms.specs.Vocabulary.{xsd}
 use Rattle.rdf_rows.proofs.iris.is_of_xml_schema.Goals as goal
 

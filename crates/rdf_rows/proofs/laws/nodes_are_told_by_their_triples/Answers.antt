@@ -1,4 +1,4 @@
-use Rattle.rdf_rows.specs.NodeTripleLaws.{chosen_is, facets_are, fits_is, roles_are}
+use Rattle.rdf_rows.proofs.NodeTripleLaws.{chosen_is, facets_are, fits_is, roles_are}
 use Rattle.rdf_rows.proofs.laws.nodes_are_told_by_their_triples.Goals as goal
 
 pub returns-clause-objects : goal.returns-clause-objects

@@ -1,4 +1,4 @@
-use Rattle.rdf_rows.specs.NodeTripleLaws.{cell_is, only_is, reification_is}
+use Rattle.rdf_rows.proofs.NodeTripleLaws.{cell_is, only_is, reification_is}
 use Rattle.rdf_rows.proofs.laws.only_ones_are_told.Goals as goal
 
 pub returns-clause-objects : goal.returns-clause-objects

@@ -1,7 +1,7 @@
 use Rattle.std.proofs.Common.{refl, sym, ◌∙◌}
 use Rattle.std.specs.Prelude.{codes}
 use Rattle.std.proofs.lemmas.Slice.Eq.{bytes_eq-Decides}
-use Rattle.owl_characters.specs.AsciiLaws.{from_bytes, from_characters}
+use Rattle.owl_characters.proofs.AsciiLaws.{from_bytes, from_characters}
 use Rattle.rdf_rows.proofs.literals.is_word_true.Goals as goal
 
 pub returns : goal.returns

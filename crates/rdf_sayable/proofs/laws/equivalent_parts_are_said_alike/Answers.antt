@@ -1,4 +1,4 @@
-use Rattle.rdf_sayable.specs.SayableLaws.{equivalent_said, same_ontology_first, same_ontology_said}
+use Rattle.rdf_sayable.proofs.SayableLaws.{equivalent_said, same_ontology_first, same_ontology_said}
 use Rattle.rdf_sayable.proofs.laws.equivalent_parts_are_said_alike.Goals as goal
 
 pub returns-clause-axioms : goal.returns-clause-axioms

@@ -1,4 +1,4 @@
-use Rattle.rdf_sayable.specs.SayableLaws.{not_all_said, unsayable_once}
+use Rattle.rdf_sayable.proofs.SayableLaws.{not_all_said, unsayable_once}
 use Rattle.rdf_sayable.proofs.laws.objections_are_first_once.Goals as goal
 
 pub returns-clause-once : goal.returns-clause-once

@@ -1,4 +1,4 @@
-use Rattle.rdf_sayable.specs.SayableLaws.{said_by_leaves, said_of_leaves}
+use Rattle.rdf_sayable.proofs.SayableLaws.{said_by_leaves, said_of_leaves}
 use Rattle.rdf_sayable.proofs.laws.saying_depends_on_leaves.Goals as goal
 
 pub returns-clause-ontology : goal.returns-clause-ontology

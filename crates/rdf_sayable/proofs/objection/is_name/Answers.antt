@@ -1,6 +1,6 @@
 use Rattle.std.proofs.Common.{◌∙◌, ap}
 use Rattle.std.specs.Str.{bytes_eq}
-use Rattle.owl_characters.specs.AsciiLaws.{word_is}
+use Rattle.owl_characters.proofs.AsciiLaws.{word_is}
 use Rattle.rdf_sayable.proofs.objection.is_name.Goals as goal
 
 pub returns : goal.returns

@@ -1,6 +1,6 @@
 use Rattle.std.proofs.Common.{◌∙◌, ◌<◌, List, arith, ap, length, sym}
 use Rattle.owl_arena.specs.Held.{tree_at}
-use Rattle.owl_list.specs.AscendingLaws.{all_in, all_later}
+use Rattle.owl_list.proofs.AscendingLaws.{all_in, all_later}
 use Rattle.owl_tree.specs.Trees.{Tree, kids_of}
 use Rattle.rdf_sayable.specs.Parts.{leaves_of}
 use Rattle.rdf_sayable.specs.Reasons.{why_seen}

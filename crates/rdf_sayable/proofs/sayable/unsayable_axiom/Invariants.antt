@@ -1,5 +1,5 @@
 use Rattle.rdf_sayable.specs.Sayable.{CanSay}
-use Rattle.rdf_sayable.specs.SearchLaws.{HoldsBefore}
+use Rattle.rdf_sayable.proofs.SearchLaws.{HoldsBefore}
 use Rattle.rdf_sayable.proofs.sayable.unsayable_axiom.Given as goal
 
 abbrev pub invariant-axioms : goal.invariant-axioms

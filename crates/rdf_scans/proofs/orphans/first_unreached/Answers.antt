@@ -1,8 +1,8 @@
 use Rattle.std.proofs.Common.{ℕ, suc, ◌+◌, List, arith, sym, subst, ◌≡◌, ◌∙◌, Some, slice_get}
 use Rattle.std.proofs.lemmas.Bool.{both_ways}
 use Rattle.std.proofs.lemmas.Option.{same_Some}
-use Rattle.rdf_roles.specs.FirstLaws.{HoldsNowhereBelow, first_at, holds_for_none, nowhere_below_next}
-use Rattle.rdf_roles.specs.NodeLaws.{keys_are}
+use Rattle.rdf_roles.proofs.FirstLaws.{HoldsNowhereBelow, first_at, holds_for_none, nowhere_below_next}
+use Rattle.rdf_roles.proofs.NodeLaws.{keys_are}
 use Rattle.rdf_roles.specs.Tables.{blank_nodes}
 use Rattle.rdf_scans.specs.Reach.{IsOrphanIn}
 use Rattle.rdf_scans.proofs.Marking.{so_many}

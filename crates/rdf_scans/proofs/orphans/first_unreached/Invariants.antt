@@ -1,4 +1,4 @@
-use Rattle.rdf_roles.specs.FirstLaws.{HoldsNowhereBelow}
+use Rattle.rdf_roles.proofs.FirstLaws.{HoldsNowhereBelow}
 use Rattle.rdf_roles.specs.Tables.{blank_nodes}
 use Rattle.rdf_scans.specs.Reach.{IsOrphanIn}
 use Rattle.rdf_scans.proofs.orphans.first_unreached.Given as goal

@@ -1,5 +1,5 @@
 use Rattle.std.proofs.Common.{ℕ, List, ap, sym, subst, ◌≡◌, ◌∙◌, Some, slice_get}
-use Rattle.rdf_roles.specs.NodeLaws.{keys_are}
+use Rattle.rdf_roles.proofs.NodeLaws.{keys_are}
 use Rattle.rdf_scans.specs.Reach.{has_mark, reaches_on}
 use Rattle.rdf_scans.proofs.Marking.{marks_as}
 use Rattle.rdf_scans.proofs.Reaching.{nothing_next, objects_next}

@@ -1,6 +1,6 @@
 use Rattle.std.proofs.Common.{◌∙◌}
 use Rattle.std.specs.Bool.{one_answer}
-use Rattle.rdf_graph.specs.TermLaws.{only_equal_terms_compare_equal, same_term}
+use Rattle.rdf_graph.proofs.TermLaws.{only_equal_terms_compare_equal, same_term}
 use Rattle.rdf_meaning.specs.Nodes.{is_same}
 use Rattle.rdf_scans.proofs.sorts.is_same.Goals as goal
 

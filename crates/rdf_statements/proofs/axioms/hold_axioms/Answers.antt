@@ -1,6 +1,6 @@
 use Rattle.std.proofs.Common.{rules, ◌≡◌, ◌∷◌, ◌++◌, [], subst, sym}
 use Rattle.std.proofs.lemmas.List.{nil_from_length}
-use Rattle.owl_characters.specs.ResultLaws.{passed}
+use Rattle.owl_characters.proofs.ResultLaws.{passed}
 use Rattle.rdf_statements.proofs.Sets.{AreSoFar, all_held, next_fault, next_standing, one_more}
 use Rattle.rdf_statements.proofs.axioms.hold_axioms.Goals as goal
 

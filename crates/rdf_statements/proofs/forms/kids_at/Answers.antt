@@ -2,7 +2,7 @@ use Rattle.std.proofs.Common.{ap, option_map, sym, ◌∙◌}
 use denote.Ref.{Bor}
 use Rattle.rdf_graph.specs.declared.term.Term.{Term}
 use Rattle.rdf_meaning.specs.Denotation.{select}
-use Rattle.rdf_rows.specs.NodeTripleLaws.{only_is}
+use Rattle.rdf_rows.proofs.NodeTripleLaws.{only_is}
 use Rattle.rdf_statements.proofs.Finding.{none_given, not_given}
 use Rattle.rdf_statements.proofs.Forming.{found_more}
 use Rattle.rdf_statements.proofs.forms.kids_at.Goals as goal

@@ -1,10 +1,10 @@
 use Rattle.std.proofs.Common.{subst, sym}
 use Rattle.tree_stores.specs.Stores.{StandFor}
-use Rattle.tree_stores.specs.StoreLaws.{stand_still}
+use Rattle.tree_stores.proofs.StoreLaws.{stand_still}
 use Rattle.rdf_statements.specs.Forms.{AllKidsMean}
 use Rattle.rdf_statements.specs.Holding.{IsOfKids}
 use Rattle.rdf_annotations.specs.Annotations.{IsFaultOfSome}
-use Rattle.owl_characters.specs.ResultLaws.{passed}
+use Rattle.owl_characters.proofs.ResultLaws.{passed}
 use Rattle.rdf_statements.proofs.HoldingKids.{err_more, form_fault, form_has_fault, form_stands, ok_more, standing_still}
 use Rattle.rdf_statements.proofs.hold_forms.hold_form.Goals as goal
 

@@ -1,5 +1,5 @@
 use Rattle.std.proofs.Common.{rules, ◌≡◌, ◌∷◌, ◌++◌, [], subst, sym}
-use Rattle.owl_characters.specs.ResultLaws.{passed}
+use Rattle.owl_characters.proofs.ResultLaws.{passed}
 use Rattle.rdf_statements.proofs.HoldingKids.{AreKidsHeld, kid_fault, more_kids_held, next_has, numbered_still}
 use Rattle.rdf_statements.proofs.hold_forms.hold_kids.Goals as goal
 

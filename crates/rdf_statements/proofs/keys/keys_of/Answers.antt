@@ -1,6 +1,6 @@
 use Rattle.std.proofs.Common.{◌+◌, ap, arith, not, refl}
 use Rattle.std.proofs.lemmas.Bool.{false_from_ne_true}
-use Rattle.rdf_asked.specs.ListedLaws.{walk_ends, walk_fails, walk_goes_on, walk_is_long}
+use Rattle.rdf_asked.proofs.ListedLaws.{walk_ends, walk_fails, walk_goes_on, walk_is_long}
 use Rattle.rdf_statements.proofs.Finding.{key_is}
 use Rattle.rdf_statements.proofs.Forming.{all_keys, next_key}
 use Rattle.rdf_statements.proofs.keys.keys_of.Goals as goal

@@ -1,4 +1,4 @@
-use Rattle.rdf_asked.specs.ListedLaws.{IsWalked}
+use Rattle.rdf_asked.proofs.ListedLaws.{IsWalked}
 use Rattle.rdf_faults.specs.Asked.{is_key}
 use Rattle.rdf_statements.proofs.Forming.{AreKeysBefore}
 use Rattle.rdf_statements.proofs.keys.keys_of.Given as goal

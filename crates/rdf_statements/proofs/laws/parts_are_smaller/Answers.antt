@@ -1,4 +1,4 @@
-use Rattle.rdf_statements.specs.PartLaws.{part_depth, part_weight}
+use Rattle.rdf_statements.proofs.PartLaws.{part_depth, part_weight}
 use Rattle.rdf_statements.proofs.laws.parts_are_smaller.Goals as goal
 
 pub returns-clause-depth : goal.returns-clause-depth

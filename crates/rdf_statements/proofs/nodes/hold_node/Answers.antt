@@ -1,5 +1,5 @@
 use Rattle.std.proofs.Common.{◌∷◌, [], IfSome, IsNone, refl, subst, sym}
-use Rattle.owl_list.specs.AscendingLaws.{in_head}
+use Rattle.owl_list.proofs.AscendingLaws.{in_head}
 use Rattle.rdf_graph.specs.declared.term.Term.TheVariants.{Blank}
 use Rattle.rdf_meaning.specs.Denotation.{of_node}
 use Rattle.rdf_meaning.specs.Statements.{IsAxiomOfNode, notes}
@@ -8,7 +8,7 @@ use Rattle.rdf_annotations.specs.Annotations.{IsNotedTree}
 use Rattle.rdf_statements.specs.Forms.{IsAxiomForm}
 use Rattle.rdf_statements.specs.GraphTrees.{IsTreeOf, of_annotation}
 use Rattle.rdf_statements.specs.Holding.{IsOfForm}
-use Rattle.owl_characters.specs.ResultLaws.{passed}
+use Rattle.owl_characters.proofs.ResultLaws.{passed}
 use Rattle.rdf_statements.proofs.Adding.{node_fault, node_of_form, node_stands}
 use Rattle.rdf_statements.proofs.Faults.{fault_of_some}
 use Rattle.rdf_statements.proofs.HoldingKids.{err_more, numbered_still, ok_more}

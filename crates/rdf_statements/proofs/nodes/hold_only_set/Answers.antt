@@ -1,4 +1,4 @@
-use Rattle.rdf_annotations.specs.AnnotationLaws.{all_have_sets}
+use Rattle.rdf_annotations.proofs.AnnotationLaws.{all_have_sets}
 use Rattle.rdf_statements.proofs.nodes.hold_only_set.Goals as goal
 
 pub hold_set-requires-clause-known : goal.hold_set-requires-clause-known

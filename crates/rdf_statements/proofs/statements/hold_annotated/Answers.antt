@@ -1,4 +1,4 @@
-use Rattle.owl_characters.specs.ResultLaws.{passed}
+use Rattle.owl_characters.proofs.ResultLaws.{passed}
 use Rattle.rdf_statements.proofs.Stating.{noted_fault, tree_fault}
 use Rattle.rdf_statements.proofs.statements.hold_annotated.Goals as goal
 

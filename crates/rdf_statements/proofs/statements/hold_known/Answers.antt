@@ -1,5 +1,5 @@
-use Rattle.owl_characters.specs.ResultLaws.{passed}
-use Rattle.rdf_annotations.specs.AnnotationLaws.{all_have_sets}
+use Rattle.owl_characters.proofs.ResultLaws.{passed}
+use Rattle.rdf_annotations.proofs.AnnotationLaws.{all_have_sets}
 use Rattle.rdf_statements.proofs.Adding.{known_still}
 use Rattle.rdf_statements.proofs.Stating.{noted_fault, statements_are}
 use Rattle.rdf_statements.proofs.statements.hold_known.Goals as goal

@@ -1,6 +1,6 @@
 use Rattle.std.specs.Prelude.{true}
 use Rattle.rdf_statements.specs.declared.known.Known.{Known}
-use Rattle.owl_characters.specs.ResultLaws.{passed}
+use Rattle.owl_characters.proofs.ResultLaws.{passed}
 use Rattle.rdf_statements.proofs.HoldingKids.{err_more, ok_more}
 use Rattle.rdf_statements.proofs.Stating.{all_stated, known_with, node_fault, tree_fault}
 use Rattle.rdf_statements.proofs.statements.hold_noted.Goals as goal

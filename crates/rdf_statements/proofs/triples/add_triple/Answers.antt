@@ -1,6 +1,6 @@
 use Rattle.std.proofs.Common.{sym, ◌∙◌}
 use Rattle.std.proofs.lemmas.Option.{same_Some}
-use Rattle.owl_characters.specs.ResultLaws.{passed}
+use Rattle.owl_characters.proofs.ResultLaws.{passed}
 use Rattle.rdf_statements.proofs.Adding.{axiom_fault, in_main, told, triple_added, triple_passed}
 use Rattle.std.proofs.Common.{false, refl, true}
 use Rattle.rdf_statements.proofs.triples.add_triple.Goals as goal

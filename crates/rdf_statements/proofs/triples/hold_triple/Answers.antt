@@ -3,7 +3,7 @@ use Rattle.std.proofs.lemmas.Option.{same_Some}
 use Rattle.rdf_meaning.specs.Denotation.{of_triple}
 use Rattle.rdf_meaning.specs.Statements.{AreAxioms, IsAxiomOf}
 use Rattle.tree_stores.specs.Stores.{StandFor}
-use Rattle.rdf_annotations.specs.AnnotationLaws.{all_have_sets}
+use Rattle.rdf_annotations.proofs.AnnotationLaws.{all_have_sets}
 use Rattle.rdf_annotations.specs.Annotations.{IsFaultOfSome}
 use Rattle.rdf_statements.specs.Forms.{IsAxiomForm}
 use Rattle.rdf_statements.specs.Holding.{IsOfForm, StandForSome}

@@ -1,4 +1,4 @@
-use Rattle.rdf_states.specs.CountLaws.{few_labels}
+use Rattle.rdf_states.proofs.CountLaws.{few_labels}
 use Rattle.rdf_states.proofs.count_laws.graphs_have_few_nodes.Goals as goal
 
 pub returns : goal.returns

@@ -1,4 +1,4 @@
-use Rattle.rdf_states.specs.OntologyLaws.{ontology_said}
+use Rattle.rdf_states.proofs.OntologyLaws.{ontology_said}
 use Rattle.rdf_states.proofs.state_laws.graphs_state_their_ontologies.Goals as goal
 
 pub returns : goal.returns

@@ -1,4 +1,4 @@
-use Rattle.rdf_states.specs.NormalStatesLaws.{form_axioms_typed, form_notes_typed, form_said, form_says}
+use Rattle.rdf_states.proofs.NormalStatesLaws.{form_axioms_typed, form_notes_typed, form_said, form_says}
 use Rattle.rdf_states.proofs.state_laws.normal_forms_are_stated.Goals as goal
 
 pub returns-clause-said : goal.returns-clause-said

@@ -1,6 +1,6 @@
 use Rattle.std.proofs.Common.{◌≡◌, IfOk, refl, subst}
 use Rattle.rdf_terms.proofs.LiteralForms.{plain_literal_chars}
-use Rattle.rdf_terms.specs.WordLaws.{http_iri}
+use Rattle.rdf_terms.proofs.WordLaws.{http_iri}
 use Rattle.rdf_terms.proofs.literal.plain_literal.Goals as goal
 
 pub known-requires : goal.known-requires

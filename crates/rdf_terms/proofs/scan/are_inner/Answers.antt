@@ -5,7 +5,7 @@ use Rattle.std.proofs.lemmas.Iterator.{YieldsList-from_chars}
 use Rattle.std.proofs.lemmas.Iterator.Search.{all_from_yields_List}
 use Rattle.owl_characters.specs.Iri.{AllAre}
 use Rattle.owl_characters.specs.Names.{is_inner}
-use Rattle.owl_characters.specs.AllAreLaws.{all_are}
+use Rattle.owl_characters.proofs.AllAreLaws.{all_are}
 use Rattle.rdf_terms.proofs.scan.are_inner.Goals as goal
 
 pub returns : goal.returns

@@ -4,7 +4,7 @@ use borrow.Author.Tests.{tests}
 use Rattle.std.proofs.lemmas.Iterator.{YieldsList-from_chars}
 use Rattle.std.proofs.lemmas.Iterator.Search.{all_from_yields_List}
 use Rattle.owl_characters.specs.Iri.{AllAre, is_iri_character}
-use Rattle.owl_characters.specs.AllAreLaws.{all_are}
+use Rattle.owl_characters.proofs.AllAreLaws.{all_are}
 use Rattle.rdf_terms.proofs.scan.are_iri_characters.Goals as goal
 
 pub returns : goal.returns

@@ -1,4 +1,4 @@
-use Rattle.tree_stores.specs.ArenaLaws.{held_are_small}
+use Rattle.tree_stores.proofs.ArenaLaws.{held_are_small}
 use Rattle.tree_stores.proofs.arenas.fits.Goals as goal
 
 pub returns : goal.returns

@@ -1,5 +1,5 @@
 use Rattle.std.proofs.Common.{true, false, refl, sym}
-use Rattle.owl_characters.specs.AsciiLaws.{ascii_chars}
+use Rattle.owl_characters.proofs.AsciiLaws.{ascii_chars}
 use Rattle.ttl_grammar.proofs.Words.{name_told}
 use Rattle.ttl_grammar.proofs.class.name_class.Goals as goal
 

@@ -1,5 +1,5 @@
 use Rattle.std.proofs.Common.{true, false, codes, refl, sym}
-use Rattle.owl_characters.specs.AsciiLaws.{ascii_chars}
+use Rattle.owl_characters.proofs.AsciiLaws.{ascii_chars}
 use Rattle.ttl_grammar.proofs.Words.{tag_told, word_told}
 use Rattle.ttl_grammar.proofs.class.tag_class.Goals as goal
 

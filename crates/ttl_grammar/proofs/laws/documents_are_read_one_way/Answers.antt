@@ -1,4 +1,4 @@
-use Rattle.ttl_grammar.specs.DocumentLaws.{read_one_way}
+use Rattle.ttl_grammar.proofs.DocumentLaws.{read_one_way}
 use Rattle.ttl_grammar.proofs.laws.documents_are_read_one_way.Goals as goal
 
 pub returns : goal.returns

@@ -1,4 +1,4 @@
-use Rattle.ttl_grammar.specs.DocumentLaws.{one_first_defect}
+use Rattle.ttl_grammar.proofs.DocumentLaws.{one_first_defect}
 use Rattle.ttl_grammar.proofs.laws.one_first_defect.Goals as goal
 
 pub returns : goal.returns

@@ -1,4 +1,4 @@
-use Rattle.ttl_grammar.specs.PageTable.{stands_for_page}
+use Rattle.ttl_grammar.proofs.PageTable.{stands_for_page}
 use Rattle.ttl_grammar.proofs.laws.table_is_of_page.Goals as goal
 
 pub returns : goal.returns

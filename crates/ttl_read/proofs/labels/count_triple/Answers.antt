@@ -1,5 +1,5 @@
 use Rattle.std.proofs.lemmas.Result.{on_ok_weaker}
-use Rattle.blank_labels.specs.FreshLabelLaws.{counts_both}
+use Rattle.blank_labels.proofs.FreshLabelLaws.{counts_both}
 use Rattle.ttl_read.proofs.labels.count_triple.Goals as goal
 
 pub returns : goal.returns

@@ -3,7 +3,7 @@ use Rattle.std.proofs.lemmas.Grind.{flat_map-append}
 use Rattle.std.proofs.lemmas.List.{append-nil, take_all, take_more}
 use Rattle.blank_labels.specs.FreshLabels.{fresh_name}
 use Rattle.blank_labels.specs.LabelNumbers.{Counts, names_beside, no_numbers}
-use Rattle.blank_labels.specs.FreshLabelLaws.{counts_both, names_are_fresh}
+use Rattle.blank_labels.proofs.FreshLabelLaws.{counts_both, names_are_fresh}
 use Rattle.ttl_grammar.specs.Labels.{labels_of, triple_labels}
 use Rattle.ttl_grammar.specs.declared.node.NodeTriple.{NodeTriple}
 use Rattle.ttl_read.proofs.labels.fresh_labels.Goals as goal

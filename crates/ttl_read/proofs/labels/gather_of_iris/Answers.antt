@@ -1,6 +1,6 @@
 use Rattle.std.proofs.Common.{rules, ◌≡◌, ◌++◌, ◌∷◌, [], map}
 use Rattle.blank_labels.specs.LabelNumbers.{names_beside}
-use Rattle.owl_list.specs.AscendingLaws.{same_from_equal}
+use Rattle.owl_list.proofs.AscendingLaws.{same_from_equal}
 use Rattle.ttl_grammar.specs.Labels.{named_triple}
 use Rattle.ttl_read.proofs.Gathering.{gathers_one, none_left, puts_aside}
 use Rattle.ttl_read.proofs.labels.gather_of_iris.Goals as goal

@@ -3,7 +3,7 @@ use Rattle.blank_labels.specs.FreshLabels.{fresh_name}
 use Rattle.blank_labels.specs.LabelNumbers.{names_beside}
 use Rattle.owl_list.specs.Ascending.{HoldSame}
 use Rattle.rdf_graph.specs.Graphs.{set_of}
-use Rattle.rdf_graph.specs.GraphLaws.{same_set}
+use Rattle.rdf_graph.proofs.GraphLaws.{same_set}
 use Rattle.ttl_grammar.specs.Labels.{graph_of, labels_of, named_triple}
 use Rattle.ttl_read.proofs.labels.gathered.Goals as goal
 

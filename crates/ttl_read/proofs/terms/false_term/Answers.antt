@@ -1,6 +1,6 @@
 use Rattle.std.proofs.Common.{ℕ, List, codes, refl, subst}
 use Rattle.std.specs.Str.{chars}
-use Rattle.owl_characters.specs.AsciiLaws.{ascii_chars}
+use Rattle.owl_characters.proofs.AsciiLaws.{ascii_chars}
 use Rattle.rdf_terms.specs.Vocabulary.{xsd}
 use Rattle.ttl_grammar.specs.States.{literal_term}
 use Rattle.ttl_grammar.specs.TypedLiterals.{typed_literal}

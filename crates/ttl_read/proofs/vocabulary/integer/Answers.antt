@@ -1,6 +1,6 @@
 use Rattle.std.proofs.Common.{◌≡◌, IfOk, refl, subst}
-use Rattle.owl_characters.specs.AsciiLaws.{ascii_chars}
-use Rattle.rdf_terms.specs.WordLaws.{http_iri}
+use Rattle.owl_characters.proofs.AsciiLaws.{ascii_chars}
+use Rattle.rdf_terms.proofs.WordLaws.{http_iri}
 use Rattle.ttl_read.proofs.vocabulary.integer.Goals as goal
 
 pub known-requires : goal.known-requires

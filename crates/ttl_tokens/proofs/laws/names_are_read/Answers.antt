@@ -1,4 +1,4 @@
-use Rattle.ttl_tokens.specs.NameLaws.{local_is_read, prefix_is_read}
+use Rattle.ttl_tokens.proofs.NameLaws.{local_is_read, prefix_is_read}
 use Rattle.ttl_tokens.proofs.laws.names_are_read.Goals as goal
 
 pub returns-clause-prefix : goal.returns-clause-prefix

@@ -1,4 +1,4 @@
-use Rattle.ttl_tokens.specs.StringLaws.{long_quote_is_undone, long_single_quote_is_undone, quote_is_undone, single_quote_is_undone}
+use Rattle.ttl_tokens.proofs.StringLaws.{long_quote_is_undone, long_single_quote_is_undone, quote_is_undone, single_quote_is_undone}
 use Rattle.ttl_tokens.proofs.laws.strings_are_undone.Goals as goal
 
 pub returns-clause-quote : goal.returns-clause-quote

@@ -2,7 +2,7 @@ use Rattle.std.proofs.Common.{◌≡◌, ◌<◌, ◌++◌, Err, List, ℕ, leng
 use Rattle.std.specs.Str.{chars}
 use Rattle.owl_characters.specs.Iri.{IsIri}
 use Rattle.owl_atom.specs.declared.prefixes.Prefix.{Prefix}
-use Rattle.owl_writing.specs.DraftLaws.{all_more, line_more, passed_on, stands_at, too_long_at}
+use Rattle.owl_writing.proofs.DraftLaws.{all_more, line_more, passed_on, stands_at, too_long_at}
 use Rattle.owl_writing.specs.Limits.{IsTooLong}
 use Rattle.owl_writing.specs.Terms.{full_iri}
 use Rattle.owl_writing.specs.declared.fault.WriteFault.TheVariants.{TooLong}

@@ -1,5 +1,5 @@
 use Rattle.std.proofs.Common.{◌<◌, Err, length, arith, ap}
-use Rattle.owl_writing.specs.DraftLaws.{all_more, line_more, passed_on, stands_at, too_long_at}
+use Rattle.owl_writing.proofs.DraftLaws.{all_more, line_more, passed_on, stands_at, too_long_at}
 use Rattle.owl_writing.specs.declared.fault.WriteFault.TheVariants.{TooLong}
 use Rattle.ttl_write.specs.Formed.{IsFormedTriple}
 use Rattle.ttl_write.specs.Text.{triple_line}

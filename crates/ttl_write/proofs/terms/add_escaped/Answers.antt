@@ -3,8 +3,8 @@ use Rattle.std.specs.Str.{chars}
 use Rattle.std.specs.declared.str.Chars.{Chars}
 use Rattle.ttl_write.specs.Text.{character_text}
 use Rattle.owl_writing.specs.declared.fault.WriteFault.TheVariants.{TooLong}
-use Rattle.owl_writing.specs.CharacterLaws.{left_at_first, left_after, left_at_last, left_too_long}
-use Rattle.owl_writing.specs.DraftLaws.{passed_on}
+use Rattle.owl_writing.proofs.CharacterLaws.{left_at_first, left_after, left_at_last, left_too_long}
+use Rattle.owl_writing.proofs.DraftLaws.{passed_on}
 use Rattle.ttl_write.proofs.terms.add_escaped.Goals as goal
 
 pub loop-c-init : goal.loop-c-init

@@ -1,6 +1,6 @@
 use Rattle.std.specs.Str.{chars}
 use Rattle.ttl_write.specs.Text.{character_text}
-use Rattle.owl_writing.specs.CharacterLaws.{IsLeft}
+use Rattle.owl_writing.proofs.CharacterLaws.{IsLeft}
 use Rattle.ttl_write.proofs.terms.add_escaped.Given as goal
 
 abbrev pub invariant-loop-c : goal.invariant-loop-c

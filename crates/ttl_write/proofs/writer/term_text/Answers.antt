@@ -1,6 +1,6 @@
 use Rattle.std.proofs.Common.{Err, List, ℕ, ◌++◌, ap, subst}
 use Rattle.owl_atom.specs.declared.prefixes.Prefix.{Prefix}
-use Rattle.owl_writing.specs.DraftLaws.{passed_on, too_long_in_bytes}
+use Rattle.owl_writing.proofs.DraftLaws.{passed_on, too_long_in_bytes}
 use Rattle.owl_writing.specs.Limits.{IsTooLong}
 use Rattle.owl_writing.specs.declared.fault.WriteFault.TheVariants.{TooLong}
 use Rattle.ttl_write.specs.Text.{full_term, term_text}

@@ -2,7 +2,7 @@ use Rattle.std.proofs.Common.{◌≡◌, ◌≤◌, ◌∙◌, Err, List, ℕ, �
 use Rattle.std.specs.Str.{all_scalars, encode_utf8_all}
 use Rattle.owl_characters.specs.Limit.{most_bytes}
 use Rattle.owl_atom.specs.declared.prefixes.Prefix.{Prefix}
-use Rattle.owl_writing.specs.DraftLaws.{passed_on, too_long_in_bytes}
+use Rattle.owl_writing.proofs.DraftLaws.{passed_on, too_long_in_bytes}
 use Rattle.owl_writing.specs.Limits.{IsTooLong}
 use Rattle.owl_writing.specs.Tables.{HaveIris, written_prefixes}
 use Rattle.ttl_grammar.specs.Documents.{ReadsTurtle}

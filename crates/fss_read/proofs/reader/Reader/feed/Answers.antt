@@ -1,6 +1,6 @@
 use Rattle.std.proofs.Common.{subst, sym}
 use Rattle.std.proofs.lemmas.Result.{IfErr-weaker}
-use Rattle.owl_reader.specs.FedLaws.{fed}
+use Rattle.owl_reader.proofs.FedLaws.{fed}
 use Rattle.owl_reader.specs.Readings.{Reading}
 use Rattle.fss_read.specs.Reading.{HasRead}
 use Rattle.fss_read.proofs.reader.Reader.feed.Goals as goal

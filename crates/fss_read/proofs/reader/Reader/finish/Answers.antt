@@ -1,6 +1,6 @@
 use Rattle.std.proofs.Common.{subst, sym}
 use Rattle.owl_reader.specs.Readings.{Reading}
-use Rattle.owl_characters.specs.ResultLaws.{passed}
+use Rattle.owl_characters.proofs.ResultLaws.{passed}
 use Rattle.fss_read.specs.Reading.{HasRead}
 use Rattle.fss_read.proofs.Finished.{reads}
 use Rattle.fss_read.proofs.reader.Reader.finish.Goals as goal

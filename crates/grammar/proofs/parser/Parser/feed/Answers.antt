@@ -1,5 +1,5 @@
 -- A token was taken, and something goes on from what is expected behind it.
-use Rattle.grammar.specs.ProductiveLaws.{productive}
+use Rattle.grammar.proofs.ProductiveLaws.{productive}
 use Rattle.grammar.proofs.Parsers.{feeds}
 use Rattle.grammar.proofs.parser.Parser.feed.Goals as goal
 

@@ -1,6 +1,6 @@
 -- A rule of the grammar alone is followed by the end.
 use Rattle.std.proofs.Common.{List, [], ◌∷◌, ◌++◌, ap, ◌∙◌}
-use Rattle.grammar.specs.PredictiveLaws.{predictive}
+use Rattle.grammar.proofs.PredictiveLaws.{predictive}
 use Rattle.grammar.specs.declared.symbol.Symbol.{Symbol}
 use Rattle.grammar.specs.declared.symbol.Symbol.TheVariants.{Rule}
 use Rattle.grammar.proofs.Parsers.{starts_followed}

@@ -1,4 +1,4 @@
-use Rattle.owl_tree.specs.ShapeTestLaws.{not_other, only_where}
+use Rattle.owl_tree.proofs.ShapeTestLaws.{not_other, only_where}
 use Rattle.owl_arena.proofs.arena.Arena.fits_inverses.Goals as goal
 
 pub returns-else-ne : goal.returns-else-ne

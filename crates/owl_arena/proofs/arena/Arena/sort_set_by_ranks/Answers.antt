@@ -1,6 +1,6 @@
 use Rattle.std.proofs.Common.{◌<◌, ◌∙◌, length}
-use Rattle.owl_list.specs.AscendingLaws.{all_same, ascending_same, same_map, same_sym, same_trans}
-use Rattle.owl_list.specs.LentLaws.{moved_holds}
+use Rattle.owl_list.proofs.AscendingLaws.{all_same, ascending_same, same_map, same_sym, same_trans}
+use Rattle.owl_list.proofs.LentLaws.{moved_holds}
 use Rattle.owl_tree.specs.Order.{tree_cmp}
 use Rattle.owl_tree.specs.OrderLaws.{only_equal_trees_tie, trees_total}
 use Rattle.owl_arena.specs.Held.{tree_at, trees_at}

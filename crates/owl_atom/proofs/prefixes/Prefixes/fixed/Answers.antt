@@ -2,7 +2,7 @@ use Rattle.std.proofs.Common.{refl, subst, sym, ◌∙◌}
 use Rattle.std.specs.Prelude.{codes}
 use Rattle.owl_atom.specs.Prefixes.{AreAscending, IsTable}
 use Rattle.owl_atom.proofs.FixedPrefixes.{fixed_table, four}
-use Rattle.rdf_terms.specs.WordLaws.{http_iri}
+use Rattle.rdf_terms.proofs.WordLaws.{http_iri}
 use Rattle.owl_atom.proofs.prefixes.Prefixes.fixed.Goals as goal
 
 pub fixed-requires : goal.fixed-requires

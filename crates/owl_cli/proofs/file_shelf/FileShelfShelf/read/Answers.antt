@@ -5,7 +5,7 @@ use Rattle.std.specs.Io.KnownBytes.{ReadConsumes}
 use Rattle.owl_port.specs.Outside.{Rose, raised}
 use Rattle.owl_cli.specs.Files.{Word, word_in}
 use Rattle.std.proofs.Math.Seq.{map-set_same}
-use Rattle.owl_port.specs.ByNameLaws.{place_in, absent, written_over, carried, raised_where_absent}
+use Rattle.owl_port.proofs.ByNameLaws.{place_in, absent, written_over, carried, raised_where_absent}
 use Rattle.owl_cli.proofs.ByName.{rose_where_absent}
 use Rattle.owl_cli.proofs.file_shelf.FileShelfShelf.read.Goals as goal
 

@@ -3,7 +3,7 @@ use Rattle.std.proofs.lemmas.List.{nil_from_length}
 use Rattle.std.specs.Vec.Iter.{into_iter_items}
 use Rattle.owl_lexer.specs.declared.placed.Placed.{Placed}
 use Rattle.owl_lexer.specs.Languages.{AreSpelled}
-use Rattle.owl_characters.specs.ResultLaws.{passed}
+use Rattle.owl_characters.proofs.ResultLaws.{passed}
 use Rattle.owl_reader.proofs.Tokens.{PassesFrom, all_passed, among, can_more, passes_none, with_more}
 use Rattle.owl_reader.proofs.progress.Progress.take_all.Goals as goal
 

@@ -1,5 +1,5 @@
 use Rattle.std.proofs.Common.{sym, ◌∙◌, arith}
-use Rattle.owl_tree.specs.PlacesLaws.{fits_by_place, misplaced}
+use Rattle.owl_tree.proofs.PlacesLaws.{fits_by_place, misplaced}
 use Rattle.owl_tree.proofs.tag.Tag.fits.Goals as goal
 
 pub returns-then-not-admits : goal.returns-then-not-admits

@@ -1,5 +1,5 @@
 use Rattle.std.proofs.Common.{◌≡◌, ◌++◌, List, ℕ, OnOk, IsErrOf, subst}
-use Rattle.owl_characters.specs.AsciiLaws.{ascii_chars}
+use Rattle.owl_characters.proofs.AsciiLaws.{ascii_chars}
 use Rattle.owl_writing.specs.Limits.{IsTooLong}
 use Rattle.owl_writing.specs.declared.fault.WriteFault.TheVariants.{TooLong}
 use Rattle.owl_writing.proofs.draft.Draft.add_ascii.Goals as goal

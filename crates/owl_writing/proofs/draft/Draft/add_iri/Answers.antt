@@ -3,7 +3,7 @@ use Rattle.owl_atom.specs.declared.prefixes.Prefix.{Prefix}
 use Rattle.owl_writing.specs.Limits.{IsTooLong}
 use Rattle.owl_writing.specs.Terms.{full_iri, iri_text, shortened_by}
 use Rattle.owl_writing.specs.declared.fault.WriteFault.TheVariants.{TooLong}
-use Rattle.owl_writing.specs.AbbreviationLaws.{none_is_best}
+use Rattle.owl_writing.proofs.AbbreviationLaws.{none_is_best}
 use Rattle.owl_writing.proofs.draft.Draft.add_iri.Goals as goal
 
 is_full : (c : goal.After-add_full_iri) → full_iri c.args.iri.now ≡ iri_text c.args.prefixes.now c.args.iri.now

@@ -1,6 +1,6 @@
 use Rattle.std.proofs.Common.{rules, ◌≡◌, ◌++◌, ◌∷◌, [], subst, sym}
 use Rattle.std.proofs.lemmas.List.{nil_from_length}
-use Rattle.owl_characters.specs.ResultLaws.{passed}
+use Rattle.owl_characters.proofs.ResultLaws.{passed}
 use Rattle.rdf_annotations.proofs.Saying.{IsHolding, all_held, next_can, next_fault, next_held, none_held}
 use Rattle.rdf_annotations.proofs.annotated.Annotated.add_said.Goals as goal
 

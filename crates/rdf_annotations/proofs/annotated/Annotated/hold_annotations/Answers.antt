@@ -2,7 +2,7 @@ use Rattle.std.specs.Prelude.{◌≡◌, ◌<◌, ℕ, length, option_map}
 use Rattle.std.proofs.Common.{ap, arith, subst, sym, ◌∙◌}
 use Rattle.std.proofs.lemmas.Option.{get_or_from_slice_get, same_Some, slice_get_within}
 use Rattle.rdf_graph.specs.declared.triple.Triple.{Triple}
-use Rattle.rdf_annotations.specs.AnnotationLaws.{some_sets_kept}
+use Rattle.rdf_annotations.proofs.AnnotationLaws.{some_sets_kept}
 use Rattle.rdf_annotations.proofs.Saying.{AnnotatesUpTo, all_annotated, next_annotated, none_annotated, there}
 use Rattle.rdf_annotations.proofs.annotated.Annotated.hold_annotations.Goals as goal
 

@@ -2,7 +2,7 @@ use Rattle.std.specs.Prelude.{List}
 use Rattle.std.proofs.Common.{subst}
 use Rattle.rdf_graph.specs.declared.triple.Triple.{Triple}
 use Rattle.rdf_meaning.specs.Statements.{Annotates}
-use Rattle.rdf_annotations.specs.AnnotationLaws.{annotations_of_node}
+use Rattle.rdf_annotations.proofs.AnnotationLaws.{annotations_of_node}
 use Rattle.rdf_annotations.proofs.Setting.{set_held, set_refused}
 use Rattle.rdf_annotations.proofs.annotated.Annotated.hold_set.Goals as goal
 

@@ -1,5 +1,5 @@
-use Rattle.tree_stores.specs.StoreLaws.{keeps_more}
-use Rattle.rdf_annotations.specs.AnnotationLaws.{some_sets_kept}
+use Rattle.tree_stores.proofs.StoreLaws.{keeps_more}
+use Rattle.rdf_annotations.proofs.AnnotationLaws.{some_sets_kept}
 use Rattle.rdf_annotations.proofs.annotated.Annotated.said.Goals as goal
 
 pub hold_property-requires : goal.hold_property-requires

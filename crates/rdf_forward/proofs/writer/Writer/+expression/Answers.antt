@@ -2,9 +2,9 @@ use Rattle.std.proofs.Common.{rules, ◌≡◌, ◌<◌, [], Some, length, ℕ, 
 use Rattle.std.specs.Prelude.{not}
 use Rattle.std.specs.List.{AllByRecursion}
 use Rattle.std.proofs.lemmas.Result.{on_ok_weaker}
-use Rattle.owl_arena.specs.HeldLaws.{below_later}
+use Rattle.owl_arena.proofs.HeldLaws.{below_later}
 use Rattle.rdf_mapping.specs.Arenas.{kids_at}
-use Rattle.rdf_counts.specs.ArenaLaws.{first_and, none_left, tag_told}
+use Rattle.rdf_counts.proofs.ArenaLaws.{first_and, none_left, tag_told}
 use Rattle.rdf_forward.specs.Walks.{WritesArcs, WritesForm, names}
 use Rattle.rdf_mapping.specs.Drawing.{Placed, arcs_of, placed}
 use Rattle.rdf_mapping.specs.Forms.{blank}

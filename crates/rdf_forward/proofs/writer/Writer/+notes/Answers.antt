@@ -1,9 +1,9 @@
 use Rattle.std.proofs.Common.{rules, ◌≡◌, ℕ, ◌-◌, ◌<◌, ◌≤◌, length, true, false, List, take, drop, arith, subst}
 use Rattle.std.specs.List.{AllByRecursion}
 use Rattle.std.proofs.lemmas.Result.{on_ok_weaker}
-use Rattle.owl_arena.specs.HeldLaws.{below_later}
+use Rattle.owl_arena.proofs.HeldLaws.{below_later}
 use Rattle.rdf_mapping.specs.Notes.{no_notes}
-use Rattle.rdf_counts.specs.ArenaLaws.{above_all, above_first, above_kids, above_rest, first_and, none_left}
+use Rattle.rdf_counts.proofs.ArenaLaws.{above_all, above_first, above_kids, above_rest, first_and, none_left}
 use Rattle.rdf_forward.specs.declared.notes.Holder.TheVariants as holder
 use Rattle.rdf_forward.proofs.Annotations.{NotesOn, note_alone, note_reified, notes_at_first, notes_by_kids, notes_end, notes_next, some_told, written_as}
 use Rattle.rdf_forward.proofs.writer.Writer.+notes.Goals as goal

@@ -1,5 +1,5 @@
 use Rattle.std.proofs.lemmas.Result.{on_ok_weaker}
-use Rattle.rdf_counts.specs.ArenaLaws.{first_and, statement_at}
+use Rattle.rdf_counts.proofs.ArenaLaws.{first_and, statement_at}
 use Rattle.rdf_forward.specs.AxiomWalks.{sets_at}
 use Rattle.rdf_forward.proofs.Placing.{as_said}
 use Rattle.rdf_forward.proofs.writer.Writer.write_axioms.Goals as goal

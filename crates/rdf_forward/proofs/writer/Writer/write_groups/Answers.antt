@@ -1,4 +1,4 @@
-use Rattle.rdf_counts.specs.ArenaLaws.{first_and, none_left}
+use Rattle.rdf_counts.proofs.ArenaLaws.{first_and, none_left}
 use Rattle.rdf_forward.proofs.GroupWriting.{groups_end, groups_next, held_others, ordered_others}
 use Rattle.rdf_forward.proofs.writer.Writer.write_groups.Goals as goal
 

@@ -1,5 +1,5 @@
 use Rattle.std.proofs.Common.{ℕ, List, subst}
-use Rattle.rdf_counts.specs.ArenaLaws.{first_and, none_left}
+use Rattle.rdf_counts.proofs.ArenaLaws.{first_and, none_left}
 use Rattle.rdf_forward.proofs.Headers.{ImportsOn, imports_end, imports_next}
 use Rattle.rdf_forward.proofs.writer.Writer.write_imports.Goals as goal
 

@@ -2,7 +2,7 @@ use Rattle.std.proofs.Common.{rules, ◌≡◌, sym, ◌∙◌}
 use Rattle.std.proofs.lemmas.Result.{on_ok_weaker}
 use Rattle.rdf_meaning.specs.Rows.{axiom_rows}
 use Rattle.rdf_mapping.specs.Drawing.{by_kids, row_for, stated_by}
-use Rattle.rdf_counts.specs.ArenaLaws.{more_kids_by_row}
+use Rattle.rdf_counts.proofs.ArenaLaws.{more_kids_by_row}
 use Rattle.rdf_forward.specs.AxiomWalks.{sets_at}
 use Rattle.rdf_mapping.specs.Arenas.{kids_at, tags_at}
 use Rattle.rdf_forward.proofs.Placing.{as_said, no_kids_by_row, one_kid_by_row}

@@ -1,7 +1,7 @@
 use Rattle.std.proofs.Common.{ℕ, ◌<◌, length, List, subst}
 use Rattle.std.specs.List.{AllByRecursion}
 use Rattle.rdf_mapping.specs.Forms.{link}
-use Rattle.rdf_counts.specs.ArenaLaws.{first_and, none_left}
+use Rattle.rdf_counts.proofs.ArenaLaws.{first_and, none_left}
 use Rattle.rdf_forward.proofs.Axioms.{SetsOn, sets_end, sets_next}
 use Rattle.rdf_forward.proofs.writer.Writer.write_sets.Goals as goal
 

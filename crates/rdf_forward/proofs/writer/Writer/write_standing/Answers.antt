@@ -2,7 +2,7 @@ use Rattle.std.proofs.Common.{ℕ, ◌<◌, length, List, subst}
 use Rattle.std.specs.List.{AllByRecursion}
 use Rattle.rdf_mapping.specs.Drawing.{arcs_of, placed}
 use Rattle.rdf_mapping.specs.Arenas.{kids_at}
-use Rattle.rdf_counts.specs.ArenaLaws.{first_and, none_left}
+use Rattle.rdf_counts.proofs.ArenaLaws.{first_and, none_left}
 use Rattle.rdf_forward.proofs.Axioms.{StandingOn, node_noted, standing_end, standing_next}
 use Rattle.rdf_forward.proofs.writer.Writer.write_standing.Goals as goal
 

@@ -1,5 +1,5 @@
 use Rattle.std.proofs.Common.{ap, ◌∙◌, drop, take, ◌-◌}
-use Rattle.rdf_graph.specs.SubjectLaws.{triples_between}
+use Rattle.rdf_graph.proofs.SubjectLaws.{triples_between}
 use Rattle.rdf_graph.proofs.graph.Graph.about.Goals as goal
 
 pub returns : goal.returns

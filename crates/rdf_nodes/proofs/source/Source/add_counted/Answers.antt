@@ -1,5 +1,5 @@
 use Rattle.std.proofs.Common.{inr, sym}
-use Rattle.tree_stores.specs.KidLaws.{kids_kept}
+use Rattle.tree_stores.proofs.KidLaws.{kids_kept}
 use Rattle.rdf_nodes.specs.Numbers.{IsNodeTree}
 use Rattle.rdf_nodes.proofs.Counting.{counted, lent_at, many_counted, stands_alone}
 use Rattle.rdf_nodes.proofs.source.Source.add_counted.Goals as goal

@@ -1,7 +1,7 @@
 use Rattle.std.proofs.Common.{◌<◌, IfSome, Some, sym, subst}
 use Rattle.rdf_graph.specs.declared.term.Term.TheVariants.{Blank}
 use Rattle.rdf_nodes.specs.Numbers.{AreKnownBelow}
-use Rattle.tree_stores.specs.StoreLaws.{keeps_all}
+use Rattle.tree_stores.proofs.StoreLaws.{keeps_all}
 use Rattle.rdf_nodes.specs.Duplicates.{IsNumberOfDuplicate}
 use Rattle.rdf_nodes.proofs.Duplicating.{number_of_other}
 use Rattle.rdf_nodes.proofs.Passing.{one_more_numbered, passed_with}

@@ -2,7 +2,7 @@ use Rattle.std.proofs.Common.{rules, ◌≡◌, ap, sym, ◌∙◌}
 use Rattle.rdf_meaning.specs.declared.role.Role.TheVariants as role
 use Rattle.rdf_meaning.specs.Nodes.{role_of}
 use Rattle.rdf_rows.specs.Chosen.{the_cell}
-use Rattle.rdf_asked.specs.ListedLaws.{no_cell_told}
+use Rattle.rdf_asked.proofs.ListedLaws.{no_cell_told}
 use Rattle.rdf_nodes.proofs.Steps.{cell_with, no_cell_with}
 use Rattle.rdf_nodes.proofs.source.Source.cell.Goals as goal
 

@@ -1,9 +1,9 @@
 use Rattle.std.proofs.Common.{rules, ◌≡◌, ◌+◌, ◌∷◌, ◌++◌, [], arith, refl, subst, sym, IfSome, IsNone}
 use Rattle.std.proofs.lemmas.Bool.{false_from_ne_true}
-use Rattle.rdf_asked.specs.ListedLaws.{walk_ends, walk_fails, walk_goes_on, walk_is_long}
+use Rattle.rdf_asked.proofs.ListedLaws.{walk_ends, walk_fails, walk_goes_on, walk_is_long}
 use Rattle.rdf_faults.specs.WantLaws.{met}
 use Rattle.rdf_meaning.specs.declared.row.Want.TheVariants.{Many}
-use Rattle.rdf_nodes.specs.OfSortLaws.{found_is_of_sort}
+use Rattle.rdf_nodes.proofs.OfSortLaws.{found_is_of_sort}
 use Rattle.rdf_nodes.specs.Operands.{IsOperand}
 use Rattle.rdf_nodes.proofs.Denoting.{list_goes_on, listed, no_list}
 use Rattle.rdf_nodes.proofs.Lengths.{walk_too_long}

@@ -1,5 +1,5 @@
 use Rattle.rdf_faults.specs.Asked.{is_of_sort}
-use Rattle.rdf_asked.specs.ListedLaws.{IsWalked}
+use Rattle.rdf_asked.proofs.ListedLaws.{IsWalked}
 use Rattle.rdf_nodes.proofs.Denoting.{IsListed}
 use Rattle.rdf_nodes.proofs.Steps.{AreElementsBefore}
 use Rattle.rdf_nodes.proofs.source.Source.elements.Given as goal

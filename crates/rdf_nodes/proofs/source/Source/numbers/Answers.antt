@@ -1,6 +1,6 @@
 use Rattle.std.proofs.Common.{subst, sym, ◌∙◌}
 use Rattle.std.proofs.lemmas.List.{nil_from_length}
-use Rattle.tree_stores.specs.KidLaws.{none_have_kids}
+use Rattle.tree_stores.proofs.KidLaws.{none_have_kids}
 use Rattle.rdf_nodes.specs.Numbers.{IsNodeTree}
 use Rattle.rdf_nodes.proofs.Knowing.{all_held}
 use Rattle.rdf_nodes.proofs.Passing.{ArePassed, all_passed, next_of, none_passed, one_passed, passed_ahead}

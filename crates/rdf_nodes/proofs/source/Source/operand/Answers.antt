@@ -1,5 +1,5 @@
 use Rattle.std.proofs.Common.{refl}
-use Rattle.rdf_nodes.specs.OfSortLaws.{nothing_of_sort}
+use Rattle.rdf_nodes.proofs.OfSortLaws.{nothing_of_sort}
 use Rattle.rdf_nodes.specs.Operands.{by_itself, by_node}
 use Rattle.rdf_nodes.proofs.Steps.{found_more, none_more}
 use Rattle.rdf_nodes.proofs.Denoting.{nothing_denoted, small_told}

@@ -1,6 +1,6 @@
 use Rattle.std.proofs.Common.{ap, sym, ◌∙◌}
 use Rattle.rdf_rows.specs.Chosen.{objects_with, the_only}
-use Rattle.rdf_rows.specs.NodeTripleLaws.{only_is}
+use Rattle.rdf_rows.proofs.NodeTripleLaws.{only_is}
 use Rattle.rdf_nodes.proofs.Denoting.{held_at_word, none_held, not_held}
 use Rattle.rdf_nodes.proofs.Steps.{at_word, found_more, stand_at}
 use Rattle.rdf_nodes.proofs.source.Source.standing.Goals as goal

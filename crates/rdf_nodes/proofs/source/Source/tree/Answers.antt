@@ -1,6 +1,6 @@
 use Rattle.std.specs.List.{AllByRecursion}
 use Rattle.std.proofs.Common.{subst, sym}
-use Rattle.tree_stores.specs.StoreLaws.{are_standing}
+use Rattle.tree_stores.proofs.StoreLaws.{are_standing}
 use Rattle.rdf_nodes.specs.Numbers.{HasItsNumber}
 use Rattle.rdf_nodes.specs.Operands.{AllMean}
 use Rattle.rdf_nodes.proofs.Holding.{tree_denoted, tree_refused}

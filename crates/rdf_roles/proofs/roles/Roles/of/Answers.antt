@@ -1,5 +1,5 @@
 use Rattle.std.proofs.Common.{◌∙◌}
-use Rattle.rdf_roles.specs.NodeLaws.{table_is}
+use Rattle.rdf_roles.proofs.NodeLaws.{table_is}
 use Rattle.rdf_roles.proofs.roles.Roles.of.Goals as goal
 
 pub returns-clause-ok : goal.returns-clause-ok

@@ -2,7 +2,7 @@ use Rattle.std.proofs.Common.{ap, ◌∙◌}
 use Rattle.rdf_meaning.specs.declared.role.Role.TheVariants as role
 use Rattle.std.specs.Option.{unwrap_or}
 use Rattle.rdf_roles.specs.Tables.{RoleTable}
-use Rattle.rdf_roles.specs.NodeLaws.{table_tells}
+use Rattle.rdf_roles.proofs.NodeLaws.{table_tells}
 use Rattle.rdf_roles.proofs.roles.Roles.role.Goals as goal
 
 pub returns : goal.returns

@@ -2,7 +2,7 @@ use Rattle.std.proofs.Common.{◌≡◌, Some, None}
 use Rattle.std.specs.Option.{option_map}
 use Rattle.std.specs.Str.{chars}
 use Rattle.rdf_terms.specs.Literals.{DenotesLiteral, DenotesTyped, LiteralParts}
-use Rattle.rdf_terms.specs.FormLaws.{one_denoted, one_typed}
+use Rattle.rdf_terms.proofs.FormLaws.{one_denoted, one_typed}
 use Rattle.rdf_terms.proofs.LiteralForms.{alike, given, one_of_two, taken, without_datatype, without_tag}
 use Rattle.rdf_terms.proofs.literal.Literal.of.Goals as goal
 

@@ -1,6 +1,6 @@
 use Rattle.std.proofs.Common.{subst, sym}
 use Rattle.owl_reader.specs.Readings.{Reading}
-use Rattle.owl_characters.specs.ResultLaws.{passed}
+use Rattle.owl_characters.proofs.ResultLaws.{passed}
 use Rattle.ttl_read.specs.Reading.{HasRead}
 use Rattle.ttl_read.proofs.Finished.{plain_prefixes, reads}
 use Rattle.ttl_read.proofs.reader.Reader.finish.Goals as goal
