@@ -2,9 +2,9 @@
 use Rattle.std.proofs.Common.{◌≡◌, ◌≢◌, ℕ, IsTrue, Some, List, [], slice_get, refl, sym, ap, ◌∙◌, subst}
 use Rattle.std.specs.List.{AllByRecursion}
 use Rattle.owl_command.specs.Commands.{IsAmong, Request, names_of}
-use Rattle.owl_documents.specs.Documents.{AreRead, Contents, IsFirstRefused, Parsed}
+use Rattle.owl_documents.specs.Documents.{AreRead, Contents, IsFirstRefused, Parsed, IsProperRefusal}
 use Rattle.owl_documents.specs.OneWay.{NeverBoth, ReadOneWay, RefusedOneWay}
-use Rattle.owl_documents.specs.Reading.{IsProperRefusal, IsStop, of_failure, of_no_memory, of_refusal}
+use Rattle.owl_documents.specs.Reading.{IsStop, of_failure, of_no_memory, of_refusal}
 use Rattle.owl_documents.specs.Shelves.{IsFaulty, IsFirstFaulty, Rises, Shelves}
 use Rattle.owl_documents.specs.declared.trouble.Refusal.{Refusal}
 use Rattle.owl_documents.specs.declared.trouble.Stop.{Stop}

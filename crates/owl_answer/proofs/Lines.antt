@@ -6,7 +6,7 @@ use Rattle.owl_kind.specs.Kinds.{Entity}
 use Rattle.owl_command.specs.declared.command.Target.{Target}
 use Rattle.owl_command.specs.declared.command.Target.TheVariants.{Fss, Ttl}
 use Rattle.owl_command.specs.declared.status.Status.TheVariants.{Done}
-use Rattle.owl_documents.specs.Documents.{Parsed, Said, a_graph, an_ontology}
+use Rattle.owl_documents.specs.Documents.{Parsed, Said, a_graph, an_ontology, IsProperRefusal}
 use Rattle.owl_documents.specs.declared.trouble.Refusal.{Refusal}
 use Rattle.owl_documents.specs.declared.trouble.Refusal.TheVariants.{DocumentBytes, AllBytes, Unreadable, Headless}
 use Rattle.owl_answer.specs.Outcome.{IsComparison, IsLimited, IsSuccess, Outcome, agree, agreement, differ, difference, done_line, fits, missing_import, passes, refusal_outcome, shown, too_long_output, translation, unsaid_outcome}
@@ -14,7 +14,6 @@ use Rattle.owl_answer.specs.Refusals.{two_kinds, undeclared, unsayable}
 use Rattle.owl_answer.specs.Runs.{AnswersWith, AsksTranslation, AsksTurtle, Concludes, IsIllTyped, IsTranslation, IsTurtleRefusal, LineFor, SuccessLine, all_say, misses_import, of_bytes, of_graph, of_import, of_output, of_refusal, of_success, of_triples, of_turtle, of_two_kinds, of_typing, of_undeclared, of_unsayable, of_weight, says_nothing}
 use Rattle.owl_answer.specs.TurtleOutcome.{IsFormTold, IsGraphTold, IsTold as IsOfTurtle, IsTypingRefusal, canonical_said, clashes, few, graph_translation, heavy, ill_typed, light, many, not_typed, ready, too_heavy_output, too_many_triples, unsaid, untyped, well_typed}
 use Rattle.owl_answer.specs.Answers.{IsProper}
-use Rattle.owl_documents.specs.Reading.{IsProperRefusal}
 use Rattle.owl_tree.specs.Ontologies.{Ontology}
 use Rattle.rdf_reverse.specs.declared.fault.ReverseFault.{ReverseFault}
 use Rattle.rdf_reverse.specs.declared.fault.ReverseFault.TheVariants as reverse

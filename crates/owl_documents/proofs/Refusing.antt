@@ -13,8 +13,8 @@ use Rattle.rdf_scans.specs.Outlines.{IsOutlineFault}
 use Rattle.rdf_scans.specs.declared.fault.OutlineFault.{OutlineFault}
 use Rattle.rdf_scans.specs.declared.fault.OutlineFault.TheVariants as outline
 use Rattle.ttl_grammar.specs.Documents.{ReadsTurtle}
-use Rattle.owl_documents.specs.Documents.{AreFew, Contents, IsDefect, IsRefused, defective, is_turtle, of_header}
-use Rattle.owl_documents.specs.Reading.{IsDefectUnder, IsLimit, IsLonger, IsProper, IsProperRefusal, IsTroubleOf, IsTroubleOfShelf, failed, no_memory, too_long, trouble_of, trouble_of_header}
+use Rattle.owl_documents.specs.Documents.{AreFew, Contents, IsDefect, IsRefused, defective, is_turtle, of_header, IsProperRefusal}
+use Rattle.owl_documents.specs.Reading.{IsDefectUnder, IsLimit, IsLonger, IsProper, IsTroubleOf, IsTroubleOfShelf, failed, no_memory, too_long, trouble_of, trouble_of_header}
 use Rattle.owl_documents.specs.declared.trouble.Refusal.{Refusal}
 use Rattle.owl_documents.specs.declared.trouble.Refusal.TheVariants.{DocumentBytes, AllBytes, Headless, Unreadable}
 use Rattle.owl_documents.specs.declared.trouble.Trouble.{Trouble}

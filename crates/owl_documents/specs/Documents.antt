@@ -27,6 +27,7 @@ use Rattle.owl_documents.specs.declared.document.Document.TheVariants as documen
 use Rattle.owl_documents.specs.declared.document.GraphDocument.{GraphDocument}
 use Rattle.owl_documents.specs.declared.trouble.Refusal.{Refusal}
 use Rattle.owl_documents.specs.declared.trouble.Refusal.TheVariants.{DocumentBytes, AllBytes, Unreadable, Headless}
+use Rattle.owl_reader.specs.declared.fault.ReadFault.TheVariants as read
 
 -- the bytes under each name, where there are any
 abbrev pub Contents : Type 0
@@ -148,3 +149,10 @@ graph_read_of d = record { prefixes = d.prefixes; triples = d.graph; head = head
 abbrev pub parsed_of : Document → Parsed
 parsed_of (document.Ontology d) = an_ontology (said_of d)
 parsed_of (document.Graph d) = a_graph (graph_read_of d)
+
+-- a refusal that is no want of memory
+abbrev pub IsProperRefusal : Refusal → Type 0
+IsProperRefusal DocumentBytes = Unit {0}
+IsProperRefusal AllBytes = Unit {0}
+IsProperRefusal (Unreadable fault) = fault ≢ read.Memory
+IsProperRefusal (Headless fault) = fault ≢ outline.Memory

@@ -1,5 +1,5 @@
 -- What comes of reading documents from a shelf.
-use Rattle.std.specs.Prelude.{◌≡◌, ◌≢◌, ◌<◌, ℕ, Bool, IsTrue, List, Option, Some, length, slice_get}
+use Rattle.std.specs.Prelude.{◌≡◌, ◌<◌, ℕ, Bool, IsTrue, List, Option, Some, length, slice_get}
 use Rattle.owl_port.specs.Outside.{SameElsewhere}
 use Rattle.owl_reader.specs.declared.fault.ReadFault.{ReadFault}
 use Rattle.owl_reader.specs.declared.fault.ReadFault.TheVariants as read
@@ -8,7 +8,7 @@ use Rattle.rdf_scans.specs.declared.fault.OutlineFault.TheVariants as outline
 use Rattle.owl_command.specs.Commands.{Request, names_of}
 use Rattle.owl_port.specs.declared.whole.ReadFault as port
 use Rattle.owl_port.specs.declared.whole.ReadFault.TheVariants as pf
-use Rattle.owl_documents.specs.Documents.{AreFew, Contents, IsDefect, IsFirstRefused, IsRead, IsRefused, IsRefusedAt, Parsed, Reads, is_turtle, parsed_of}
+use Rattle.owl_documents.specs.Documents.{AreFew, Contents, IsDefect, IsFirstRefused, IsRead, IsRefused, IsRefusedAt, Parsed, Reads, is_turtle, parsed_of, IsProperRefusal}
 use Rattle.owl_documents.specs.Shelves.{IsFaulty, IsFirstFaulty, IsFrontTaken, Rises, Shelves}
 use Rattle.owl_documents.specs.declared.reading.Read.{Read}
 use Rattle.owl_documents.specs.declared.trouble.Refusal.{Refusal}
@@ -65,13 +65,6 @@ pub data IsTroubleOfShelf (before : ℕ) (fault : port.ReadFault) (trouble : Tro
   failed : fault ≡ pf.Failed → trouble ≡ ReadFailed → IsTroubleOfShelf before fault trouble
   too_long : (refusal : Refusal) → fault ≡ pf.TooLong → IsLimit refusal → ((name bytes : List ℕ) → (AreFew before (length bytes) → ⊥) → IsRefused before name bytes refusal) → trouble ≡ Refused refusal → IsTroubleOfShelf before fault trouble
   no_memory : trouble ≡ Memory → IsTroubleOfShelf before fault trouble
-
--- a refusal that is no want of memory
-abbrev pub IsProperRefusal : Refusal → Type 0
-IsProperRefusal DocumentBytes = Unit {0}
-IsProperRefusal AllBytes = Unit {0}
-IsProperRefusal (Unreadable fault) = fault ≢ read.Memory
-IsProperRefusal (Headless fault) = fault ≢ outline.Memory
 
 -- as each refusal is that is told
 abbrev pub IsProper : Trouble → Type 0

@@ -4,7 +4,7 @@ use Rattle.owl_reader.specs.declared.fault.ReadFault.TheVariants as read
 use Rattle.owl_documents.specs.declared.trouble.Refusal.{Refusal}
 use Rattle.owl_documents.specs.declared.trouble.Refusal.TheVariants.{DocumentBytes, AllBytes, Unreadable, Headless}
 use Rattle.owl_command.specs.Commands.{Request, translates, shows, compares}
-use Rattle.owl_documents.specs.Reading.{IsProperRefusal}
+use Rattle.owl_documents.specs.Documents.{IsProperRefusal}
 use Rattle.rdf_reverse.specs.declared.fault.ReverseFault.{ReverseFault}
 use Rattle.rdf_reverse.specs.declared.fault.ReverseFault.TheVariants as reverse
 use Rattle.rdf_scans.specs.declared.fault.OutlineFault.TheVariants as outline

@@ -10,12 +10,12 @@ use Rattle.rdf_graph.specs.declared.term.Term.TheVariants.{Blank}
 use Rattle.rdf_graph.specs.declared.triple.Triple.{Triple}
 use Rattle.rdf_meaning.specs.Nodes.{of_subject}
 use Rattle.rdf_meaning.proofs.NodeLaws.{in_subject}
-use Rattle.rdf_meaning.specs.Statements.{headers, is_annotation_triple}
+use Rattle.rdf_meaning.specs.Statements.{headers, is_annotation_triple, is_noted}
 use Rattle.rdf_roles.proofs.NodeLaws.{keys_are}
 use Rattle.rdf_roles.specs.OrderLaws.{leads_to_front}
 use Rattle.rdf_roles.specs.Refusals.{AreNodesFormed}
 use Rattle.rdf_roles.specs.Tables.{IsTableOf, RoleTable}
-use Rattle.rdf_annotations.specs.Annotations.{AreSetsSoFar, HaveSetsBelow, is_noted}
+use Rattle.rdf_annotations.specs.Annotations.{AreSetsSoFar, HaveSetsBelow}
 use Rattle.rdf_annotations.proofs.AnnotationLaws.{annotations_of_node, noter_is}
 
 pub split_at : (xs : List ℕ) (i : ℕ) → i < length xs → xs ≡ take i xs ++ get_or xs i 0 ∷ drop (i + 1) xs

@@ -18,7 +18,7 @@ use Rattle.rdf_meaning.specs.Kinds.{has_kind}
 use Rattle.owl_list.proofs.FilterLaws.{from_filter, in_filter}
 use Rattle.rdf_meaning.specs.Nodes.{carries, carries_some, first_role, is_mixed, is_same, is_structural, marked_roles, marks_role, nodes_of, of_subject, role_of, roles_of, subjects_of}
 use Rattle.rdf_meaning.proofs.NodeLaws.{from_subject, marked_subject, nodes_are, same_term}
-use Rattle.rdf_meaning.specs.Statements.{header_notes, header_words, headers, is_annotation_triple, is_axiom_predicate, noters, notes_of, reifies}
+use Rattle.rdf_meaning.specs.Statements.{header_notes, header_words, headers, is_annotation_triple, is_axiom_predicate, noters, notes_of, reifies, is_noted}
 use Rattle.rdf_roles.specs.Refusals.{AreNodesFormed, HaveOneRole}
 use Rattle.rdf_roles.proofs.NodeLaws.{blank_nodes_are}
 use Rattle.rdf_roles.specs.Tables.{RoleTable, blank_nodes}
@@ -26,7 +26,7 @@ use Rattle.tree_stores.specs.declared.fault.TreeFault.{TreeFault}
 use Rattle.tree_stores.specs.declared.fault.TreeFault.TheVariants.{TooDeep, TooHeavy, Memory}
 use Rattle.tree_stores.specs.Stores.{IsTreeFault, Keeps}
 use Rattle.tree_stores.proofs.StoreLaws.{stand_still}
-use Rattle.rdf_annotations.specs.Annotations.{AreAnnotations, AreSets, AreSomeSets, AreVariants, HaveSets, HaveSetsOf, IsFaultOfSome, IsSetOf, annotations_at, is_noted}
+use Rattle.rdf_annotations.specs.Annotations.{AreAnnotations, AreSets, AreSomeSets, AreVariants, HaveSets, HaveSetsOf, IsFaultOfSome, IsSetOf, annotations_at}
 
 module _ {X : Type 0} where
   kept_at : (test : X → Bool) (b : Bool) (x : X) (xs : List X) → test x ≡ b → filter test (x ∷ xs) ≡ cond b (x ∷ filter test xs) (filter test xs)

@@ -14,12 +14,12 @@ use Rattle.rdf_graph.specs.declared.term.Term.{Term}
 use Rattle.rdf_graph.specs.declared.triple.Triple.{Triple}
 use Rattle.rdf_graph.specs.Graphs.{subject_at}
 use Rattle.rdf_graph.proofs.SubjectLaws.{triples_between}
-use Rattle.rdf_meaning.specs.Statements.{Annotates, no_note, note, AreSets, no_set, set, IsNoteOf, annotated, is_annotation_triple, notes, notes_of}
+use Rattle.rdf_meaning.specs.Statements.{Annotates, no_note, note, AreSets, no_set, set, IsNoteOf, annotated, is_annotation_triple, notes, notes_of, IsNotedTree, note_tree}
 use Rattle.tree_stores.specs.declared.fault.TreeFault.{TreeFault}
 use Rattle.tree_stores.specs.Stores.{AreStanding, IsTreeFault, Keeps, StandFor}
 use Rattle.tree_stores.proofs.StoreLaws.{both_stand, keeps_all, keeps_more, stand_still}
 use Rattle.rdf_annotations.specs.declared.annotations.Said.{Said}
-use Rattle.rdf_annotations.specs.Annotations.{AreAnnotations, IsFaultOfSome, IsNotedTree, an_annotation}
+use Rattle.rdf_annotations.specs.Annotations.{AreAnnotations, IsFaultOfSome}
 use Rattle.rdf_annotations.proofs.AnnotationLaws.{fault_of_some}
 use Rattle.rdf_annotations.specs.Held.{AddsAnnotations, IsSaid}
 
@@ -148,7 +148,7 @@ module _ {N : Type 0} (g : List Triple) (k : List Entity) (header : Term) where
         inside = m;
         whole = refl;
       } in
-      fault_of_some (IsNotedTree g k header) tree (an_annotation t tree inside is says) fault f
+      fault_of_some (IsNotedTree g k header) tree (note_tree t tree inside is says) fault f
 
 module _ {N : Type 0} (Old : Tree → N → Type 0) (p v : Tree) (sets : List Tree) where
   abbrev annotation : Tree → Tree

@@ -14,12 +14,12 @@ use Rattle.rdf_graph.specs.declared.term.Term.TheVariants.{Blank}
 use Rattle.rdf_graph.specs.declared.triple.Triple.{Triple}
 use Rattle.rdf_meaning.proofs.ListLaws.{same_front}
 use Rattle.rdf_meaning.specs.Nodes.{role_of}
-use Rattle.rdf_meaning.specs.Statements.{Annotates, bare, no_set, noted, noters, notes, notes_of}
+use Rattle.rdf_meaning.specs.Statements.{Annotates, bare, no_set, noted, noters, notes, notes_of, IsNotedTree, a_set, is_noted}
 use Rattle.rdf_roles.specs.Tables.{RoleTable}
 use Rattle.tree_stores.specs.declared.fault.TreeFault.{TreeFault}
 use Rattle.tree_stores.specs.Stores.{IsTreeFault, Keeps, StandFor}
 use Rattle.tree_stores.proofs.StoreLaws.{one_more_stands}
-use Rattle.rdf_annotations.specs.Annotations.{AreSomeSets, AreVariants, IsFaultOfSome, IsNotedTree, IsSetOf, a_set, is_noted}
+use Rattle.rdf_annotations.specs.Annotations.{AreSomeSets, AreVariants, IsFaultOfSome, IsSetOf}
 use Rattle.rdf_annotations.proofs.AnnotationLaws.{fault_of_some, some_sets_kept}
 use Rattle.rdf_annotations.specs.Held.{AreSetsOf}
 use Rattle.rdf_annotations.specs.Noters.{AreNumbersOf, term_at}

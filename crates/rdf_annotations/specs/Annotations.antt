@@ -1,5 +1,5 @@
 -- The annotations of a graph, and their sets, as they stand in a store (Mapping to RDF Graphs, sections 2.3 and 3.3).
-use Rattle.std.specs.Prelude.{◌≡◌, ◌||◌, ℕ, Bool, IsTrue, List, [], Contains, Option, Some, length, slice_get}
+use Rattle.std.specs.Prelude.{◌≡◌, ℕ, IsTrue, List, [], Contains, Option, Some, length, slice_get}
 use Rattle.std.specs.List.{filter}
 use Rattle.std.specs.Map.{keys_of}
 use Rattle.owl_kind.specs.Kinds.{Entity}
@@ -7,29 +7,17 @@ use Rattle.owl_tree.specs.Trees.{Tree}
 use Rattle.rdf_graph.specs.declared.term.Term.{Term}
 use Rattle.rdf_graph.specs.declared.term.Term.TheVariants.{Blank}
 use Rattle.rdf_graph.specs.declared.triple.Triple.{Triple}
-use Rattle.rdf_meaning.specs.declared.role.Role.{Role}
 use Rattle.rdf_meaning.specs.declared.role.Role.TheVariants as role
-use Rattle.rdf_meaning.specs.Nodes.{is_role, of_subject, role_of}
-use Rattle.rdf_meaning.specs.Statements.{Annotates, IsNoteOf, Variants, is_annotation_triple, noters, notes, notes_of}
+use Rattle.rdf_meaning.specs.Nodes.{of_subject, role_of}
+use Rattle.rdf_meaning.specs.Statements.{Annotates, Variants, is_annotation_triple, noters, notes, notes_of}
 use Rattle.rdf_roles.specs.Tables.{RoleTable}
 use Rattle.tree_stores.specs.Stores.{IsDeep, IsHeavy, StandFor}
 use Rattle.tree_stores.specs.declared.fault.TreeFault.{TreeFault}
 use Rattle.tree_stores.specs.declared.fault.TreeFault.TheVariants.{TooDeep, TooHeavy, Memory}
 
--- nodes of the role have annotations of their own
-abbrev pub is_noted : Role → Bool
-is_noted r = is_role role.Main r || is_role role.Note r
-
 -- the annotations that stand at a term: at the header, at a reification, or at a node that stands for an axiom
 abbrev pub annotations_at : List Triple → List Entity → Term → Term → List Triple
 annotations_at g k header x = filter (is_annotation_triple g k header) (of_subject g x)
-
--- A tree of an annotation that the graph says, or of the set of those of a reification or of a node that stands for an axiom.
-pub data IsNotedTree (g : List Triple) (k : List Entity) (header : Term) : Tree → Type 0 where
-  an_annotation : (u : Triple) (t : Tree) → Contains g u → IsTrue (is_annotation_triple g k header u) → IsNoteOf g k u t →
-      IsNotedTree g k header t
-  a_set : (x : Term) (ts : List Tree) → IsTrue (is_noted (role_of g x)) → Annotates g k (notes_of g x) ts →
-      IsNotedTree g k header (notes ts)
 
 -- some tree of these is too deep or too heavy; want of memory is told of any
 abbrev pub IsFaultOfSome : {H : Type 0} → (Tree → Type 0) → TreeFault H → Type 0

@@ -5,9 +5,9 @@ ghost use Rattle.std.specs.List.{filter};
 ghost use Rattle.owl_tree.specs.declared.tag.Tag.TheVariants as tag;
 ghost use Rattle.owl_tree.specs.Trees.{Tree, kids_of, node};
 ghost use Rattle.rdf_graph.specs.declared.triple.Triple.{Triple};
-ghost use Rattle.rdf_meaning.specs.Statements.{is_annotation_triple};
+ghost use Rattle.rdf_meaning.specs.Statements.{is_annotation_triple, IsNotedTree};
 ghost use Rattle.rdf_faults.specs.Asked.{IsTypedNote};
-ghost use Rattle.rdf_annotations.specs.Annotations.{AreAnnotations, AreSomeSets, HaveSetsAt, HaveSetsOf, IsFaultOfSome, IsNotedTree};
+ghost use Rattle.rdf_annotations.specs.Annotations.{AreAnnotations, AreSomeSets, HaveSetsAt, HaveSetsOf, IsFaultOfSome};
 ghost use Rattle.rdf_annotations.specs.Held.{AddsAnnotations, IsAnnotated, IsSaid};
 ghost use Rattle.tree_stores.specs.Stores.{AreStanding, IsTreeFault, Keeps, StandFor};
 

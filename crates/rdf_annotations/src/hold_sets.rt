@@ -2,8 +2,8 @@
 
 ghost use Rattle.std.specs.Prelude.{◌<◌, ◌++◌, ◌∷◌, [], IfErr, IfOk, IsTrue, List, OnOk, ℕ, length};
 ghost use Rattle.rdf_meaning.specs.Nodes.{role_of};
-ghost use Rattle.rdf_meaning.specs.Statements.{notes};
-ghost use Rattle.rdf_annotations.specs.Annotations.{AreSets, AreSetsSoFar, AreSomeSets, HaveSetsAt, HaveSetsBelow, IsFaultOfSome, IsNotedTree, IsSetOf, is_noted};
+ghost use Rattle.rdf_meaning.specs.Statements.{notes, IsNotedTree, is_noted};
+ghost use Rattle.rdf_annotations.specs.Annotations.{AreSets, AreSetsSoFar, AreSomeSets, HaveSetsAt, HaveSetsBelow, IsFaultOfSome, IsSetOf};
 ghost use Rattle.rdf_annotations.specs.Held.{IsAnnotated};
 ghost use Rattle.tree_stores.specs.Stores.{Keeps};
 

@@ -5,9 +5,9 @@ ghost use Rattle.owl_kind.specs.Kinds.{Entity};
 ghost use Rattle.rdf_graph.specs.declared.term.Term.{Term};
 ghost use Rattle.rdf_graph.specs.declared.triple.Triple.{Triple};
 ghost use Rattle.rdf_meaning.specs.Nodes.{role_of};
-ghost use Rattle.rdf_meaning.specs.Statements.{header_notes, headers, notes_of};
+ghost use Rattle.rdf_meaning.specs.Statements.{header_notes, headers, notes_of, is_noted};
 ghost use Rattle.rdf_roles.specs.Refusals.{AreNodesFormed};
-ghost use Rattle.rdf_annotations.specs.Annotations.{annotations_at, is_noted};
+ghost use Rattle.rdf_annotations.specs.Annotations.{annotations_at};
 
 /// Laws: the annotations that stand at a reification, or at a node that stands
 /// for an axiom, are all its triples but those that make it what it is; those at

@@ -25,7 +25,7 @@ module _ (g : List Triple) (k : List Entity) where
   later : (t : Triple) (ts : List Triple) (a : Tree) → IsOfSome g k ts a → IsOfSome g k (t ∷ ts) a
   later t ts a s = record { triple = s.triple; inside = in_tail t ts s.triple s.inside; axiom_of = s.axiom_of }
 
-  of_triples : (ts : List Triple) (us : List Tree) → AreAxioms g k ts us → (a : Tree) → Contains us a → IsOfSome g k ts a
+  pub of_triples : (ts : List Triple) (us : List Tree) → AreAxioms g k ts us → (a : Tree) → Contains us a → IsOfSome g k ts a
   of_triples _ _ (no_triple) a m = absurd (in_none a m)
   of_triples _ _ (triple t more tag kids sets us is d h) a m =
       elim (Contains-append_cases (axioms_of tag kids sets) us a m) [
@@ -39,7 +39,7 @@ module _ (g : List Triple) (k : List Entity) where
         | inr n ↦ later t more a (of_triples more us h a n)
       ]
 
-  of_nodes : (xs : List Term) (us : List Tree) → AreNodeAxioms g k xs us → (a : Tree) → Contains us a → IsOfSomeNode g k xs a
+  pub of_nodes : (xs : List Term) (us : List Tree) → AreNodeAxioms g k xs us → (a : Tree) → Contains us a → IsOfSomeNode g k xs a
   of_nodes _ _ (no_node) a m = absurd (in_none a m)
   of_nodes _ _ (an_axiom x more tag kids notes_in us is d h) a m =
       elim (in_cases (with_set tag kids (notes notes_in)) us a m) [

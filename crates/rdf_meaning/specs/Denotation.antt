@@ -33,6 +33,7 @@ use Rattle.rdf_meaning.specs.Words.{word_iri}
 use Rattle.rdf_meaning.specs.Kinds.{has_kind, may_be_declared}
 use Rattle.rdf_meaning.specs.Nodes.{chosen, is_facet, is_role, is_word, nil_iri, of_subject, role_of, says_type, type_iri, words_of}
 use Rattle.rdf_meaning.specs.Rows.{Row, node_rows}
+use Rattle.rdf_meaning.specs.declared.role.Role.{Role}
 
 -- what a row may be of: a blank node, or a triple that is an axiom
 pub data Bearer : Type 0 where
@@ -239,3 +240,16 @@ pub record IsRowOf (g : List Triple) (k : List Entity) (b : Bearer) (rows : List
 
 abbrev pub AtMostOne : {A : Type 0} → (A → Type 0) → Type 0
 AtMostOne {A} P = (a : A) → P a → (b : A) → P b → a ≡ b
+
+-- the sort of the tree that a node of the role denotes, where the role is that of expressions
+abbrev pub sort_of : Role → Option Sort
+sort_of role.Property = Some sort.ObjectPropertyExpression
+sort_of role.Class = Some sort.ClassExpression
+sort_of role.Range = Some sort.DataRange
+sort_of _ = None
+
+-- the term denotes the tree, of the sort that its role gives
+pub record DenotesOwn (g : List Triple) (k : List Entity) (x : Term) (t : Tree) : Type 0 where
+  pub sort : Sort
+  pub gives : sort_of (role_of g x) ≡ Some sort
+  pub denotes : Denotes g k x (One sort) (t ∷ [])

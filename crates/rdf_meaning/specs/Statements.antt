@@ -318,3 +318,14 @@ pub record IsWhole (g : List Triple) (k : List Entity) (header : Term) : Type 0 
 pub record Says (g : List Triple) (k : List Entity) (o : Ontology) : Type 0 where
   pub states : States g k o
   pub whole : IsWhole g k states.header
+
+-- nodes of the role have annotations of their own
+abbrev pub is_noted : Role → Bool
+is_noted r = is_role role.Main r || is_role role.Note r
+
+-- A tree of an annotation that the graph says, or of the set of those of a reification or of a node that stands for an axiom.
+pub data IsNotedTree (g : List Triple) (k : List Entity) (header : Term) : Tree → Type 0 where
+  note_tree : (u : Triple) (t : Tree) → Contains g u → IsTrue (is_annotation_triple g k header u) → IsNoteOf g k u t →
+      IsNotedTree g k header t
+  a_set : (x : Term) (ts : List Tree) → IsTrue (is_noted (role_of g x)) → Annotates g k (notes_of g x) ts →
+      IsNotedTree g k header (notes ts)

@@ -18,7 +18,7 @@ use Rattle.rdf_meaning.specs.declared.row.Site.{Site}
 use Rattle.rdf_meaning.specs.declared.row.Want.{Want}
 use Rattle.rdf_meaning.proofs.ListLaws.{passes}
 use Rattle.rdf_meaning.specs.Nodes.{role_of}
-use Rattle.rdf_meaning.specs.Denotation.{of_node, select}
+use Rattle.rdf_meaning.specs.Denotation.{of_node, select, sort_of}
 use Rattle.rdf_meaning.specs.RowTests.{has_row}
 use Rattle.rdf_meaning.specs.Rows.{axiom_rows, node_rows}
 use Rattle.rdf_meaning.specs.Statements.{IsDirectlyBelow}
@@ -37,7 +37,7 @@ use Rattle.rdf_nodes.specs.declared.form.Operand.{Operand}
 use Rattle.rdf_nodes.specs.declared.form.Operand.TheVariants as operand
 use Rattle.rdf_nodes.proofs.ExpressionLaws.{expression_has_row}
 use Rattle.rdf_nodes.specs.Numbers.{AreKnownBelow, HasItsNumber, IsExpression, IsPassed}
-use Rattle.rdf_nodes.specs.Operands.{AreElements, no_cell, cell, AreOperands, no_parts, part, Gives, one, many, mark, is_true, IsForm, IsNodeOf, IsOperand, by_itself, by_node, IsTree, StandAt, labels, sort_of}
+use Rattle.rdf_nodes.specs.Operands.{AreElements, no_cell, cell, AreOperands, no_parts, part, Gives, one, many, mark, is_true, IsForm, IsNodeOf, IsOperand, by_itself, by_node, IsTree, StandAt, labels}
 
 pub as_nodes : (g : List Triple) (roles : RoleTable) → IsTableOf g roles → labels roles ≡ blank_nodes g
 as_nodes g roles table = keys_are g roles.nodes table.nodes

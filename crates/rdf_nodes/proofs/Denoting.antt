@@ -27,7 +27,7 @@ use Rattle.rdf_meaning.specs.declared.row.Site.{Site}
 use Rattle.rdf_meaning.specs.declared.row.Site.TheVariants.{Node, TypedBy, OtherType, LinkedBy, OtherLink}
 use Rattle.rdf_meaning.specs.declared.row.Want.{Want}
 use Rattle.rdf_meaning.specs.declared.row.Want.TheVariants.{One, Many, Whole, Keys, Declared, Mark, True}
-use Rattle.rdf_meaning.specs.Denotation.{Denotes, by_list, Fits, Holds, Lists, number_leaf, of_node, select, simple}
+use Rattle.rdf_meaning.specs.Denotation.{Denotes, by_list, Fits, Holds, Lists, number_leaf, of_node, select, simple, sort_of, DenotesOwn}
 use Rattle.rdf_meaning.proofs.DenotationLaws.{itself, with_row, list_is, many_is, no_nil, one_is, parts_are, simple_has_none}
 use Rattle.rdf_meaning.proofs.ListLaws.{passes, same_only}
 use Rattle.rdf_meaning.specs.Nodes.{is_role, nil_iri, role_of}
@@ -45,9 +45,8 @@ use Rattle.rdf_nodes.specs.declared.form.Operand.{Operand}
 use Rattle.rdf_nodes.proofs.ExpressionLaws.{expression_has_row}
 use Rattle.rdf_nodes.specs.Large.{HasLargeNumber}
 use Rattle.rdf_nodes.proofs.NumberLaws.{counts_at}
-use Rattle.rdf_nodes.specs.Numbers.{DenotesOwn}
 use Rattle.rdf_nodes.proofs.OfSortLaws.{as_many_elements}
-use Rattle.rdf_nodes.specs.Operands.{AreElements, DenotesNone, IsCellWith, IsHeldAt, IsSmall, IsWantedOfNode, is_told_by_kind, sort_of}
+use Rattle.rdf_nodes.specs.Operands.{AreElements, DenotesNone, IsCellWith, IsHeldAt, IsSmall, IsWantedOfNode, is_told_by_kind}
 
 -- terms
 

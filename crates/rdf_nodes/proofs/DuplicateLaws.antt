@@ -17,15 +17,13 @@ use Rattle.rdf_meaning.specs.declared.row.Place.TheVariants.{At, Subject, Predic
 use Rattle.rdf_meaning.specs.declared.row.Want.TheVariants.{One}
 use Rattle.rdf_meaning.specs.declared.word.Word.{Word}
 use Rattle.rdf_meaning.specs.declared.row.Site.TheVariants.{Node}
-use Rattle.rdf_meaning.specs.Denotation.{Bearer, Denotes, by_row, Fits, Holds, no_parts, part, of_node, select, times}
+use Rattle.rdf_meaning.specs.Denotation.{Bearer, Denotes, by_row, Fits, Holds, no_parts, part, of_node, select, times, sort_of, DenotesOwn}
 use Rattle.rdf_meaning.proofs.DenotationLaws.{itself, with_row, one_is, parts_are, simple_has_none}
 use Rattle.rdf_meaning.specs.Nodes.{carries, chosen, first_role, marked_roles, marks_role, of_subject, role_of, roles_of, words_of}
 use Rattle.rdf_meaning.specs.Rows.{Row}
 use Rattle.rdf_meaning.specs.Statements.{IsAxiomWith}
 use Rattle.rdf_nodes.specs.Duplicates.{HaveSameArcs, arc_of}
 use Rattle.rdf_nodes.proofs.ExpressionLaws.{expression_has_row}
-use Rattle.rdf_nodes.specs.Numbers.{DenotesOwn}
-use Rattle.rdf_nodes.specs.Operands.{sort_of}
 
 abbrev IsToldByArcs : (Triple → Bool) → Type 0
 IsToldByArcs test = (t u : Triple) → arc_of t ≡ arc_of u → test t ≡ test u

@@ -10,7 +10,8 @@ use Rattle.rdf_meaning.specs.Nodes.{of_subject}
 use Rattle.rdf_roles.specs.Tables.{RoleTable}
 use Rattle.rdf_nodes.proofs.DuplicateLaws.{denotes_too}
 use Rattle.rdf_nodes.specs.Duplicates.{HaveSameArcs, IsNumberOfDuplicate, arc_of}
-use Rattle.rdf_nodes.specs.Numbers.{AreNumbered, DenotesOwn, IsDenotedAs}
+use Rattle.rdf_nodes.specs.Numbers.{AreNumbered, IsDenotedAs}
+use Rattle.rdf_meaning.specs.Denotation.{DenotesOwn}
 use Rattle.rdf_nodes.specs.Operands.{labels}
 
 pub same_arcs : (g : List Triple) (l m a b : List ℕ) (ts us : List Triple) → a ≡ l → b ≡ m → ts ≡ of_subject g (Blank a) → us ≡ of_subject g (Blank b)

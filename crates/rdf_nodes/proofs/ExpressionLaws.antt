@@ -14,7 +14,7 @@ use Rattle.rdf_meaning.specs.declared.role.Role.TheVariants as role
 use Rattle.rdf_meaning.specs.declared.row.Site.{Site}
 use Rattle.rdf_meaning.specs.declared.row.Site.TheVariants.{Node}
 use Rattle.rdf_meaning.specs.declared.row.Want.TheVariants.{One}
-use Rattle.rdf_meaning.specs.Denotation.{Denotes, by_row}
+use Rattle.rdf_meaning.specs.Denotation.{Denotes, by_row, sort_of, DenotesOwn}
 use Rattle.rdf_meaning.proofs.DenotationLaws.{itself, with_row, key_is, list_is, one_is, one_tree, simple_has_none}
 use Rattle.rdf_meaning.specs.Kinds.{HaveNoClash}
 use Rattle.rdf_meaning.proofs.ListLaws.{passes}
@@ -24,9 +24,7 @@ use Rattle.rdf_meaning.specs.Rows.{Row, axiom_rows}
 use Rattle.rdf_meaning.specs.Statements.{IsPartOfAxiom}
 use Rattle.rdf_faults.specs.Meant.{AnyTree, IsMeant, an_individual, a_tree, a_list, a_list_of_keys, an_axiom}
 use Rattle.rdf_faults.proofs.TypedLaws.{no_expression}
-use Rattle.rdf_nodes.specs.Numbers.{DenotesOwn}
 use Rattle.rdf_nodes.proofs.OperandLaws.{admitted}
-use Rattle.rdf_nodes.specs.Operands.{sort_of}
 
 pub expression_has_row : (r : Role) (s : Sort) → sort_of r ≡ Some s → has_row r ≡ true
 expression_has_row role.Property s e = refl

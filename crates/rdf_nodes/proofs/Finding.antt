@@ -9,13 +9,12 @@ use Rattle.owl_tree.specs.declared.tag.Tag.{Tag}
 use Rattle.rdf_graph.specs.declared.term.Term.{Term}
 use Rattle.rdf_graph.specs.declared.term.Term.TheVariants.{Blank, Iri}
 use Rattle.rdf_graph.specs.declared.triple.Triple.{Triple}
-use Rattle.rdf_meaning.specs.Denotation.{iri_leaf, named}
+use Rattle.rdf_meaning.specs.Denotation.{iri_leaf, named, sort_of}
 use Rattle.rdf_meaning.proofs.KindLaws.{has_kind_is}
 use Rattle.rdf_meaning.specs.Kinds.{has_kind}
 use Rattle.rdf_meaning.specs.Nodes.{role_of}
 use Rattle.rdf_roles.specs.Tables.{HasNumber, IsTableOf, RoleTable}
 use Rattle.rdf_roles.proofs.NodeLaws.{has_number}
-use Rattle.rdf_nodes.specs.Operands.{sort_of}
 
 pub named_none : (k : List Entity) (kind : Kind) (t : Tag) (x : Term) (iri : List ℕ) → x ≡ Iri iri → (HasKind k kind iri → ⊥) → named k kind t x ≡ None
 named_none k kind t x iri is hasnt =

@@ -19,9 +19,10 @@ use Rattle.tree_stores.specs.Stores.{IsTreeFault, Keeps}
 use Rattle.rdf_nodes.specs.declared.form.Form.{Form}
 use Rattle.rdf_nodes.specs.declared.form.Operand.{Operand}
 use Rattle.rdf_nodes.specs.declared.form.Operand.TheVariants as operand
-use Rattle.rdf_nodes.specs.Numbers.{AllStand, AreNumbered, DenotesOwn, IsDenotedAs, IsExpression, IsNodeFault, StandsFor}
+use Rattle.rdf_nodes.specs.Numbers.{AllStand, AreNumbered, IsDenotedAs, IsExpression, IsNodeFault, StandsFor}
 use Rattle.rdf_nodes.proofs.OperandLaws.{form_denotes}
-use Rattle.rdf_nodes.specs.Operands.{AllMean, IsForm, Means, own_tree, sort_of}
+use Rattle.rdf_nodes.specs.Operands.{AllMean, IsForm, Means, own_tree}
+use Rattle.rdf_meaning.specs.Denotation.{sort_of, DenotesOwn}
 
 pub ok_more : {A E : Type 0} {P Q : A → Type 0} → ((a : A) → P a → Q a) → (r : Result A E) → IfOk r P → IfOk r Q
 ok_more w (Ok a) h = w a h

@@ -16,8 +16,9 @@ use Rattle.rdf_roles.specs.Tables.{IsTableOf, RoleTable, blank_nodes}
 use Rattle.tree_stores.proofs.StoreLaws.{shallow_tree}
 use Rattle.tree_stores.specs.Stores.{HasDepth, IsHeld}
 use Rattle.rdf_nodes.proofs.ExpressionLaws.{own_same}
-use Rattle.rdf_nodes.specs.Numbers.{AreAllHeld, AreKnown, AreNumbered, AreShallow, DenotesOwn, IsKnown, IsNumbered}
-use Rattle.rdf_nodes.specs.Operands.{labels, sort_of}
+use Rattle.rdf_nodes.specs.Numbers.{AreAllHeld, AreKnown, AreNumbered, AreShallow, IsKnown, IsNumbered}
+use Rattle.rdf_nodes.specs.Operands.{labels}
+use Rattle.rdf_meaning.specs.Denotation.{sort_of, DenotesOwn}
 use Rattle.rdf_nodes.proofs.Labelling.{below_next, look_up}
 
 some_not : {A : Type 0} (o : Option A) (a : A) → o ≡ Some a → is_some o ≡ false → ⊥

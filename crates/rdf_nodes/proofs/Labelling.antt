@@ -18,7 +18,8 @@ use Rattle.rdf_roles.specs.Tables.{IsTableOf, RoleTable, blank_nodes}
 use Rattle.tree_stores.specs.Stores.{HasNumber}
 use Rattle.rdf_nodes.specs.Nodes.{HoldNumbers, HoldNumbersUpTo, NumberTable, entry_of}
 use Rattle.rdf_nodes.specs.Numbers.{AreNumbered, IsDenotedAs, IsNumbered}
-use Rattle.rdf_nodes.specs.Operands.{labels, sort_of}
+use Rattle.rdf_nodes.specs.Operands.{labels}
+use Rattle.rdf_meaning.specs.Denotation.{sort_of}
 
 -- the label stands somewhere
 pub record Stands (all : List (List ℕ)) (label : List ℕ) : Type 0 where

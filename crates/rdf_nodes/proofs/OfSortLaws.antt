@@ -11,13 +11,13 @@ use Rattle.rdf_graph.specs.declared.term.Term.{Term}
 use Rattle.rdf_graph.specs.declared.triple.Triple.{Triple}
 use Rattle.rdf_meaning.specs.declared.role.Role.{Role}
 use Rattle.rdf_meaning.specs.declared.role.Role.TheVariants as role
-use Rattle.rdf_meaning.specs.Denotation.{simple}
+use Rattle.rdf_meaning.specs.Denotation.{simple, sort_of}
 use Rattle.rdf_meaning.specs.Nodes.{role_of}
 use Rattle.rdf_faults.specs.Asked.{HasElements, no_element, element, is_of_sort, role_gives}
 use Rattle.rdf_asked.proofs.ListedLaws.{same_elements}
 use Rattle.rdf_roles.specs.Tables.{RoleTable}
 use Rattle.rdf_nodes.specs.declared.form.Operand.{Operand}
-use Rattle.rdf_nodes.specs.Operands.{AreElements, no_cell, cell, IsOperand, by_itself, by_node, is_told_by_kind, sort_of}
+use Rattle.rdf_nodes.specs.Operands.{AreElements, no_cell, cell, IsOperand, by_itself, by_node, is_told_by_kind}
 
 pub gives_sort : (r : Role) (s : Sort) → sort_of r ≡ Some s → role_gives r s ≡ true
 gives_sort role.Property sort.ObjectPropertyExpression e = refl

@@ -18,7 +18,7 @@ use Rattle.rdf_meaning.specs.declared.row.Site.{Site}
 use Rattle.rdf_meaning.specs.declared.row.Site.TheVariants.{Node, TypedBy, OtherType, LinkedBy, OtherLink}
 use Rattle.rdf_meaning.specs.declared.row.Want.{Want}
 use Rattle.rdf_meaning.specs.declared.row.Want.TheVariants.{One}
-use Rattle.rdf_meaning.specs.Denotation.{Denotes, Holds, Lists, by_itself as denotes_itself, by_row, by_list, mark as denotes_mark, is_true as denotes_true, no_cell as lists_none, cell as lists_cell, no_parts as holds_none, part as holds_part, of_node}
+use Rattle.rdf_meaning.specs.Denotation.{Denotes, Holds, Lists, by_itself as denotes_itself, by_row, by_list, mark as denotes_mark, is_true as denotes_true, no_cell as lists_none, cell as lists_cell, no_parts as holds_none, part as holds_part, of_node, sort_of}
 use Rattle.rdf_meaning.proofs.ListLaws.{passes}
 use Rattle.rdf_meaning.specs.Nodes.{role_of}
 use Rattle.rdf_meaning.specs.Rows.{Row, node_rows}
@@ -26,7 +26,7 @@ use Rattle.rdf_roles.specs.Tables.{RoleTable}
 use Rattle.rdf_nodes.specs.declared.form.Form.{Form}
 use Rattle.rdf_nodes.specs.declared.form.Operand.{Operand}
 use Rattle.rdf_nodes.specs.declared.form.Operand.TheVariants as operand
-use Rattle.rdf_nodes.specs.Operands.{AllMean, AreElements, no_cell, cell, AreOperands, no_parts, part, Gives, one, many, mark, is_true, IsForm, IsOperand, by_itself, by_node, IsOwn, Means, sort_of}
+use Rattle.rdf_nodes.specs.Operands.{AllMean, AreElements, no_cell, cell, AreOperands, no_parts, part, Gives, one, many, mark, is_true, IsForm, IsOperand, by_itself, by_node, IsOwn, Means}
 
 -- a row of the nodes of a role has a tag of the role's sort
 

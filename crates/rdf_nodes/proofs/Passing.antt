@@ -19,7 +19,8 @@ use Rattle.tree_stores.proofs.StoreLaws.{keeps_all, keeps_more}
 use Rattle.tree_stores.specs.Stores.{Keeps}
 use Rattle.rdf_nodes.specs.Numbers.{AreKnown, AreNumbered, HaveNone, IsDenotedAs, IsKnown, IsNextOf, IsNodeFault, IsNumbered, IsPassedIn, IsSomeNodeFault}
 use Rattle.rdf_nodes.proofs.NumberTableLaws.{set_holds}
-use Rattle.rdf_nodes.specs.Operands.{labels, sort_of}
+use Rattle.rdf_nodes.specs.Operands.{labels}
+use Rattle.rdf_meaning.specs.Denotation.{sort_of}
 use Rattle.rdf_nodes.proofs.Below.{passed_below}
 use Rattle.rdf_nodes.proofs.Holding.{numbered_kept}
 

@@ -15,7 +15,8 @@ use Rattle.rdf_nodes.specs.declared.fault.DenoteFault.{DenoteFault}
 use Rattle.rdf_nodes.specs.declared.fault.DenoteFault.TheVariants.{NumberTooLarge, TooDeep, TooHeavy, Memory}
 use Rattle.rdf_nodes.specs.Large.{HasLargeNumber}
 use Rattle.rdf_nodes.specs.Numbers.{AreShallow, HasNode, IsDenotedAs}
-use Rattle.rdf_nodes.specs.Operands.{labels, sort_of}
+use Rattle.rdf_nodes.specs.Operands.{labels}
+use Rattle.rdf_meaning.specs.Denotation.{sort_of}
 
 -- labels with numbers
 abbrev pub NumberTable : Type 0

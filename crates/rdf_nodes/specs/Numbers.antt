@@ -1,13 +1,12 @@
 -- The numbers, in a store, of the trees that operands and nodes stand for.
-use Rattle.std.specs.Prelude.{◌≡◌, ◌<◌, ◌⊎◌, ℕ, Bool, IsTrue, List, [], ◌∷◌, Contains, Option, Some, length, slice_get}
+use Rattle.std.specs.Prelude.{◌≡◌, ◌<◌, ◌⊎◌, ℕ, Bool, IsTrue, List, Contains, Option, Some, length, slice_get}
 use Rattle.owl_kind.specs.Kinds.{Entity}
 use Rattle.owl_tree.specs.declared.row.Sort.{Sort}
 use Rattle.owl_tree.specs.Trees.{Tree}
 use Rattle.rdf_graph.specs.declared.term.Term.{Term}
 use Rattle.rdf_graph.specs.declared.term.Term.TheVariants.{Blank}
 use Rattle.rdf_graph.specs.declared.triple.Triple.{Triple}
-use Rattle.rdf_meaning.specs.declared.row.Want.TheVariants.{One}
-use Rattle.rdf_meaning.specs.Denotation.{Denotes}
+use Rattle.rdf_meaning.specs.Denotation.{DenotesOwn, sort_of}
 use Rattle.rdf_meaning.specs.Nodes.{role_of}
 use Rattle.rdf_roles.specs.OrderLaws.{AreClosed}
 use Rattle.rdf_roles.specs.Tables.{IsNode, LeadsTo, RoleTable}
@@ -18,7 +17,7 @@ use Rattle.rdf_nodes.specs.declared.form.Form.{Form}
 use Rattle.rdf_nodes.specs.declared.form.Operand.{Operand}
 use Rattle.rdf_nodes.specs.declared.form.Operand.TheVariants as operand
 use Rattle.rdf_nodes.specs.Large.{HasLargeNumber}
-use Rattle.rdf_nodes.specs.Operands.{AllMean, IsDenotedBy, IsForm, Means, labels, sort_of}
+use Rattle.rdf_nodes.specs.Operands.{AllMean, IsDenotedBy, IsForm, Means, labels}
 
 -- no node has a number
 abbrev pub HaveNone : {N : Type 0} → List (Option N) → Type 0
@@ -76,12 +75,6 @@ module _ (g : List Triple) (k : List Entity) (roles : RoleTable) where
     pub meant : List Tree
     pub mean : AllMean g k roles os meant
     pub held : StandFor Stands meant ns
-
--- the term denotes the tree, of the sort that its role gives
-pub record DenotesOwn (g : List Triple) (k : List Entity) (x : Term) (t : Tree) : Type 0 where
-  pub sort : Sort
-  pub gives : sort_of (role_of g x) ≡ Some sort
-  pub denotes : Denotes g k x (One sort) (t ∷ [])
 
 -- and the number stands for it
 pub record IsDenotedAs (g : List Triple) (k : List Entity) {N : Type 0} (Stands : Tree → N → Type 0) (x : Term) (n : N) : Type 0 where

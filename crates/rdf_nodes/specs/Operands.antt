@@ -11,14 +11,13 @@ use Rattle.rdf_graph.specs.declared.term.Term.{Term}
 use Rattle.rdf_graph.specs.declared.term.Term.TheVariants.{Blank, Iri, Literal}
 use Rattle.rdf_graph.specs.declared.triple.Triple.{Triple}
 use Rattle.rdf_meaning.specs.declared.word.Word.TheVariants as word
-use Rattle.rdf_meaning.specs.declared.role.Role.{Role}
 use Rattle.rdf_meaning.specs.declared.role.Role.TheVariants as role
 use Rattle.rdf_meaning.specs.declared.row.Want.{Want}
 use Rattle.rdf_meaning.specs.declared.row.Want.TheVariants.{One, Many, Mark, True}
 use Rattle.rdf_meaning.specs.declared.row.Part.{Part}
 use Rattle.rdf_meaning.specs.Nodes.{chosen, nil_iri, role_of}
 use Rattle.rdf_meaning.specs.Rows.{Row, node_rows}
-use Rattle.rdf_meaning.specs.Denotation.{Denotes, Fits, iri_leaf, number_leaf, of_node, select, simple, true_literal}
+use Rattle.rdf_meaning.specs.Denotation.{Denotes, Fits, iri_leaf, number_leaf, of_node, select, simple, true_literal, sort_of}
 use Rattle.rdf_faults.specs.WantLaws.{is_known}
 use Rattle.rdf_rows.specs.Cardinalities.{cardinality_of}
 use Rattle.rdf_rows.specs.declared.literals.Cardinality.TheVariants.{TooLarge}
@@ -26,13 +25,6 @@ use Rattle.rdf_roles.specs.Tables.{RoleTable}
 use Rattle.rdf_nodes.specs.declared.form.Form.{Form}
 use Rattle.rdf_nodes.specs.declared.form.Operand.{Operand}
 use Rattle.rdf_nodes.specs.declared.form.Operand.TheVariants as operand
-
--- the sort of the tree that a node of the role stands for, where the role is that of expressions
-abbrev pub sort_of : Role → Option Sort
-sort_of role.Property = Some sort.ObjectPropertyExpression
-sort_of role.Class = Some sort.ClassExpression
-sort_of role.Range = Some sort.DataRange
-sort_of _ = None
 
 -- the labels of nodes, by their numbers
 abbrev pub labels : RoleTable → List (List ℕ)

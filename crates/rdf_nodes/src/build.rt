@@ -8,7 +8,8 @@ ghost use Rattle.rdf_graph.specs.declared.term.Term.TheVariants as held;
 ghost use Rattle.rdf_meaning.specs.Nodes.{role_of};
 ghost use Rattle.rdf_roles.specs.Tables.{IsTableOf};
 ghost use Rattle.rdf_nodes.specs.Numbers.{AllStand, AreKnownBelow, AreNumbered, DenoteTrees, HasItsNumber, IsDenotedAs, IsExpression, IsNodeFault, StandsFor};
-ghost use Rattle.rdf_nodes.specs.Operands.{own_tree, sort_of};
+ghost use Rattle.rdf_nodes.specs.Operands.{own_tree};
+ghost use Rattle.rdf_meaning.specs.Denotation.{sort_of};
 ghost use Rattle.rdf_nodes.specs.declared.form.Operand.TheVariants as operand;
 ghost use Rattle.tree_stores.specs.Stores.{Keeps};
 

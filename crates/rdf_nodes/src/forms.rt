@@ -8,7 +8,7 @@ ghost use Rattle.rdf_meaning.specs.declared.row.Want.TheVariants.{Many, One};
 ghost use Rattle.rdf_meaning.specs.Nodes.{of_subject, role_of};
 ghost use Rattle.rdf_roles.specs.Tables.{IsTableOf};
 ghost use Rattle.rdf_nodes.specs.Large.{HasLargeNumber};
-ghost use Rattle.rdf_nodes.specs.Numbers.{DenotesOwn};
+ghost use Rattle.rdf_meaning.specs.Denotation.{DenotesOwn};
 ghost use Rattle.rdf_nodes.specs.Operands.{AreOperands, DenotesNone, Gives, IsForm, IsHeldAt, IsWantedOfNode, StandAt};
 
 use crate::form::{Form, Operand};

@@ -7,11 +7,11 @@ ghost use Rattle.owl_tree.specs.Trees.{Tree, kids_of, node};
 ghost use Rattle.rdf_graph.specs.declared.term.Term.{Term};
 ghost use Rattle.rdf_graph.specs.declared.triple.Triple.{Triple};
 ghost use Rattle.rdf_meaning.specs.declared.row.Want.TheVariants.{One};
-ghost use Rattle.rdf_meaning.specs.Denotation.{Denotes};
+ghost use Rattle.rdf_meaning.specs.Denotation.{Denotes, sort_of};
 ghost use Rattle.rdf_meaning.specs.Nodes.{role_of};
 ghost use Rattle.rdf_roles.specs.Tables.{RoleTable};
 ghost use Rattle.rdf_nodes.specs.declared.form.Form.{Form};
-ghost use Rattle.rdf_nodes.specs.Operands.{AllMean, IsForm, sort_of};
+ghost use Rattle.rdf_nodes.specs.Operands.{AllMean, IsForm};
 
 /// Law: where each operand of a node's form stands for a tree, the node denotes
 /// the tree of the form's tag over these, of the sort that its role gives.

@@ -12,7 +12,7 @@ ghost use Rattle.rdf_roles.specs.Refusals.{AreNodesFormed};
 ghost use Rattle.rdf_roles.specs.Tables.{IsTableOf};
 ghost use Rattle.rdf_nodes.specs.Nodes.{AreDenoted, IsDenoteFault};
 ghost use Rattle.rdf_nodes.specs.Numbers.{IsDenotedAs};
-ghost use Rattle.rdf_nodes.specs.Operands.{sort_of};
+ghost use Rattle.rdf_meaning.specs.Denotation.{sort_of};
 ghost use Rattle.tree_stores.specs.Stores.{HasNumber, Keeps};
 
 use crate::fault::DenoteFault;

@@ -5,10 +5,10 @@ ghost use Rattle.owl_tree.specs.declared.row.Sort.TheVariants.{Number};
 ghost use Rattle.rdf_faults.specs.Asked.{is_of_sort};
 ghost use Rattle.rdf_meaning.specs.declared.role.Role.TheVariants as role;
 ghost use Rattle.rdf_meaning.specs.declared.row.Want.TheVariants.{One};
-ghost use Rattle.rdf_meaning.specs.Denotation.{anonymous, facet_pair, facets_of, literal_leaf, named, named_individual, number_leaf, or_else, plain_iri, simple};
+ghost use Rattle.rdf_meaning.specs.Denotation.{anonymous, facet_pair, facets_of, literal_leaf, named, named_individual, number_leaf, or_else, plain_iri, simple, sort_of};
 ghost use Rattle.rdf_meaning.specs.Nodes.{is_role, role_of};
 ghost use Rattle.rdf_roles.specs.Tables.{IsTableOf};
-ghost use Rattle.rdf_nodes.specs.Operands.{DenotesNone, IsFound, IsNodeOf, IsOperand, IsOwn, IsSmall, IsTree, IsWantedOfNode, is_told_by_kind, sort_of};
+ghost use Rattle.rdf_nodes.specs.Operands.{DenotesNone, IsFound, IsNodeOf, IsOperand, IsOwn, IsSmall, IsTree, IsWantedOfNode, is_told_by_kind};
 
 use crate::form::Operand;
 use crate::source::Source;

@@ -37,9 +37,8 @@ use Rattle.rdf_meaning.proofs.RowLaws.{at_expression, same_role}
 use Rattle.rdf_meaning.specs.RowTests.{has_row, has_row_at}
 use Rattle.rdf_meaning.specs.Rows.{Row, node_rows}
 use Rattle.rdf_meaning.proofs.NodeLaws.{chosen_is, from_subject, same_term}
-use Rattle.rdf_meaning.specs.Statements.{Annotates, no_note, note, AreSets, no_set, set, IsNoteOf, Variants, bare, noted, annotated, noters, notes, notes_of, reifies}
+use Rattle.rdf_meaning.specs.Statements.{Annotates, no_note, note, AreSets, no_set, set, IsNoteOf, Variants, bare, noted, annotated, noters, notes, notes_of, reifies, note_tree, a_set}
 use Rattle.rdf_annotations.proofs.AnnotationLaws.{noter_is}
-use Rattle.rdf_annotations.specs.Annotations.{an_annotation, a_set}
 use Rattle.rdf_statements.specs.GraphTrees.{IsTreeOf, of_node as node_tree, of_annotation, of_axiom, of_axiom_node}
 use Rattle.rdf_meaning.specs.Nodes.{chosen, is_blank, is_facet, is_role, is_same, is_structural, of_subject, role_of}
 use Rattle.rdf_reverse.specs.Reverse.{HasDeepTree}
@@ -407,7 +406,7 @@ module _ (g : List Triple) (k : List Entity) (h : Term → ℕ) (least : (x : Te
         let first = low.0 in
         let high = most (Blank label) in
         omega (arith, first, high)
-    tree_low header _ (of_annotation t (an_annotation u _ m is of)) = note_low u t of
+    tree_low header _ (of_annotation t (note_tree u _ m is of)) = note_low u t of
     tree_low header _ (of_annotation _ (a_set x ts is an)) = let low = set_low x ts an in omega (arith, low)
     tree_low header _ (of_axiom u t m is) =
         let first = variant_low u is.sets is.annotations is.variants is.inside in

@@ -17,11 +17,11 @@ use Rattle.owl_list.proofs.FilterLaws.{in_filter}
 use Rattle.rdf_meaning.specs.Nodes.{is_same, is_structural, nodes_of, of_subject, role_of}
 use Rattle.rdf_meaning.proofs.NodeLaws.{in_subject, nodes_are}
 use Rattle.rdf_meaning.proofs.StatementLaws.{one_notes}
-use Rattle.rdf_meaning.specs.Statements.{Annotates, IsAxiomOfNode, IsNoteOf, header_notes, is_annotation_triple, main_triples, notes, notes_of}
+use Rattle.rdf_meaning.specs.Statements.{Annotates, IsAxiomOfNode, IsNoteOf, header_notes, is_annotation_triple, main_triples, notes, notes_of, note_tree, a_set, is_noted}
 use Rattle.rdf_roles.proofs.WayLaws.{numbered_by_role}
 use Rattle.rdf_roles.specs.Tables.{IsTableOf, RoleTable}
 use Rattle.tree_stores.specs.Stores.{StandFor}
-use Rattle.rdf_annotations.specs.Annotations.{AreSets, an_annotation, a_set, is_noted}
+use Rattle.rdf_annotations.specs.Annotations.{AreSets}
 use Rattle.rdf_annotations.proofs.AnnotationLaws.{noted_or}
 use Rattle.rdf_nodes.specs.Numbers.{AreAllHeld}
 use Rattle.rdf_statements.proofs.Adding.{labels_are}
@@ -135,7 +135,7 @@ module _ {N : Type 0} (Stands : Tree → N → Type 0) where
     pub all_held : (t : Tree) → IsTreeOf g k header t → IsHeldWithin Stands t
     all_held _ (of_node label t own) =
         let h = nodes label t own in record { whole = t; part = itself t; number = h.number; stands = h.stands }
-    all_held _ (of_annotation _ (an_annotation u t m e is)) = note_held u t m e is
+    all_held _ (of_annotation _ (note_tree u t m e is)) = note_held u t m e is
     all_held _ (of_annotation _ (a_set x ts noted annotates)) = set_held x ts noted annotates
     all_held _ (of_axiom u t m is) =
         in_axioms t

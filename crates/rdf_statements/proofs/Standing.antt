@@ -11,13 +11,13 @@ use Rattle.rdf_graph.specs.declared.term.Term.{Term}
 use Rattle.rdf_graph.specs.declared.triple.Triple.{Triple}
 use Rattle.rdf_meaning.specs.declared.row.Part.{Part}
 use Rattle.rdf_meaning.specs.declared.row.Want.{Want}
-use Rattle.rdf_meaning.specs.Denotation.{Bearer}
+use Rattle.rdf_meaning.specs.Denotation.{Bearer, sort_of}
 use Rattle.rdf_meaning.specs.Nodes.{role_of}
 use Rattle.rdf_roles.specs.Tables.{RoleTable}
 use Rattle.rdf_nodes.specs.declared.form.Operand.{Operand}
 use Rattle.rdf_nodes.specs.declared.form.Operand.TheVariants as operand
 use Rattle.rdf_nodes.specs.Numbers.{AreKnown, AreNumbered}
-use Rattle.rdf_nodes.specs.Operands.{AllMean, AreElements, no_cell, cell, IsNodeOf, IsOperand, by_itself, by_node, IsTree, Means, labels, sort_of}
+use Rattle.rdf_nodes.specs.Operands.{AllMean, AreElements, no_cell, cell, IsNodeOf, IsOperand, by_itself, by_node, IsTree, Means, labels}
 use Rattle.rdf_statements.specs.declared.form.AxiomForm.{AxiomForm}
 use Rattle.rdf_statements.specs.declared.form.Kid.{Kid}
 use Rattle.rdf_statements.specs.declared.form.Kid.TheVariants as kid

@@ -23,18 +23,16 @@ use Rattle.rdf_meaning.proofs.DenotationLaws.{itself as by_itself, one_is, simpl
 use Rattle.rdf_meaning.proofs.NodeLaws.{nodes_are, own_term}
 use Rattle.rdf_meaning.specs.Nodes.{is_same, nodes_of, role_of}
 use Rattle.rdf_meaning.proofs.StatementLaws.{one_notes}
-use Rattle.rdf_meaning.specs.Statements.{Annotates, no_note, set, HasAxiom, IsDirectlyNotedUnder, IsNoteOf, an_axiom, an_annotation, Says, Variants, bare, noted, header_notes, is_annotation_triple, main_triples, notes, notes_of, reifies}
+use Rattle.rdf_meaning.specs.Statements.{Annotates, no_note, set, HasAxiom, IsDirectlyNotedUnder, IsNoteOf, an_axiom, an_annotation, Says, Variants, bare, noted, header_notes, is_annotation_triple, main_triples, notes, notes_of, reifies, a_set, note_tree, is_noted}
 use Rattle.rdf_meaning.specs.declared.role.Role.TheVariants as role
 use Rattle.rdf_faults.specs.Meant.{GoesDown}
 use Rattle.rdf_faults.proofs.MeantLaws.{AreSaidOf, node_axiom, part_meant, triple_axiom}
 use Rattle.rdf_faults.proofs.NoteLaws.{annotation_of, by_notes_above, in_noters, in_notes_of, note_said, of_axiom, of_header, of_note, set_of}
-use Rattle.rdf_annotations.specs.Annotations.{a_set, an_annotation as note_tree, is_noted}
 use Rattle.rdf_annotations.proofs.AnnotationLaws.{noted_or}
 use Rattle.rdf_nodes.proofs.ExpressionLaws.{expression_has_row, expression_is_part, meant_denotes_such, own_same}
 use Rattle.rdf_nodes.specs.Large.{HasLargeNumber}
 use Rattle.rdf_nodes.proofs.NumberLaws.{IsLargeLeaf, large_kid}
-use Rattle.rdf_nodes.specs.Numbers.{DenotesOwn}
-use Rattle.rdf_nodes.specs.Operands.{sort_of}
+use Rattle.rdf_meaning.specs.Denotation.{sort_of, DenotesOwn}
 use Rattle.rdf_statements.specs.GraphTrees.{IsPartOf, itself, IsTreeOf, of_node, of_annotation, of_axiom as axiom_tree, of_axiom_node}
 use Rattle.rdf_statements.proofs.PartLaws.{kid_part, part_shape}
 

@@ -8,13 +8,13 @@ use Rattle.rdf_graph.specs.declared.triple.Triple.{Triple}
 use Rattle.rdf_meaning.specs.declared.role.Role.TheVariants as role
 use Rattle.rdf_meaning.specs.Kinds.{HaveNoClash}
 use Rattle.rdf_meaning.specs.Nodes.{nodes_of}
-use Rattle.rdf_meaning.specs.Statements.{Annotates, AreAxioms, AreNodeAxioms, main_triples}
+use Rattle.rdf_meaning.specs.Statements.{Annotates, AreAxioms, AreNodeAxioms, main_triples, IsNotedTree}
 use Rattle.tree_stores.specs.Stores.{Keeps, StandFor}
 use Rattle.tree_stores.proofs.KidLaws.{many_kids_of}
 use Rattle.tree_stores.proofs.StoreLaws.{stand_still}
 use Rattle.tree_stores.specs.declared.fault.TreeFault.{TreeFault}
 use Rattle.tree_stores.specs.declared.fault.TreeFault.TheVariants.{TooDeep, TooHeavy, Memory}
-use Rattle.rdf_annotations.specs.Annotations.{AreAnnotations, AreSets, IsFaultOfSome, IsNotedTree}
+use Rattle.rdf_annotations.specs.Annotations.{AreAnnotations, AreSets, IsFaultOfSome}
 use Rattle.rdf_annotations.proofs.AnnotationLaws.{annotations_of_header, sets_kept}
 use Rattle.rdf_annotations.specs.Held.{IsAnnotated}
 use Rattle.rdf_nodes.specs.Numbers.{AreAllHeld, AreKnown, AreNumbered, IsNodeTree, IsNumbersFault}

@@ -8,9 +8,8 @@ use Rattle.rdf_graph.specs.declared.term.Term.TheVariants.{Blank}
 use Rattle.rdf_graph.specs.declared.triple.Triple.{Triple}
 use Rattle.rdf_meaning.specs.declared.role.Role.TheVariants as role
 use Rattle.rdf_meaning.specs.Nodes.{nodes_of, role_of}
-use Rattle.rdf_meaning.specs.Statements.{Annotates, AreAxioms, AreNodeAxioms, HasAxiom, HasNodeAxiom, IsAxiomOf, IsAxiomOfNode, header_notes, main_triples}
-use Rattle.rdf_annotations.specs.Annotations.{IsNotedTree}
-use Rattle.rdf_nodes.specs.Numbers.{DenotesOwn}
+use Rattle.rdf_meaning.specs.Statements.{Annotates, AreAxioms, AreNodeAxioms, HasAxiom, HasNodeAxiom, IsAxiomOf, IsAxiomOfNode, header_notes, main_triples, IsNotedTree}
+use Rattle.rdf_meaning.specs.Denotation.{DenotesOwn}
 use Rattle.tree_stores.specs.declared.fault.TreeFault.{TreeFault}
 use Rattle.tree_stores.specs.declared.fault.TreeFault.TheVariants.{TooDeep, TooHeavy, Memory}
 use Rattle.tree_stores.specs.Stores.{HaveManyKids, IsDeep, IsHeavy, StandFor}

@@ -1,11 +1,11 @@
 //! The axioms that nodes stand for, in a store.
 
 ghost use Rattle.std.specs.Prelude.{◌≡◌, ◌<◌, ◌∷◌, [], IfErr, IfOk, List, OnOk, Some, ℕ, length, slice_get};
-ghost use Rattle.rdf_annotations.specs.Annotations.{IsFaultOfSome, IsNotedTree};
+ghost use Rattle.rdf_annotations.specs.Annotations.{IsFaultOfSome};
 ghost use Rattle.rdf_graph.specs.declared.term.Term.TheVariants as held;
 ghost use Rattle.rdf_meaning.specs.declared.role.Role.TheVariants as role;
 ghost use Rattle.rdf_meaning.specs.Nodes.{is_role, nodes_of, role_of};
-ghost use Rattle.rdf_meaning.specs.Statements.{AreNodeAxioms};
+ghost use Rattle.rdf_meaning.specs.Statements.{AreNodeAxioms, IsNotedTree};
 ghost use Rattle.rdf_roles.specs.Tables.{blank_nodes};
 ghost use Rattle.rdf_statements.specs.BareAxioms.{AreBareAxioms};
 ghost use Rattle.rdf_statements.specs.GraphTrees.{IsTreeOf};

@@ -2,9 +2,8 @@ use Rattle.std.proofs.Common.{◌∷◌, [], IfSome, IsNone, refl, subst, sym}
 use Rattle.owl_list.proofs.AscendingLaws.{in_head}
 use Rattle.rdf_graph.specs.declared.term.Term.TheVariants.{Blank}
 use Rattle.rdf_meaning.specs.Denotation.{of_node}
-use Rattle.rdf_meaning.specs.Statements.{IsAxiomOfNode, notes}
+use Rattle.rdf_meaning.specs.Statements.{IsAxiomOfNode, notes, IsNotedTree}
 use Rattle.tree_stores.specs.Stores.{StandFor}
-use Rattle.rdf_annotations.specs.Annotations.{IsNotedTree}
 use Rattle.rdf_statements.specs.Forms.{IsAxiomForm}
 use Rattle.rdf_statements.specs.GraphTrees.{IsTreeOf, of_annotation}
 use Rattle.rdf_statements.specs.Holding.{IsOfForm}

@@ -1,7 +1,7 @@
 use Rattle.std.proofs.Common.{rules, ◌≡◌, ap, refl, subst, sym, true, ◌∙◌, IsNone}
 use Rattle.std.specs.Prelude.{is_some}
 use Rattle.rdf_graph.specs.declared.term.Term.TheVariants as held
-use Rattle.rdf_nodes.specs.Operands.{sort_of}
+use Rattle.rdf_meaning.specs.Denotation.{sort_of}
 use Rattle.rdf_faults.proofs.DenotedLaws.{some_value}
 use Rattle.rdf_nodes.proofs.Below.{operands_known}
 use Rattle.rdf_nodes.proofs.Holding.{expression_is}

@@ -1,6 +1,6 @@
 use Rattle.std.proofs.Common.{List, ℕ, subst, sym}
 use Rattle.rdf_graph.specs.declared.term.Term.TheVariants.{Blank}
-use Rattle.rdf_nodes.specs.Numbers.{DenotesOwn}
+use Rattle.rdf_meaning.specs.Denotation.{DenotesOwn}
 use Rattle.rdf_nodes.proofs.source.Source.form.Goals as goal
 
 pub returns-clause-none : goal.returns-clause-none

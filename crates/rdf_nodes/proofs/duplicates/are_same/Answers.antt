@@ -1,1 +1,0 @@
-use Rattle.rdf_nodes.proofs.duplicates.are_same.Goals as goal
