@@ -84,6 +84,8 @@ show_doublings doublings
 show_doublings complements
 show_counts tails '1000 2000 4000 8000' ttl translate --to fss
 show_counts disjoint '10000 20000 40000' ttl translate --to fss
+show_counts disjoint_unions '1000 2000 4000 8000' ttl translate --to fss
+show_counts noted_disjoint '1000 2000 4000 8000' ttl translate --to fss
 show_counts fronts '500 1000 2000' ofn translate --to fss
 show_counts fronts '500 1000 2000' ofn translate --to ttl
 show_counts bases '10000 20000 40000' ttl show

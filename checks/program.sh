@@ -129,6 +129,8 @@ chain $((2 ** 24 - 4)) >heavy.ofn
 chain $((2 ** 24 - 3)) >heavier.ofn
 size=$(stat -c %s heavier.ofn)
 { head -c $((size - 2)) heavier.ofn && printf ' :p))'; } >crooked.ofn
+# 4,200 axioms over one list of as many classes, half a megabyte.
+"$top/tools/make_hostile.py" disjoint_unions 4200 >shared.ttl
 mkdir folder.ofn
 cp m.ofn secret.ofn && chmod 000 secret.ofn
 mkfifo pipe.ofn
@@ -244,6 +246,8 @@ weight $((2 ** 24))
 ' show heavy.ofn
 call 'a weight of 2^24 + 1' 5 '' 'limit: Weight: heavier.ofn
 ' translate --to fss heavier.ofn
+call 'axioms over one list, with more than 2^24 kids together' 5 '' 'limit: Weight: shared.ttl
+' show shared.ttl
 call 'a weight of 2^24 + 1, and a name too many behind it' 3 '' "crooked.ofn: item at $(head -c 200 heavier.ofn | grep -b -o SubObjectPropertyOf | cut -d: -f1): NotHere at $((size - 1))
 " show crooked.ofn
 call '2^27 + 1 bytes' 5 '' 'limit: DocumentBytes: big.ofn

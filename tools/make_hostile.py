@@ -79,6 +79,22 @@ def disjoint(count):
     yield from cells(count)
 
 
+def disjoint_unions(count):
+    """So many axioms that differ, each over one list of so many classes: they say the square of what they take."""
+    yield HEAD
+    for i in range(1, count + 1):
+        yield f":B{i} a owl:Class ; owl:disjointUnionOf _:l1 .\n"
+    yield from cells(count)
+
+
+def noted_disjoint(count):
+    """The same, by nodes with annotations that differ."""
+    yield HEAD
+    for i in range(1, count + 1):
+        yield f'_:d{i} a owl:AllDisjointClasses ; owl:members _:l1 ; rdfs:comment "{i}" .\n'
+    yield from cells(count)
+
+
 def fronts(count):
     """Prefixes whose IRIs are fronts of each other, and names that begin with all of them and end with a slash."""
     for i in range(1, count + 1):
@@ -121,7 +137,7 @@ SHAPES = {
     shape.__name__: shape
     for shape in (
         letters, letters_and_dots, words_and_dots, words, name_and_dots,
-        doublings, complements, tails, disjoint, fronts, bases, repeats, open_list,
+        doublings, complements, tails, disjoint, disjoint_unions, noted_disjoint, fronts, bases, repeats, open_list,
     )
 }
 

@@ -12,9 +12,11 @@ mod sorts;
 mod source;
 mod typed;
 
-pub use lists::is_met;
-pub use shared::shares_lists;
+pub use listed::Listed;
+pub use lists::{is_met, meets};
+pub use shared::{lists_of, shares_lists};
 pub use sorts::{
     has_kind, is_declared, is_entity, is_of_sort, may_be_declared, names_tree, role_of_term,
 };
-pub use typed::{is_structural, untyped, untyped_with_lists};
+pub use source::Source;
+pub use typed::{is_structural, untyped, untyped_in};

@@ -38,7 +38,8 @@ pub fn is_met(graph: &Graph, roles: &Roles, kinds: &Kinds, want: Want, term: &Te
     meets(&source, want, term)
 }
 
-/// Whether the term is what is wanted.
+/// Whether the term is what is wanted, in time that grows with the graph where what is
+/// known of its lists is kept.
 pub fn meets(source: &Source, want: Want, term: &Term) -> bool
     requires source { IsSource source.now }
     ensures { IsTrue result ↔ IsMet source.now.graph.now source.now.kinds.now want term.now }

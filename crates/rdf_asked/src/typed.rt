@@ -1,6 +1,6 @@
 //! Whether the triples of nodes name what they may.
 
-ghost use Rattle.std.specs.Prelude.{◌≡◌, ◌↔◌, IfOk, IfSome, IsNone, IsTrue, List, Some, option_map};
+ghost use Rattle.std.specs.Prelude.{◌≡◌, ◌↔◌, IfSome, IsNone, IsTrue, List, Some, option_map};
 ghost use Rattle.std.specs.Option.{is_some};
 ghost use Rattle.rdf_meaning.specs.Denotation.{literal_leaf};
 ghost use Rattle.owl_kind.specs.Kinds.{Entity};
@@ -16,16 +16,13 @@ ghost use Rattle.rdf_roles.specs.Tables.{IsTableOf};
 
 use crate::asked::is_asked_for;
 use crate::nodes::is_typed_node;
-use crate::shared::lists_of;
 use crate::sorts::role_of_term;
 use crate::source::Source;
-use owl_characters::NoMemory;
 use owl_kind::Kinds;
 use rdf_graph::{Graph, Term, Triple};
 use rdf_meaning::Role;
 use rdf_roles::Roles;
 use rdf_rows::{NodeWords, is_own};
-use std::alloc::Global;
 
 /// The place of the first triple of a node that names what it may not: an object
 /// that is not what the node's row asks for there, by the kinds of IRIs and the
@@ -45,31 +42,9 @@ pub fn untyped(graph: &Graph, roles: &Roles, kinds: &Kinds) -> Option<usize>
     })
 }
 
-/// The same, in time that grows with the graph: of lists that are named twice is kept
-/// what is known of them.
-pub fn untyped_with_lists(
-    alloc: Global,
-    graph: &Graph,
-    roles: &Roles,
-    kinds: &Kinds,
-) -> Result<Option<usize>, NoMemory>
-    requires table { IsTableOf graph.now roles.now }
-    requires formed { AreNodesFormed graph.now }
-    ensures some { IfOk result (λ found. IfSome found (IsFirstUntyped graph.now kinds.now)) }
-    ensures none { IfOk result (λ found. IsNone found
-        → (t : Triple) → IsUntypedPart graph.now kinds.now t → ⊥) }
-{
-    let lists = lists_of(alloc, graph, roles, kinds)?;
-    Ok(untyped_in(&Source {
-        graph,
-        roles,
-        kinds,
-        lists: &lists,
-    }))
-}
-
-/// The place of the first triple of a node that names what it may not.
-fn untyped_in(source: &Source) -> Option<usize>
+/// The same, in time that grows with the graph where what is known of its lists is
+/// kept.
+pub fn untyped_in(source: &Source) -> Option<usize>
     requires source { IsSource source.now }
     ensures some { IfSome result (IsFirstUntyped source.now.graph.now source.now.kinds.now) }
     ensures none { IsNone result → (t : Triple)

@@ -14,6 +14,7 @@ use owl_assembly::assemble;
 use owl_atom::Prefixes;
 use owl_doc::{Doc, Head};
 use owl_kind::Kinds;
+use rdf_asked::lists_of;
 use rdf_graph::Graph;
 use rdf_roles::Roles;
 use rdf_scans::{Reading, head_of, only_header};
@@ -72,10 +73,12 @@ pub fn reverse(
     let header = only_header(graph.triples())?;
     let head = head_of(alloc, graph, header)?;
     let roles = Roles::of(alloc, graph)?;
+    let lists = lists_of(alloc, graph, &roles, kinds)?;
     let reading = Reading {
         graph,
         roles: &roles,
         kinds,
+        lists: &lists,
         header,
     };
     check_reading(alloc, &reading)?;

@@ -12,7 +12,7 @@ ghost use Rattle.rdf_reverse.specs.Reverse.{IsFoundBy, scanning, typing};
 use crate::fault::ReverseFault;
 use owl_characters::NoMemory;
 use owl_kind::Kinds;
-use rdf_asked::untyped_with_lists;
+use rdf_asked::{Source, untyped_in};
 use rdf_graph::Graph;
 use rdf_scans::{Reading, first_of_nothing, first_orphan, first_reserved, first_untyped_statement};
 use std::alloc::Global;
@@ -66,8 +66,13 @@ fn check_types(alloc: Global, reading: &Reading) -> Result<(), ReverseFault>
     ensures fault { IfErr result (
         IsFoundBy reading.now.graph.now reading.now.kinds.now typing) }
 {
-    let untyped = untyped_with_lists(alloc, reading.graph, reading.roles, reading.kinds)?;
-    if let Some(place) = untyped {
+    let source = Source {
+        graph: reading.graph,
+        roles: reading.roles,
+        kinds: reading.kinds,
+        lists: reading.lists,
+    };
+    if let Some(place) = untyped_in(&source) {
         return Err(untyped_at(alloc, reading.graph, place));
     }
     match first_untyped_statement(reading) {

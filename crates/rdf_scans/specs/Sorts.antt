@@ -11,17 +11,19 @@ use Rattle.rdf_meaning.specs.declared.row.Site.TheVariants.{OtherLink}
 use Rattle.rdf_meaning.specs.Kinds.{has_kind}
 use Rattle.rdf_meaning.specs.Nodes.{carries_some, is_role, is_same, is_structural, role_of}
 use Rattle.rdf_meaning.specs.Statements.{header_words, headers, is_annotation_triple, is_axiom_predicate, is_header_triple}
+use Rattle.rdf_asked.specs.Listed.{AreKnownLists}
 use Rattle.rdf_roles.specs.Refusals.{AreNodesFormed}
 use Rattle.rdf_roles.specs.Tables.{IsTableOf}
 use Rattle.rdf_scans.specs.declared.reading.Reading.{Reading}
 use Rattle.rdf_scans.specs.declared.sorts.TripleSort.{TripleSort}
 use Rattle.rdf_scans.specs.declared.sorts.TripleSort.TheVariants.{Structural, Header, Annotation, Main}
 
--- the header is the graph's only one, the roles are those of its nodes, and each of these has its form
+-- the header is the graph's only one, the roles and the lists are those of its nodes, and each of these has its form
 pub record IsReading (reading : Reading) : Type 0 where
   pub one_header : headers reading.graph.now ≡ reading.header.now ∷ []
   pub table : IsTableOf reading.graph.now reading.roles.now
   pub formed : AreNodesFormed reading.graph.now
+  pub lists : AreKnownLists reading.graph.now reading.kinds.now reading.lists.now
 
 abbrev pub sort_of : List Triple → List Entity → Term → Triple → TripleSort
 sort_of g k header t =

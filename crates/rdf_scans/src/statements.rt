@@ -11,7 +11,7 @@ ghost use Rattle.rdf_scans.specs.Statements.{IsAxiomBy, IsMetBy, IsMetIn};
 
 use crate::reading::Reading;
 use owl_kind::Kinds;
-use rdf_asked::{is_entity, names_tree};
+use rdf_asked::{Source, is_entity, meets, names_tree};
 use rdf_graph::{Term, Triple};
 use rdf_meaning::{Part, Place, Row, Site, Want, axiom_rows};
 use rdf_rows::{is_nil_iri, site_of};
@@ -87,7 +87,13 @@ fn is_met(reading: &Reading, want: Want, term: &Term) -> bool
     requires { IsReading reading.now }
     ensures { IsTrue result ↔ IsMet reading.now.graph.now reading.now.kinds.now want term.now }
 {
-    rdf_asked::is_met(reading.graph, reading.roles, reading.kinds, want, term)
+    let source = Source {
+        graph: reading.graph,
+        roles: reading.roles,
+        kinds: reading.kinds,
+        lists: reading.lists,
+    };
+    meets(&source, want, term)
 }
 
 /// Whether the IRI is what is wanted.

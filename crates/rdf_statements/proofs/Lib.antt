@@ -1,4 +1,5 @@
 pub mod Adding
+pub mod Counting
 pub mod Faults
 pub mod Finding
 pub mod FormLaws

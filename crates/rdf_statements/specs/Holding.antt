@@ -10,7 +10,7 @@ use Rattle.rdf_meaning.specs.declared.role.Role.TheVariants as role
 use Rattle.rdf_meaning.specs.Nodes.{is_role, is_structural, nodes_of, role_of}
 use Rattle.rdf_meaning.specs.Statements.{Annotates, AreAxioms, AreNodeAxioms, axioms_of, is_annotation_triple, is_header_triple, main_triples, notes, notes_of}
 use Rattle.rdf_roles.specs.Tables.{RoleTable}
-use Rattle.tree_stores.specs.Stores.{StandFor}
+use Rattle.tree_stores.specs.Stores.{HaveKids, StandFor}
 use Rattle.tree_stores.specs.declared.fault.TreeFault.{TreeFault}
 use Rattle.rdf_annotations.specs.Annotations.{AreSets, IsFaultOfSome}
 use Rattle.rdf_annotations.specs.Held.{IsAnnotated}
@@ -18,7 +18,7 @@ use Rattle.rdf_nodes.specs.Numbers.{AreKnown, AreNumbered}
 use Rattle.rdf_statements.specs.declared.form.AxiomForm.{AxiomForm}
 use Rattle.rdf_statements.specs.declared.form.Kid.{Kid}
 use Rattle.rdf_statements.specs.declared.known.Known.{Known}
-use Rattle.rdf_statements.specs.GraphTrees.{AreStatements, IsHeldWithin, IsTreeOf, StatesAxioms}
+use Rattle.rdf_statements.specs.GraphTrees.{AreStatements, IsHeldWithin, IsStatementFault, IsTreeOf, StatesAxioms}
 use Rattle.rdf_statements.specs.Forms.{AllKidsMean, KidMeans}
 
 -- one of these trees is too deep or too heavy
@@ -109,3 +109,15 @@ pub record IsKnown {N : Type 0} (Stands : Tree → N → Type 0) (known : Known 
   pub numbered : AreNumbered known.annotated.reading.graph.now known.annotated.reading.kinds.now known.annotated.reading.roles.now Stands known.ids.now
   pub all : AreKnown known.annotated.reading.graph.now known.annotated.reading.roles.now known.ids.now
   pub sets : AreSets Stands known.annotated.reading.graph.now known.annotated.reading.kinds.now known.annotated.reading.roles.now known.sets.now.of_nodes.items known.sets.now.empty
+
+-- a tree that the graph says
+abbrev pub IsKnownTree : {N : Type 0} → Known N → Tree → Type 0
+IsKnownTree known = IsTreeOf known.annotated.reading.graph.now known.annotated.reading.kinds.now known.annotated.reading.header.now
+
+-- different trees that it says, and that stand, have at least so many kids together
+abbrev pub HaveKnownKids : {N : Type 0} → (Tree → N → Type 0) → Known N → ℕ → Type 0
+HaveKnownKids Stands known sum = HaveKids (IsKnownTree known) Stands sum
+
+-- some tree that it says is too large, or such trees have too many kids together
+abbrev pub IsKnownFault : {H N : Type 0} → Known N → TreeFault H → Type 0
+IsKnownFault known fault = IsStatementFault known.annotated.reading.graph.now known.annotated.reading.kinds.now known.annotated.reading.header.now fault

@@ -13,6 +13,7 @@ mod known;
 mod laws;
 mod nodes;
 mod places;
+mod stated;
 mod statements;
 mod triples;
 

@@ -9,35 +9,37 @@ ghost use Rattle.rdf_meaning.specs.Statements.{AreNodeAxioms, IsNotedTree};
 ghost use Rattle.rdf_roles.specs.Tables.{blank_nodes};
 ghost use Rattle.rdf_statements.specs.BareAxioms.{AreBareAxioms};
 ghost use Rattle.rdf_statements.specs.GraphTrees.{IsTreeOf};
-ghost use Rattle.rdf_statements.specs.Holding.{Adds, IsKnown, IsOnlySet, StandForSome, main_nodes};
+ghost use Rattle.rdf_statements.specs.Holding.{Adds, HaveKnownKids, IsKnown, IsKnownFault, IsOnlySet, StandForSome, main_nodes};
 ghost use Rattle.tree_stores.specs.Stores.{Keeps};
 
 use crate::bare::{BareAxioms, hold_node_once};
 use crate::forms::form_of_node;
 use crate::hold_forms::hold_form;
 use crate::known::Known;
+use crate::stated::StatedAxioms;
 use owl_characters::NoMemory;
 use rdf_graph::Term;
 use rdf_meaning::Role;
 use rdf_nodes::Source;
 use rdf_terms::Label;
 use std::alloc::{AllocError, Global};
-use tree_stores::{TreeFault, TreeStore};
+use tree_stores::{TreeFault, TreeStore, add_first_kids};
 
 /// Adds the axioms that nodes of the graph stand for.
 pub(crate) fn add_nodes<S: TreeStore>(
     known: &Known<S::Number>,
     store: &mut S,
-    axioms: &mut Vec<S::Number>,
+    axioms: &mut StatedAxioms<S::Number>,
 ) -> Result<(), TreeFault<S::Heavy>>
-    requires { IsKnown (S.stands store.old) known.now }
+    requires known { IsKnown (S.stands store.old) known.now }
+    requires kids { HaveKnownKids (S.stands store.old) known.now axioms.old.kids }
     ensures added { OnOk result (Adds (S.stands store.old) (S.stands store.new)
         (AreNodeAxioms known.now.annotated.reading.graph.now
         known.now.annotated.reading.kinds.now
         (nodes_of known.now.annotated.reading.graph.now role.Main))
-        axioms.old.items axioms.new.items) }
-    ensures fault { IfErr result (IsFaultOfSome (IsTreeOf known.now.annotated.reading.graph.now
-        known.now.annotated.reading.kinds.now known.now.annotated.reading.header.now)) }
+        axioms.old.numbers.items axioms.new.numbers.items) }
+    ensures kids { OnOk result (HaveKnownKids (S.stands store.new) known.now axioms.new.kids) }
+    ensures fault { IfErr result (IsKnownFault known.now) }
     ensures kept { Keeps (S.stands store.old) (S.stands store.new) }
 {
     let reading = known.annotated.reading;
@@ -59,25 +61,26 @@ fn add_node<S: TreeStore>(
     store: &mut S,
     bare: &mut BareAxioms<S::Number>,
     number: usize,
-    axioms: &mut Vec<S::Number>,
+    axioms: &mut StatedAxioms<S::Number>,
 ) -> Result<(), TreeFault<S::Heavy>>
     requires known { IsKnown (S.stands store.old) known.now }
     requires bare { AreBareAxioms known.now.annotated.reading.graph.now
         known.now.annotated.reading.kinds.now known.now.annotated.reading.roles.now
         (S.stands store.old) bare.old.numbers.items }
     requires number { number < length known.now.annotated.reading.roles.now.nodes }
+    requires kids { HaveKnownKids (S.stands store.old) known.now axioms.old.kids }
     ensures added { (label : List ℕ)
         → slice_get (blank_nodes known.now.annotated.reading.graph.now) number ≡ Some label →
         OnOk result (Adds (S.stands store.old) (S.stands store.new)
         (AreNodeAxioms known.now.annotated.reading.graph.now
         known.now.annotated.reading.kinds.now
         (main_nodes known.now.annotated.reading.graph.now (label ∷ [])))
-        axioms.old.items axioms.new.items) }
+        axioms.old.numbers.items axioms.new.numbers.items) }
     ensures bare { OnOk result (AreBareAxioms known.now.annotated.reading.graph.now
         known.now.annotated.reading.kinds.now known.now.annotated.reading.roles.now
         (S.stands store.new) bare.new.numbers.items) }
-    ensures fault { IfErr result (IsFaultOfSome (IsTreeOf known.now.annotated.reading.graph.now
-        known.now.annotated.reading.kinds.now known.now.annotated.reading.header.now)) }
+    ensures kids { OnOk result (HaveKnownKids (S.stands store.new) known.now axioms.new.kids) }
+    ensures fault { IfErr result (IsKnownFault known.now) }
     ensures kept { Keeps (S.stands store.old) (S.stands store.new) }
 {
     let roles = known.annotated.reading.roles;
@@ -87,8 +90,10 @@ fn add_node<S: TreeStore>(
     if !is_main(roles.role(label)) {
         return Ok(());
     }
+    let before = store.count();
     let mut more = hold_node_once(known, store, bare, number, label)?;
-    axioms.append(&mut more)?;
+    axioms.kids = add_first_kids(store, before, &more, axioms.kids)?;
+    axioms.numbers.append(&mut more)?;
     Ok(())
 }
 

@@ -2,17 +2,18 @@
 
 ghost use Rattle.std.specs.Prelude.{IfErr, IfOk, OnOk};
 ghost use Rattle.owl_tree.specs.Trees.{Tree};
-ghost use Rattle.rdf_annotations.specs.Annotations.{AreSets, IsFaultOfSome};
+ghost use Rattle.rdf_annotations.specs.Annotations.{AreSets};
 ghost use Rattle.rdf_annotations.specs.Held.{AreTypedNotes, IsAnnotated};
 ghost use Rattle.rdf_meaning.specs.Kinds.{HaveNoClash};
 ghost use Rattle.rdf_nodes.specs.Numbers.{DenoteTrees};
 ghost use Rattle.rdf_scans.specs.Sorts.{IsReading};
 ghost use Rattle.rdf_statements.specs.GraphTrees.{AreStatements, IsHeldWithin, IsStatementFault, IsTreeOf, StatesAxioms};
-ghost use Rattle.rdf_statements.specs.Holding.{HoldAll, IsKnown, StandForAxioms};
+ghost use Rattle.rdf_statements.specs.Holding.{HoldAll, IsKnown, IsKnownFault, StandForAxioms};
 ghost use Rattle.tree_stores.specs.Stores.{Keeps};
 
 use crate::known::Known;
 use crate::nodes::add_nodes;
+use crate::stated::StatedAxioms;
 use crate::triples::add_triples;
 use rdf_annotations::{Annotated, Noters, Sets};
 use rdf_nodes::Source;
@@ -135,8 +136,7 @@ fn hold_known<S: TreeStore>(
     ensures stated { IfOk result (λ said. AreStatements (S.stands store.new)
         known.now.annotated.reading.graph.now known.now.annotated.reading.kinds.now
         known.now.annotated.reading.header.now said.annotations.items said.axioms.items) }
-    ensures fault { IfErr result (IsFaultOfSome (IsTreeOf known.now.annotated.reading.graph.now
-        known.now.annotated.reading.kinds.now known.now.annotated.reading.header.now)) }
+    ensures fault { IfErr result (IsKnownFault known.now) }
     ensures kept { Keeps (S.stands store.old) (S.stands store.new) }
 {
     let header = known.annotated.reading.header;
@@ -158,12 +158,14 @@ fn hold_all_axioms<S: TreeStore>(
     ensures held { IfOk result (λ axioms. StandForAxioms (S.stands store.new)
         known.now.annotated.reading.graph.now known.now.annotated.reading.kinds.now
         known.now.annotated.reading.header.now axioms.items) }
-    ensures fault { IfErr result (IsFaultOfSome (IsTreeOf known.now.annotated.reading.graph.now
-        known.now.annotated.reading.kinds.now known.now.annotated.reading.header.now)) }
+    ensures fault { IfErr result (IsKnownFault known.now) }
     ensures kept { Keeps (S.stands store.old) (S.stands store.new) }
 {
-    let mut axioms = Vec::new(known.annotated.alloc);
+    let mut axioms = StatedAxioms {
+        numbers: Vec::new(known.annotated.alloc),
+        kids: 0,
+    };
     add_triples(known, store, &mut axioms)?;
     add_nodes(known, store, &mut axioms)?;
-    Ok(axioms)
+    Ok(axioms.numbers)
 }

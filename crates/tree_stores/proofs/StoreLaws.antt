@@ -1,5 +1,5 @@
 -- Numbers that stand for trees, as a store takes more.
-use Rattle.std.specs.Prelude.{◌≡◌, ◌≤◌, ℕ, List, [], ◌∷◌, ◌++◌}
+use Rattle.std.specs.Prelude.{◌≡◌, ◌≤◌, ℕ, List, [], ◌∷◌, ◌++◌, get_or, length}
 use Rattle.std.proofs.Common.{arith, refl, sym, subst}
 use Rattle.owl_arena.specs.Shared.{deepest, heaviest}
 use Rattle.owl_tree.proofs.CanonicalLaws.{canonical_weight}
@@ -37,6 +37,15 @@ module _ {N : Type 0} where
 
   pub are_standing : (Stands : Tree → N → Type 0) (ts : List Tree) (ns : List N) → StandFor Stands ts ns → AreStanding Stands ns
   are_standing Stands ts ns h = record { trees = ts; stand = h }
+
+  -- the first of numbers that stand stands alone
+  pub first_stands : (Stands : Tree → N → Type 0) (ns : List N) (n : N) → 1 ≤ length ns → n ≡ get_or ns 0 n → AreStanding Stands ns → AreStanding Stands (n ∷ [])
+  first_stands Stands [] n some at h = absurd (omega (arith, some))
+  first_stands Stands (m ∷ ms) n some at h = first h.trees h.stand
+    where
+      first : (ts : List Tree) → StandFor Stands ts (m ∷ ms) → AreStanding Stands (n ∷ [])
+      first [] stand = absurd stand
+      first (t ∷ ts) stand = record { trees = t ∷ []; stand = (subst (Stands t) (sym at) stand.0, tt) }
 
 -- what has a depth is not too deep
 pub shallow_tree : (t : Tree) (d : ℕ) → HasDepth t d → depth t ≤ deepest

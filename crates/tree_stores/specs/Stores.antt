@@ -99,3 +99,15 @@ pub record HaveManyKids (P : Tree → Type 0) : Type 0 where
   pub apart : AreApart (map canonical trees)
   pub each : AllByRecursion P trees
   pub many : heaviest < kid_sum trees
+
+-- the sum, or the sum and the kids of the first of the trees, which is new
+abbrev pub IsSumWithFirst : {N : Type 0} → (Tree → N → Type 0) → List Tree → ℕ → ℕ → Type 0
+IsSumWithFirst Old [] sum other = other ≡ sum
+IsSumWithFirst Old (t ∷ ts) sum other = IsSumWith Old t sum other
+
+-- With the kids of the first of the trees, which is new, the sum is too large.
+abbrev pub IsFirstFault : {H N : Type 0} → (Tree → N → Type 0) → List Tree → ℕ → TreeFault H → Type 0
+IsFirstFault Old [] sum fault = ⊥
+IsFirstFault Old (t ∷ ts) sum TooDeep = ⊥
+IsFirstFault Old (t ∷ ts) sum (TooHeavy h) = PassesWith Old t sum
+IsFirstFault Old (t ∷ ts) sum Memory = ⊥

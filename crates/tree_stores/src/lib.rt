@@ -9,4 +9,4 @@ mod store;
 pub use arenas::fits;
 pub use depths::Depths;
 pub use fault::TreeFault;
-pub use store::{TreeStore, add_kids};
+pub use store::{TreeStore, add_first_kids, add_kids};

@@ -2,7 +2,7 @@
 
 ghost use Rattle.std.specs.Prelude.{◌≡◌, ◌∷◌, [], IfErr, IfOk, IfSome, List, ℕ};
 ghost use Rattle.owl_tree.specs.Trees.{Tree, kids_of, leaf, node};
-ghost use Rattle.tree_stores.specs.Stores.{AreStanding, IsNew, IsSumWith, IsTreeFault, Keeps, PassesWith, StandFor};
+ghost use Rattle.tree_stores.specs.Stores.{AreStanding, IsFirstFault, IsNew, IsSumWith, IsSumWithFirst, IsTreeFault, Keeps, PassesWith, StandFor};
 
 use crate::fault::TreeFault;
 use owl_arena::HEAVIEST;
@@ -82,5 +82,33 @@ pub fn add_kids<S: TreeStore>(
             }
         }
         None => Ok(sum),
+    }
+}
+
+/// The sum with the kids of the tree that the first of the numbers stands for, where
+/// that is none of the first so many trees of the store; `TooHeavy` where that is more
+/// than 2^24.
+///
+/// The others are left out, since two of them may stand for the same tree.
+pub fn add_first_kids<S: TreeStore>(
+    store: &S,
+    before: usize,
+    numbers: &[S::Number],
+    sum: u64,
+) -> Result<u64, TreeFault<S::Heavy>>
+    requires { AreStanding (S.stands store.now) numbers.now }
+    ensures sum { (old : S) (ts : List Tree) → S.size old ≡ before
+        → Keeps (S.stands old) (S.stands store.now) → StandFor (S.stands store.now) ts numbers.now →
+        IfOk result (IsSumWithFirst (S.stands old) ts sum) }
+    ensures fault { (old : S) (ts : List Tree) → S.size old ≡ before
+        → Keeps (S.stands old) (S.stands store.now) → StandFor (S.stands store.now) ts numbers.now →
+        IfErr result (IsFirstFault (S.stands old) ts sum) }
+{
+    match numbers {
+        [first, ..] => match add_kids(store, before, *first, sum) {
+            Ok(more) => Ok(more),
+            Err(heavy) => Err(TreeFault::TooHeavy(heavy)),
+        },
+        [] => Ok(sum),
     }
 }

@@ -12,7 +12,7 @@ returns-in-Some-clause-fault c =
     let k = c.args.reading.now.kinds.now in
     let header = c.args.reading.now.header.now in
     let one = c.requires.one_header in
-    let first = subst (λ o. IfSome o (IsFirstUntyped g k)) c.in-Some.is c.in_ok-untyped.ensures.some in
+    let first = subst (λ o. IfSome o (IsFirstUntyped g k)) c.in-Some.is c.untyped_in.ensures.some in
     elim c.untyped_at.ensures [
       | inl memory ↦ inl memory
       | inr there ↦

@@ -1,7 +1,7 @@
 use Rattle.owl_characters.proofs.ResultLaws.{passed}
 use Rattle.rdf_annotations.proofs.AnnotationLaws.{all_have_sets}
 use Rattle.rdf_statements.proofs.Adding.{known_still}
-use Rattle.rdf_statements.proofs.Stating.{noted_fault, statements_are}
+use Rattle.rdf_statements.proofs.Stating.{noted_fault, statements_are, tree_fault}
 use Rattle.rdf_statements.proofs.statements.hold_known.Goals as goal
 
 pub hold_annotations-requires-clause-known : goal.hold_annotations-requires-clause-known
@@ -12,7 +12,9 @@ hold_annotations-requires-clause-known g c = λ t _ _ _.
 pub returns-in_err-annotations-clause-fault : goal.returns-in_err-annotations-clause-fault
 returns-in_err-annotations-clause-fault g c =
     let reading = c.args.known.now.annotated.reading in
-    passed c.from_residual.result c.in_err-annotations.field-0.0 _ c.from_residual.ensures.1 (noted_fault reading.graph.now reading.kinds.now reading.header.now c.in_err-annotations.field-0.0 c.in_err-annotations.ensures.fault)
+    passed c.from_residual.result c.in_err-annotations.field-0.0 _ c.from_residual.ensures.1
+    (tree_fault reading.graph.now reading.kinds.now reading.header.now c.in_err-annotations.field-0.0
+    (noted_fault reading.graph.now reading.kinds.now reading.header.now c.in_err-annotations.field-0.0 c.in_err-annotations.ensures.fault))
 
 pub hold_all_axioms-requires : goal.hold_all_axioms-requires
 hold_all_axioms-requires g c =

@@ -1,8 +1,8 @@
 use Rattle.std.specs.Prelude.{true}
 use Rattle.rdf_statements.specs.declared.known.Known.{Known}
 use Rattle.owl_characters.proofs.ResultLaws.{passed}
-use Rattle.rdf_statements.proofs.HoldingKids.{err_more, ok_more}
-use Rattle.rdf_statements.proofs.Stating.{all_stated, known_with, node_fault, tree_fault}
+use Rattle.rdf_statements.proofs.HoldingKids.{ok_more}
+use Rattle.rdf_statements.proofs.Stating.{all_stated, known_with, node_fault}
 use Rattle.rdf_statements.proofs.statements.hold_noted.Goals as goal
 
 pub hold_known-requires : goal.hold_known-requires
@@ -28,8 +28,3 @@ pub returns-in_err-ids-clause-fault : goal.returns-in_err-ids-clause-fault
 returns-in_err-ids-clause-fault g c =
     let reading = c.args.annotated.now.reading in
     passed c.from_residual.result c.in_err-ids.field-0.0 _ c.from_residual.ensures.1 (node_fault reading.graph.now reading.kinds.now reading.header.now true c.in_err-ids.field-0.0 c.in_err-ids.ensures.fault)
-
-pub returns-clause-fault : goal.returns-clause-fault
-returns-clause-fault g c =
-    let reading = c.args.annotated.now.reading in
-    err_more (tree_fault reading.graph.now reading.kinds.now reading.header.now) c.hold_known.result c.hold_known.ensures.fault
