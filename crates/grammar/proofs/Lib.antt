@@ -1,3 +1,4 @@
+pub mod AlikeLaws
 pub mod ClassSetLaws
 pub mod FeedingLaws
 pub mod GrammarLaws

@@ -1,5 +1,5 @@
 -- Grammars by names, as a person reads them, and the tables of numbers that stand for them.
-use Rattle.std.specs.Prelude.{◌≡◌, ℕ, ◌+◌, List, [], ◌∷◌, map}
+use Rattle.std.specs.Prelude.{◌≡◌, ℕ, ◌+◌, false, List, [], ◌∷◌, map}
 use Rattle.grammar.specs.Grammars.{Entry, Row}
 use Rattle.grammar.specs.declared.symbol.Symbol.{Symbol}
 use Rattle.grammar.specs.declared.symbol.Symbol.TheVariants.{Act, Need, Rule}
@@ -30,6 +30,22 @@ numbered_alternatives page r = map (map (numbered page)) (page.alternatives r)
 -- the alternatives of each rule of a table
 abbrev pub table_lists : List Entry → List (List (List Symbol))
 table_lists g = map (λ (e : Entry). map (λ (row : Row). row.symbols) e.rows) g
+
+-- a rule with these alternatives, and no classes at which they are taken
+abbrev pub plain_entry : List (List Symbol) → Entry
+plain_entry lists = record {
+  rows = map (λ (symbols : List Symbol). record { mask = 0; symbols = symbols }) lists;
+  first = 0;
+  follow = 0;
+  empty = false;
+  cost = 0;
+  rank = 0;
+}
+
+-- A page as a list of its rules, the first of which has the number 0. From it the same derives as from each table that stands
+-- for the page.
+abbrev pub grammar_of : {C R A : Type 0} → Page C R A → List Entry
+grammar_of {R = R} page = map (λ (r : R). plain_entry (numbered_alternatives page r)) page.rules
 
 -- the numbers from one on, as many as there are items
 abbrev pub numbers_from : {X : Type 0} → ℕ → List X → List ℕ
