@@ -4,6 +4,7 @@ mod Reporting
 mod Streams
 mod Taking
 mod Tokens
+pub mod AlikeLaws
 pub mod FedLaws
 pub mod OneDefectLaws
 pub mod SameStepsLaws
