@@ -10,8 +10,8 @@ ghost use Rattle.owl_tokens.specs.declared.token.Token as lexeme;
 ghost use Rattle.fss_grammar.specs.Table.{functional};
 ghost use Rattle.fss_defects.specs.Faults.{Bars};
 ghost use Rattle.fss_acts.specs.Assembling.{Did, Made};
-ghost use Rattle.fss_defects.specs.OneFaultLaws.{has_document};
 ghost use Rattle.fss_defects.specs.Rules.{functional_rules};
+ghost use Rattle.fss_defects.specs.StartLaws.{has_document};
 
 use crate::assembler::Assembler;
 use owl_reader::{Mark, Syntax, TokenFault};

@@ -7,6 +7,7 @@ pub mod Fronts
 pub mod Growths
 pub mod Names
 pub mod Needs
+pub mod OneFaultLaws
 pub mod Refusals
 pub mod Unknown
 pub mod Weights

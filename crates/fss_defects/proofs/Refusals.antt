@@ -11,6 +11,7 @@ use Rattle.grammar.specs.declared.symbol.Symbol.TheVariants.{Rule}
 use Rattle.owl_atom.specs.declared.prefixes.Prefix.{Prefix}
 use Rattle.owl_lexer.specs.declared.fault.LexFault.{LexFault}
 use Rattle.owl_lexer.specs.declared.placed.Placed.{Placed}
+use Rattle.owl_reader.proofs.AlikeLaws.{defect_alike}
 use Rattle.owl_reader.specs.Defects.{HasDefect, IsRefused}
 use Rattle.owl_reader.specs.Defects.HasDefect.{at_end, at_token, no_token}
 use Rattle.owl_reader.specs.Defects.IsFirstDefect.{beyond, too_long, within}
@@ -29,6 +30,7 @@ use Rattle.fss_grammar.specs.Doing.{Does}
 use Rattle.fss_grammar.specs.DoingLaws.{EndTaken}
 use Rattle.fss_grammar.specs.Making.{Document, Maker, beginning, next_token}
 use Rattle.fss_grammar.specs.Meaning.{Events, between}
+use Rattle.fss_grammar.proofs.PageLaws.{page_to_table}
 use Rattle.fss_grammar.specs.Table.{functional}
 use Rattle.fss_defects.proofs.DocumentLaws.{SplitOneWay, document_followed, is_predictive, limits_alike, spelled_is_done}
 use Rattle.fss_defects.specs.Faults.{Bars, Told}
@@ -189,6 +191,7 @@ none_has_defect split bytes fault p o h (no_token steps lexing splits begin is) 
     one_fault lexing (split bytes (tokens_in steps) h.placed (Some lexing) None splits h.splits).1
 
 pub defect_is_of_none : SplitOneWay → (bytes : List ℕ) (fault : ReadFault) (p : List Prefix) (o : Ontology) → IsFirstDefect bytes fault → ReadsFunctional bytes p o → ⊥
-defect_is_of_none split bytes fault p o (within few defect) h = none_has_defect split bytes fault p o h defect
+defect_is_of_none split bytes fault p o (within few defect) h =
+    none_has_defect split bytes fault p o h (defect_alike page_to_table defect)
 defect_is_of_none split bytes fault p o (beyond many defect) h = let few = h.few in omega (arith, many, few)
 defect_is_of_none split bytes fault p o (too_long many is none) h = let few = h.few in omega (arith, many, few)

@@ -1,4 +1,4 @@
 pub mod Faults
 pub mod Rules
 pub mod FirstDefects
-pub mod OneFaultLaws
+pub mod StartLaws

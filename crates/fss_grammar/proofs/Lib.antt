@@ -18,6 +18,7 @@ pub mod GoingLaws
 pub mod OneTableLaws
 pub mod OneWayLaws
 pub mod OutlineLaws
+pub mod PageLaws
 pub mod PageRows
 pub mod PageTable
 pub mod ReadyFeedingLaws

@@ -1,7 +1,8 @@
 -- The grammar of Functional-Style Syntax (Structural Specification, sections 3.7 and 5 to 10; the whole in section 13). What
 -- stands in a construct is told by the row of its tag.
 use Rattle.std.specs.Prelude.{ℕ, zero, suc, Bool, true, false, List, [], ◌∷◌, map, filter, if◌then◌else◌}
-use Rattle.grammar.specs.Pages.{Named, Page}
+use Rattle.grammar.specs.Grammars.{Entry}
+use Rattle.grammar.specs.Pages.{Named, Page, grammar_of}
 use Rattle.grammar.specs.Pages.Named.{action, part, token}
 use Rattle.owl_tree.specs.declared.tag.Tag.{Tag}
 use Rattle.owl_tree.specs.declared.tag.Tag.TheVariants as tag
@@ -220,3 +221,7 @@ page = record {
   alternatives = alternatives;
   rules = rules;
 }
+
+-- the same as a list of rules, from which documents derive
+unfoldable pub functional_page : List Entry
+functional_page = grammar_of page

@@ -7,16 +7,16 @@ use Rattle.owl_tokens.specs.Tokens.{Spells}
 use Rattle.fss_acts.specs.Assembling.{Made}
 use Rattle.fss_defects.specs.Rules.{functional_rules}
 use Rattle.fss_acts.specs.declared.assembler.Assembler.{Assembler}
-use Rattle.fss_grammar.specs.Table.{functional}
+use Rattle.fss_grammar.specs.Page.{functional_page}
 
 -- whatever follows these bytes, it is the first defect
 abbrev pub Refuses : List ℕ → ReadFault → Type 0
-Refuses bytes fault = readings.Refuses Spells functional functional_rules bytes fault
+Refuses bytes fault = readings.Refuses Spells functional_page functional_rules bytes fault
 
 -- the reader was fed these bytes
 abbrev pub HasRead : readings.Reading Assembler → List ℕ → Type 0
-HasRead r bytes = readings.HasRead Spells functional functional_rules Made r bytes
+HasRead r bytes = readings.HasRead Spells functional_page functional_rules Made r bytes
 
 -- no defect at a token that white space follows is left
 abbrev pub TellsEarly : readings.Reading Assembler → Type 0
-TellsEarly r = early.TellsEarly Spells functional functional_rules Made r
+TellsEarly r = early.TellsEarly Spells functional_page functional_rules Made r

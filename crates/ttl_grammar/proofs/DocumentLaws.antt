@@ -1,6 +1,7 @@
 -- Bytes are read to one graph and one table of prefixes, and have one first defect.
 use Rattle.std.proofs.Common.{◌≡◌, ◌≤◌, ℕ, List, [], ◌∷◌, length, None, Ok, Err, Result, sym, ap, ◌∙◌, subst}
 use Rattle.grammar.specs.Derivations.{DerivesOf, Event}
+use Rattle.grammar.proofs.AlikeLaws.{derives_alike}
 use Rattle.grammar.specs.Predictions.{AreFollowed, IsPredictive}
 use Rattle.grammar.proofs.PredictiveLaws.{followed_start, one_way, predictive}
 use Rattle.grammar.specs.declared.symbol.Symbol.TheVariants.{Rule}
@@ -9,6 +10,7 @@ use Rattle.owl_atom.specs.declared.prefixes.Prefix.{Prefix}
 use Rattle.owl_characters.specs.Limit.{most_bytes}
 use Rattle.owl_lexer.proofs.OneWayLaws.{same_splits}
 use Rattle.owl_lexer.specs.Tables.{automaton_of}
+use Rattle.owl_reader.proofs.AlikeLaws.{first_defect_alike}
 use Rattle.owl_reader.proofs.OneDefectLaws as defects
 use Rattle.owl_reader.specs.declared.fault.ReadFault.{ReadFault}
 use Rattle.owl_reader.specs.declared.fault.TokenFault.{TokenFault}
@@ -21,8 +23,10 @@ use Rattle.ttl_tokens.specs.declared.token.Token.{Token}
 use Rattle.ttl_grammar.specs.Classes.{class_of}
 use Rattle.ttl_grammar.specs.Documents.{IsFirstDefect, ReadsTurtle, SpellsTurtle, tokens_of}
 use Rattle.ttl_grammar.specs.Labels.{graph_of}
-use Rattle.ttl_grammar.specs.Rules.{has_document, turtle_rules}
+use Rattle.ttl_grammar.proofs.PageLaws.{page_to_table}
+use Rattle.ttl_grammar.specs.Rules.{turtle_rules}
 use Rattle.ttl_grammar.specs.Runs.{run}
+use Rattle.ttl_grammar.specs.StartLaws.{has_document}
 use Rattle.ttl_grammar.specs.States.{State, namespace_in, start}
 use Rattle.ttl_grammar.specs.Table.{turtle, turtle_is_predictive}
 
@@ -49,7 +53,7 @@ AreAlike p q g h = (g ≡ h) × ((name : List ℕ) → iri_of p name ≡ iri_of 
 
 pub spelled_one_way : (tokens : List Token) (p q : List Prefix) (g h : List Triple) → SpellsTurtle p g tokens → SpellsTurtle q h tokens → AreAlike p q g h
 spelled_one_way tokens p q g h one other =
-    let events = events_one_way tokens one.events other.events one.derives other.derives in
+    let events = events_one_way tokens one.events other.events (derives_alike page_to_table one.derives) (derives_alike page_to_table other.derives) in
     let state = same_state one.events other.events one.state other.state events one.states other.states in (
       one.graph_is ∙ ap (λ (s : State). graph_of s.facts.triples) state ∙ sym other.graph_is,
       λ name. one.namespaces name ∙ ap (λ (s : State). namespace_in s.names.namespaces name) state ∙ sym (other.namespaces name),
@@ -74,4 +78,5 @@ bars_one_way events acts next f h e k = same_fault _ f h e k
 
 pub one_first_defect : (bytes : List ℕ) (fault other : ReadFault) → length bytes ≤ most_bytes → IsFirstDefect bytes fault → IsFirstDefect bytes other → fault ≡ other
 one_first_defect bytes fault other few h k =
-    defects.one_first_defect splits_one_way turtle_is_predictive has_document bars_one_way bytes fault other few h k
+    defects.one_first_defect splits_one_way turtle_is_predictive has_document bars_one_way bytes fault other few
+    (first_defect_alike page_to_table h) (first_defect_alike page_to_table k)

@@ -1,6 +1,7 @@
 pub mod Defects
 pub mod DocumentLaws
 pub mod LabelLaws
+pub mod PageLaws
 pub mod PageTable
 pub mod Refusals
 pub mod RunLaws

@@ -3,12 +3,14 @@ use Rattle.std.proofs.Common.{◌≡◌, ◌≤◌, ℕ, Bool, true, false, List
 use Rattle.std.specs.Prelude.{nat_lt, if◌then◌else◌}
 use Rattle.grammar.specs.Derivations.{DerivesOf, Event}
 use Rattle.grammar.specs.Derivations.Event.{Do, Take}
+use Rattle.grammar.proofs.AlikeLaws.{derives_alike}
 use Rattle.grammar.specs.Lowering as lowering
 use Rattle.grammar.proofs.LoweringLaws.{taken}
 use Rattle.grammar.specs.declared.symbol.Symbol.TheVariants.{Rule}
 use Rattle.owl_atom.specs.declared.prefixes.Prefix.{Prefix}
 use Rattle.owl_lexer.specs.Splitting.{Splits}
 use Rattle.owl_lexer.specs.declared.placed.Placed.{Placed}
+use Rattle.owl_reader.proofs.AlikeLaws.{defect_alike}
 use Rattle.owl_reader.specs.Defects.{NoneBarred}
 use Rattle.owl_reader.specs.Defects.IsFirstDefect.{beyond, too_long, within}
 use Rattle.owl_reader.specs.Readings.{IsRead}
@@ -24,9 +26,11 @@ use Rattle.ttl_grammar.specs.Classes.{class_of}
 use Rattle.ttl_grammar.proofs.DocumentLaws.{is_predictive, splits_one_way}
 use Rattle.ttl_grammar.specs.Documents.{IsFirstDefect, ReadsTurtle, tokens_of}
 use Rattle.ttl_grammar.specs.Labels.{graph_of}
-use Rattle.ttl_grammar.specs.Rules.{has_document, turtle_rules}
+use Rattle.ttl_grammar.proofs.PageLaws.{page_to_table}
+use Rattle.ttl_grammar.specs.Rules.{turtle_rules}
 use Rattle.ttl_grammar.proofs.RunLaws.{run_steps}
 use Rattle.ttl_grammar.specs.Runs.{and_then, limited, run}
+use Rattle.ttl_grammar.specs.StartLaws.{has_document}
 use Rattle.ttl_grammar.specs.States.{State, start}
 use Rattle.ttl_grammar.specs.Table.{turtle}
 use Rattle.ttl_grammar.proofs.Defects.{read_has_no_defect}
@@ -131,7 +135,7 @@ read_is_read bytes p g d =
     let it = stepped d.placed d.spells.events (taken d.spells.derives) in
     let runs = sym (ap (λ (l : List (Event Token)). run l start) it.events_are) ∙ d.spells.states in
     let same = ap tokens_of (sym it.tokens_are) ∙ plain_tokens it.steps in
-    let derives = subst (λ (l : List Token). DerivesOf class_of turtle (Rule turtle_rules.document ∷ []) l d.spells.events) same d.spells.derives in
+    let derives = subst (λ (l : List Token). DerivesOf class_of turtle (Rule turtle_rules.document ∷ []) l d.spells.events) same (derives_alike page_to_table d.spells.derives) in
     record {
       steps = it.steps;
       few = d.few;
@@ -147,6 +151,6 @@ read_is_read bytes p g d =
 
 pub defect_is_of_none : (bytes : List ℕ) (fault : ReadFault) (p : List Prefix) (g : List Triple) → IsFirstDefect bytes fault → ReadsTurtle bytes p g → ⊥
 defect_is_of_none bytes fault p g (within few defect) d =
-    read_has_no_defect is_predictive has_document splits_one_way bytes fault (read_is_read bytes p g d) defect
+    read_has_no_defect is_predictive has_document splits_one_way bytes fault (read_is_read bytes p g d) (defect_alike page_to_table defect)
 defect_is_of_none bytes fault p g (beyond many defect) d = let few = d.few in omega (arith, many, few)
 defect_is_of_none bytes fault p g (too_long many is none) d = let few = d.few in omega (arith, many, few)

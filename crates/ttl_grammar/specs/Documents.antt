@@ -15,10 +15,10 @@ use Rattle.ttl_tokens.specs.TurtleSpellings as tokens
 use Rattle.ttl_tokens.specs.declared.token.Token.{Token}
 use Rattle.ttl_grammar.specs.Classes.{class_of}
 use Rattle.ttl_grammar.specs.Labels.{graph_of}
+use Rattle.ttl_grammar.specs.Page.{turtle_page}
 use Rattle.ttl_grammar.specs.Rules.{turtle_rules}
 use Rattle.ttl_grammar.specs.Runs.{run}
 use Rattle.ttl_grammar.specs.States.{Namespace, State, namespace_in, start}
-use Rattle.ttl_grammar.specs.Table.{turtle}
 
 -- a table of prefixes has the IRI that was declared last for each of them
 abbrev pub AreNamespaces : List Prefix → List Namespace → Type 0
@@ -29,7 +29,7 @@ AreNamespaces prefixes namespaces = (name : List ℕ) → iri_of prefixes name �
 pub record SpellsTurtle (prefixes : List Prefix) (graph : List Triple) (tokens : List Token) : Type 0 where
   pub events : List (Event Token)
   pub state : State
-  pub derives : DerivesOf class_of turtle (Rule turtle_rules.document ∷ []) tokens events
+  pub derives : DerivesOf class_of turtle_page (Rule turtle_rules.document ∷ []) tokens events
   pub states : run events start ≡ Ok state
   pub namespaces : AreNamespaces prefixes state.names.namespaces
   pub graph_is : graph ≡ graph_of state.facts.triples
@@ -47,4 +47,4 @@ pub record ReadsTurtle (bytes : List ℕ) (prefixes : List Prefix) (graph : List
 
 -- the first defect of bytes that are none
 abbrev pub IsFirstDefect : List ℕ → ReadFault → Type 0
-IsFirstDefect bytes fault = defects.IsFirstDefect tokens.Spells turtle turtle_rules bytes fault
+IsFirstDefect bytes fault = defects.IsFirstDefect tokens.Spells turtle_page turtle_rules bytes fault

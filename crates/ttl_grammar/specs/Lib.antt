@@ -7,4 +7,5 @@ pub mod States
 pub mod Labels
 pub mod Runs
 pub mod Rules
+pub mod StartLaws
 pub mod Documents

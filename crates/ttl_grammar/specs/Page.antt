@@ -1,7 +1,8 @@
 -- The grammar of Turtle (RDF 1.1 Turtle, section 6.5), left-factored: each alternative of a rule begins with other tokens. Acts
 -- stand in front of the tokens that they concern.
 use Rattle.std.specs.Prelude.{ℕ, List, [], ◌∷◌}
-use Rattle.grammar.specs.Pages.{Named, Page}
+use Rattle.grammar.specs.Grammars.{Entry}
+use Rattle.grammar.specs.Pages.{Named, Page, grammar_of}
 use Rattle.grammar.specs.Pages.Named.{action, part, token}
 use Rattle.ttl_grammar.specs.Acts.{act_number}
 use Rattle.ttl_grammar.specs.Classes.{class_number}
@@ -116,3 +117,7 @@ page = record {
   alternatives = alternatives;
   rules = rules;
 }
+
+-- the same as a list of rules, from which documents derive
+unfoldable pub turtle_page : List Entry
+turtle_page = grammar_of page

@@ -1,7 +1,6 @@
 -- What Turtle tells of its tokens and acts.
-use Rattle.std.specs.Prelude.{◌≡◌, ◌==◌, ℕ, true, List, Option, Err, refl, if◌then◌else◌}
+use Rattle.std.specs.Prelude.{◌≡◌, ◌==◌, ℕ, List, Option, Err, if◌then◌else◌}
 use Rattle.grammar.specs.Derivations.{Event}
-use Rattle.grammar.specs.Grammars.{has_rule}
 use Rattle.owl_reader.specs.Syntaxes.{Rules}
 use Rattle.owl_reader.specs.declared.fault.TokenFault.{TokenFault}
 use Rattle.owl_reader.specs.declared.item.Mark.{Mark}
@@ -13,7 +12,6 @@ use Rattle.ttl_grammar.specs.Classes.{class_of}
 use Rattle.ttl_grammar.specs.Page.{rule_number}
 use Rattle.ttl_grammar.specs.Page.Rule.{document}
 use Rattle.ttl_grammar.specs.Runs.{answer}
-use Rattle.ttl_grammar.specs.Table.{turtle, turtle_document}
 use Rattle.ttl_grammar.specs.declared.act.Act.TheVariants.{EndStatement}
 
 -- The items of a document are its statements, each with its dot: the token behind EndStatement is the last.
@@ -26,7 +24,3 @@ Bars events acts next fault = answer events acts next ≡ Err fault
 
 abbrev pub turtle_rules : Rules Token
 turtle_rules = record { class = class_of; document = rule_number document; mark = mark_of; Bars = Bars; long_quotes = long_quotes }
-
-pub has_document : has_rule turtle turtle_rules.document ≡ true
-unfolding turtle turtle_document
-has_document = refl

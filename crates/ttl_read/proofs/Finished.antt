@@ -1,6 +1,7 @@
 -- What was made of a whole document is what its bytes say.
 use Rattle.std.proofs.Common.{◌≡◌, ◌≤◌, ℕ, List, [], ◌∷◌, length, refl, sym, ap, subst}
 use Rattle.owl_atom.specs.declared.prefixes.Prefix.{Prefix}
+use Rattle.grammar.proofs.AlikeLaws.{derives_alike}
 use Rattle.owl_reader.specs.Readings.{IsRead}
 use Rattle.owl_reader.specs.Steps.{Step, plain, tokens_in}
 use Rattle.rdf_graph.specs.Graphs.{most_triples}
@@ -8,6 +9,7 @@ use Rattle.rdf_graph.specs.declared.triple.Triple.{Triple}
 use Rattle.ttl_tokens.specs.TurtleSpellings as tokens
 use Rattle.ttl_tokens.specs.declared.token.Token.{Token}
 use Rattle.ttl_grammar.specs.Documents.{AreNamespaces, ReadsTurtle, SpellsTurtle, tokens_of}
+use Rattle.ttl_grammar.proofs.PageLaws.{table_to_page}
 use Rattle.ttl_grammar.specs.Rules.{turtle_rules}
 use Rattle.ttl_grammar.specs.Table.{turtle}
 use Rattle.ttl_read.specs.NameTables.{ArePlain}
@@ -24,7 +26,7 @@ reads bytes a r prefixes e =
     let spells : SpellsTurtle prefixes a.graph (plain r.steps) = record {
       events = _;
       state = it.state;
-      derives = r.ends.derives;
+      derives = derives_alike table_to_page r.ends.derives;
       states = it.ends;
       namespaces = subst (λ (ps : List Prefix). AreNamespaces ps it.state.names.namespaces) (sym e) it.holds.names.namespaces;
       graph_is = it.holds.graph;

@@ -4,19 +4,19 @@ use Rattle.owl_reader.specs.Early as early
 use Rattle.owl_reader.specs.Readings as readings
 use Rattle.owl_reader.specs.declared.fault.ReadFault.{ReadFault}
 use Rattle.ttl_tokens.specs.TurtleSpellings.{Spells}
+use Rattle.ttl_grammar.specs.Page.{turtle_page}
 use Rattle.ttl_grammar.specs.Rules.{turtle_rules}
-use Rattle.ttl_grammar.specs.Table.{turtle}
 use Rattle.ttl_read.specs.Showing.{Made}
 use Rattle.ttl_read.specs.declared.assembler.Assembler.{Assembler}
 
 -- whatever follows these bytes, it is the first defect
 abbrev pub Refuses : List ℕ → ReadFault → Type 0
-Refuses bytes fault = readings.Refuses Spells turtle turtle_rules bytes fault
+Refuses bytes fault = readings.Refuses Spells turtle_page turtle_rules bytes fault
 
 -- the reader was fed these bytes
 abbrev pub HasRead : readings.Reading Assembler → List ℕ → Type 0
-HasRead r bytes = readings.HasRead Spells turtle turtle_rules Made r bytes
+HasRead r bytes = readings.HasRead Spells turtle_page turtle_rules Made r bytes
 
 -- No defect before white space is left among them, where they hold neither `"""` nor `'''`.
 abbrev pub TellsEarly : readings.Reading Assembler → Type 0
-TellsEarly r = early.TellsEarly Spells turtle turtle_rules Made r
+TellsEarly r = early.TellsEarly Spells turtle_page turtle_rules Made r

@@ -7,7 +7,8 @@ ghost use Rattle.owl_reader.specs.declared.fault.TokenFault as token;
 ghost use Rattle.ttl_tokens.specs.TurtleSpellingLaws.{turtle_is_prompt};
 ghost use Rattle.ttl_tokens.specs.TurtleSpellings.{Spells};
 ghost use Rattle.ttl_tokens.specs.declared.token.Token as lexeme;
-ghost use Rattle.ttl_grammar.specs.Rules.{Bars, has_document, turtle_rules};
+ghost use Rattle.ttl_grammar.specs.Rules.{Bars, turtle_rules};
+ghost use Rattle.ttl_grammar.specs.StartLaws.{has_document};
 ghost use Rattle.ttl_grammar.specs.Table.{turtle};
 ghost use Rattle.ttl_read.specs.Showing.{Made, Whole};
 

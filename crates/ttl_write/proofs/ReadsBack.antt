@@ -7,6 +7,7 @@ use Rattle.std.specs.Option.{option_map}
 use Rattle.std.specs.Str.{all_scalars, encode_utf8_all}
 use Rattle.std.proofs.lemmas.List.{append-nil}
 use Rattle.std.proofs.lemmas.Slice.Eq.{bytes_eq-Decides}
+use Rattle.grammar.proofs.AlikeLaws.{derives_alike}
 use Rattle.owl_atom.specs.PrefixLaws.{Below, below_none}
 use Rattle.owl_atom.specs.Prefixes.{AreAscending, IsTable, iri_of, prefix_in}
 use Rattle.owl_atom.specs.declared.prefixes.Prefix.{Prefix}
@@ -29,6 +30,7 @@ use Rattle.rdf_terms.specs.Vocabulary.{xsd}
 use Rattle.ttl_grammar.specs.Documents.{AreNamespaces, ReadsTurtle}
 use Rattle.blank_labels.specs.FreshLabels.{fresh_name}
 use Rattle.ttl_grammar.specs.Labels.{graph_of, labels_of, named_object, named_triple}
+use Rattle.ttl_grammar.proofs.PageLaws.{table_to_page}
 use Rattle.ttl_grammar.specs.States.{Namespace, State, namespace_in, no_nest}
 use Rattle.ttl_grammar.specs.declared.node.NodeTriple.{NodeTriple}
 use Rattle.ttl_tokens.specs.TurtleSpellings as tokens
@@ -149,7 +151,7 @@ graph_reads_back prefixes graph table iris is formed scalars few =
       spells = record {
         events = reads.events;
         state = reads.final;
-        derives = reads.derives;
+        derives = derives_alike table_to_page reads.derives;
         states = reads.runs;
         namespaces = subst (AreNamespaces written) (sym reads.is.namespaces) agree;
         graph_is = graph_again graph is ∙ ap graph_of (sym reads.is.triples);

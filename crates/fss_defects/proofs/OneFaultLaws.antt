@@ -1,8 +1,8 @@
 -- Acts that can't be done in front of a token can't for one reason, so bytes have one first defect.
-use Rattle.std.proofs.Common.{◌≡◌, ◌≤◌, ◌⊎◌, inl, inr, ℕ, true, List, [], ◌∷◌, length, Option, refl, sym, ◌∙◌, subst}
-use Rattle.grammar.specs.Grammars.{has_rule}
+use Rattle.std.proofs.Common.{◌≡◌, ◌≤◌, ◌⊎◌, inl, inr, ℕ, List, [], ◌∷◌, length, Option, sym, ◌∙◌, subst}
 use Rattle.owl_characters.specs.Limit.{most_bytes}
 use Rattle.owl_lexer.proofs.OneWayLaws.{same_splits}
+use Rattle.owl_reader.proofs.AlikeLaws.{first_defect_alike}
 use Rattle.owl_reader.proofs.OneDefectLaws as defects
 use Rattle.owl_reader.specs.declared.fault.ReadFault.{ReadFault}
 use Rattle.owl_reader.specs.declared.fault.TokenFault.{TokenFault}
@@ -17,12 +17,14 @@ use Rattle.fss_grammar.proofs.ActLaws.{same_act}
 use Rattle.fss_grammar.specs.Doing.{Acts, prefixes_behind}
 use Rattle.fss_grammar.specs.Making.{Maker, beginning}
 use Rattle.fss_grammar.proofs.OneWayLaws.{acts_one_way, does_one_way}
-use Rattle.fss_grammar.specs.Table.{functional, functional_document, functional_is_predictive}
+use Rattle.fss_grammar.proofs.PageLaws.{page_to_table}
+use Rattle.fss_grammar.specs.Table.{functional_is_predictive}
 use Rattle.fss_grammar.specs.declared.acts.Act.{Act}
 use Rattle.fss_grammar.specs.declared.acts.Act.TheVariants.{AddAnnotation, AddAxiom, Begin, DeclareIri, DeclareName, Hold, Shut, Typed}
 use Rattle.fss_defects.specs.Faults.{Fails, FailsFirst, FailsLeaf, Told}
 use Rattle.fss_defects.specs.FirstDefects.{IsFirstDefect}
 use Rattle.fss_defects.specs.Rules.{functional_rules}
+use Rattle.fss_defects.specs.StartLaws.{has_document}
 
 -- ---- one act
 
@@ -81,11 +83,8 @@ bars_one_way events acts next f g h k =
 
 -- ---- the first defect
 
-pub has_document : has_rule functional functional_rules.document ≡ true
-unfolding functional functional_document
-has_document = refl
-
 pub one_first_defect : (bytes : List ℕ) (fault other : ReadFault) → length bytes ≤ most_bytes → IsFirstDefect bytes fault → IsFirstDefect bytes other → fault ≡ other
 one_first_defect bytes fault other few h k =
     let come = same_splits functional_automaton value_of Spells functional_is_language in
-    defects.one_first_defect come functional_is_predictive has_document bars_one_way bytes fault other few h k
+    defects.one_first_defect come functional_is_predictive has_document bars_one_way bytes fault other few
+    (first_defect_alike page_to_table h) (first_defect_alike page_to_table k)

@@ -1,0 +1,9 @@
+-- The table of Turtle has the rule of documents.
+use Rattle.std.specs.Prelude.{◌≡◌, true, refl}
+use Rattle.grammar.specs.Grammars.{has_rule}
+use Rattle.ttl_grammar.specs.Rules.{turtle_rules}
+use Rattle.ttl_grammar.specs.Table.{turtle, turtle_document}
+
+pub has_document : has_rule turtle turtle_rules.document ≡ true
+unfolding turtle turtle_document
+has_document = refl
