@@ -3,7 +3,9 @@ use Rattle.std.proofs.Common.{◌≡◌, ℕ, Some, List, slice_get, sym, ap, �
 use Rattle.std.proofs.lemmas.Option.{same_Some}
 use Rattle.owl_close.specs.Imports.{IsFirstMissing, MissesNone}
 use Rattle.owl_close.proofs.ImportsLaws.{missing_once}
-use Rattle.owl_command.specs.Commands.{Request, compares, names_of, shows, translates}
+use Rattle.owl_command.specs.Commands.{Request, compares, names_of, of_main}
+use Rattle.owl_command.specs.declared.command.Action.{Action}
+use Rattle.owl_command.specs.declared.command.Action.TheVariants.{Translate, Show}
 use Rattle.owl_command.specs.declared.command.Target.{Target as Syntax}
 use Rattle.owl_command.specs.declared.command.Target.TheVariants.{Fss, Ttl}
 use Rattle.owl_documents.specs.Documents.{IsSame, Parsed, Said, a_graph, an_ontology}
@@ -12,7 +14,7 @@ use Rattle.owl_kind.specs.Kinds.{Entity}
 use Rattle.owl_tree.proofs.OntologyLaws.{same_ontology_sym, same_ontology_trans}
 use Rattle.rdf_reverse.specs.declared.fault.ReverseFault.{ReverseFault}
 use Rattle.owl_answer.specs.Outcome.{IsComparison, Outcome, agree, differ, heads_in, missing_import, shown, translation, unsaid_outcome}
-use Rattle.owl_answer.specs.Runs.{AnswersWith, Concludes, IsTranslation, all_say, misses_import, says_nothing}
+use Rattle.owl_answer.specs.Runs.{AnswersWith, Concludes, IsActionOutcome, IsTranslation, all_say, misses_import, says_nothing}
 use Rattle.owl_answer.specs.UnderKinds.{AllSay, HasKinds, HoldsOfMain, HoldsOfTwo, IsFirstUnsaid, IsReadUnder, IsUnsaidAt, IsUnsaidUnder, SaysAt, SaysUnder}
 use Rattle.owl_answer.proofs.Closures.{closure_once, own_once}
 use Rattle.owl_answer.proofs.Same.{never_says_both, parsed_back, parsed_refl, says_once, says_same, unsaid_once, unsaid_same}
@@ -58,6 +60,17 @@ translation_told_once Fss (an_ontology x) kinds main a b h k =
 translation_told_once Fss (a_graph x) kinds main a b h k = functional_once kinds main a b h k
 translation_told_once Ttl p kinds main a b h k = translation_once kinds main a b h k
 
+-- what becomes of the same by an action is the same, and one
+
+acted_same : (action : Action) (p q : Parsed) (kinds : List Entity) (a b : Said) (outcome : Outcome) → IsSameParsed p q → IsSame a b → IsActionOutcome action p kinds a outcome → IsActionOutcome action q kinds b outcome
+acted_same (Translate target) p q kinds a b outcome s t h = told_same target p q kinds a b outcome s t h
+acted_same Show p q kinds a b outcome s t h = limited_more _ _ (λ o k. k ∙ shown_same a b t) outcome h
+
+acted_once : (action : Action) (p : Parsed) (kinds : List Entity) (main : Said) (a b : Outcome) → IsActionOutcome action p kinds main a → IsActionOutcome action p kinds main b → a ≡ b
+acted_once (Translate target) p kinds main a b h k = translation_told_once target p kinds main a b h k
+acted_once Show p kinds main a b h k =
+    limited_once (λ o. o ≡ shown main) (λ o. o ≡ shown main) (λ x y e f. e ∙ sym f) a b h k
+
 -- what is concluded of some documents is concluded of others that agree
 
 module _ (request : Request) (ds es : List Parsed) (there : Agree request ds es) where
@@ -91,10 +104,8 @@ module _ (request : Request) (ds es : List Parsed) (there : Agree request ds es)
       }
 
 answers_there : (request : Request) (ds es : List Parsed) → Agree request ds es → (outcome : Outcome) → AnswersWith request ds outcome → AnswersWith request es outcome
-answers_there (translates target partial names) ds es there outcome h =
-    main_there (translates target partial names) ds es there _ _ (λ p q kinds a b s t w. told_same target p q kinds a b outcome s t w) h
-answers_there (shows partial names) ds es there outcome h =
-    main_there (shows partial names) ds es there _ _ (λ p q kinds a b s t w. limited_more _ _ (λ o k. k ∙ shown_same a b t) outcome w) h
+answers_there (of_main action partial names) ds es there outcome h =
+    main_there (of_main action partial names) ds es there _ _ (λ p q kinds a b s t w. acted_same action p q kinds a b outcome s t w) h
 answers_there (compares first second) ds es there outcome h =
     two_there (compares first second) ds es there _ (λ a b c d s t w. limited_more _ _ (λ o k. comparison_same a b c d s t o k) outcome w) h
 
@@ -123,8 +134,7 @@ module _ (request : Request) (ds es : List Parsed) (there : Agree request ds es)
 -- what is concluded of documents is one
 
 kinds_once : (request : Request) (documents : List Parsed) (place : ℕ) (parsed : Parsed) (k l : List Entity) → HasKinds request documents place parsed k → HasKinds request documents place parsed l → k ≡ l
-kinds_once (translates target partial names) documents place parsed k l h i = closure_once documents k l h.1 i.1
-kinds_once (shows partial names) documents place parsed k l h i = closure_once documents k l h.1 i.1
+kinds_once (of_main action partial names) documents place parsed k l h i = closure_once documents k l h.1 i.1
 kinds_once (compares first second) documents place parsed k l h i = own_once parsed k l h i
 
 -- a document is read in one way
@@ -180,10 +190,8 @@ module _ (request : Request) (documents : List Parsed) where
       once h.first h.second k.first k.second (said_at_once 0 h.first k.first h.says_first k.says_first) (said_at_once 1 h.second k.second h.says_second k.says_second) h.holds k.holds
 
 answers_once : (request : Request) (documents : List Parsed) (a b : Outcome) → AnswersWith request documents a → AnswersWith request documents b → a ≡ b
-answers_once (translates target partial names) documents a b v w =
-    main_once (translates target partial names) documents _ _ a b (λ p kinds s t same h k. translation_told_once target p kinds t a b (told_same target p p kinds s t a (parsed_refl p) same h) k) v w
-answers_once (shows partial names) documents a b v w =
-    main_once (shows partial names) documents _ _ a b (λ p kinds s t same h k. limited_once (λ o. o ≡ shown s) (λ o. o ≡ shown t) (λ x y e f. e ∙ shown_same s t same ∙ sym f) a b h k) v w
+answers_once (of_main action partial names) documents a b v w =
+    main_once (of_main action partial names) documents _ _ a b (λ p kinds s t same h k. acted_once action p kinds t a b (acted_same action p p kinds s t a (parsed_refl p) same h) k) v w
 answers_once (compares first second) documents a b v w =
     two_once (compares first second) documents _ _ a b (λ s t u x e f h k. limited_once (IsComparison s t) (IsComparison u x) (λ y z i j. comparison_once u x y z (comparison_same s t u x e f y i) j) a b h k) v w
 

@@ -1,7 +1,7 @@
 -- What is concluded of documents that are read as the same is one.
 use Rattle.std.proofs.Common.{◌≡◌, ℕ, List}
 use Rattle.owl_close.proofs.ImportsLaws.{alike_back, first_missing_alike, missing_alike, reaches_alike}
-use Rattle.owl_command.specs.Commands.{Request, compares, shows, translates}
+use Rattle.owl_command.specs.Commands.{Request, compares, of_main}
 use Rattle.owl_documents.specs.Documents.{Parsed}
 use Rattle.owl_documents.specs.OneWay.{AreSame, IsSameParsed}
 use Rattle.owl_kind.specs.Kinds.{Entity}
@@ -13,9 +13,7 @@ use Rattle.owl_answer.proofs.Closures.{found_alike, kinds_alike, own_alike}
 use Rattle.owl_answer.proofs.Heads.{alike, same_back}
 
 has_kinds : (request : Request) (ds es : List Parsed) → AreSame ds es → (place : ℕ) (p q : Parsed) (kinds : List Entity) → IsSameParsed p q → HasKinds request ds place p kinds → HasKinds request es place q kinds
-has_kinds (translates target partial names) ds es s place p q kinds t h =
-    (reaches_alike (heads_in ds) (heads_in es) (alike ds es s) place h.0, kinds_alike ds es kinds s h.1)
-has_kinds (shows partial names) ds es s place p q kinds t h =
+has_kinds (of_main action partial names) ds es s place p q kinds t h =
     (reaches_alike (heads_in ds) (heads_in es) (alike ds es s) place h.0, kinds_alike ds es kinds s h.1)
 has_kinds (compares first second) ds es s place p q kinds t h = own_alike p q kinds t h
 

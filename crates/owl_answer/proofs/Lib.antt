@@ -5,6 +5,7 @@ pub mod Concluding
 pub mod Heads
 pub mod KindsAt
 pub mod Lines
+pub mod Readings
 pub mod Same
 pub mod Sayings
 pub mod TurtleOnce

@@ -1,7 +1,9 @@
 -- What is concluded, and what is told of troubles, is proper, and has its line.
 use Rattle.std.proofs.Common.{◌≡◌, ◌≢◌, ℕ, Bool, zero, suc, Some, List, [], ◌∷◌, slice_get, inl, inr, refl, sym, subst}
 use Rattle.owl_reader.specs.declared.fault.ReadFault.TheVariants as read
-use Rattle.owl_command.specs.Commands.{IsAmong, Request, compares, names_of, shows, translates}
+use Rattle.owl_command.specs.Commands.{IsAmong, Request, compares, names_of, of_main}
+use Rattle.owl_command.specs.declared.command.Action.{Action}
+use Rattle.owl_command.specs.declared.command.Action.TheVariants.{Translate, Show}
 use Rattle.owl_kind.specs.Kinds.{Entity}
 use Rattle.owl_command.specs.declared.command.Target.{Target}
 use Rattle.owl_command.specs.declared.command.Target.TheVariants.{Fss, Ttl}
@@ -11,7 +13,7 @@ use Rattle.owl_documents.specs.declared.trouble.Refusal.{Refusal}
 use Rattle.owl_documents.specs.declared.trouble.Refusal.TheVariants.{DocumentBytes, AllBytes, Unreadable, Headless}
 use Rattle.owl_answer.specs.Outcome.{IsComparison, IsLimited, IsSuccess, Outcome, agree, agreement, differ, difference, done_line, fits, missing_import, passes, refusal_outcome, shown, too_long_output, translation, unsaid_outcome}
 use Rattle.owl_answer.specs.Refusals.{two_kinds, undeclared, unsayable}
-use Rattle.owl_answer.specs.Runs.{AnswersWith, AsksTranslation, AsksTurtle, Concludes, IsIllTyped, IsTranslation, IsTurtleRefusal, LineFor, SuccessLine, all_say, misses_import, of_bytes, of_graph, of_import, of_output, of_refusal, of_success, of_triples, of_turtle, of_two_kinds, of_typing, of_undeclared, of_unsayable, of_weight, says_nothing}
+use Rattle.owl_answer.specs.Runs.{AnswersWith, AsksTranslation, AsksTurtle, Concludes, IsActionOutcome, IsIllTyped, IsTranslation, IsTurtleRefusal, LineFor, SuccessLine, all_say, misses_import, of_bytes, of_graph, of_import, of_output, of_refusal, of_success, of_triples, of_turtle, of_two_kinds, of_typing, of_undeclared, of_unsayable, of_weight, says_nothing}
 use Rattle.owl_answer.specs.TurtleOutcome.{IsFormTold, IsGraphTold, IsTold as IsOfTurtle, IsTypingRefusal, canonical_said, clashes, few, graph_translation, heavy, ill_typed, light, many, not_typed, ready, too_heavy_output, too_many_triples, unsaid, untyped, well_typed}
 use Rattle.owl_answer.specs.Answers.{IsProper}
 use Rattle.owl_tree.specs.Ontologies.{Ontology}
@@ -60,35 +62,35 @@ limited_told request IsWanted told outcome (fits w l) = told outcome w
 limited_told request IsWanted told outcome (passes wanted w l e) = subst (IsTold request) (sym e) (too_long_told request)
 
 -- a translation that was written
-translated_told : (target : Target) (partial : Bool) (names : List (List ℕ)) (text : List ℕ) (axioms absorbed : ℕ) → IsTold (translates target partial names) (record { status = Done; text = text; line = done_line axioms absorbed })
+translated_told : (target : Target) (partial : Bool) (names : List (List ℕ)) (text : List ℕ) (axioms absorbed : ℕ) → IsTold (of_main (Translate target) partial names) (record { status = Done; text = text; line = done_line axioms absorbed })
 translated_told target partial names text axioms absorbed =
     record { proper = record { found = tt; no_text = tt }; line = λ IsCause. of_success (axioms, absorbed, refl) }
 
 module _ (partial : Bool) (names : List (List ℕ)) where
-  form_told : (form : Said) (absorbed : ℕ) (outcome : Outcome) → IsFormTold form absorbed outcome → IsTold (translates Ttl partial names) outcome
+  form_told : (form : Said) (absorbed : ℕ) (outcome : Outcome) → IsFormTold form absorbed outcome → IsTold (of_main (Translate Ttl) partial names) outcome
   form_told form absorbed outcome (many l e) =
-      subst (IsTold (translates Ttl partial names)) (sym e) (turtle_refused (translates Ttl partial names) tt too_many_triples of_triples)
+      subst (IsTold (of_main (Translate Ttl) partial names)) (sym e) (turtle_refused (of_main (Translate Ttl) partial names) tt too_many_triples of_triples)
   form_told form absorbed outcome (few l w) =
-      limited_told (translates Ttl partial names) (λ o. o ≡ graph_translation form absorbed) (λ o e. subst (IsTold (translates Ttl partial names)) (sym e) (translated_told Ttl partial names _ _ _)) outcome w
+      limited_told (of_main (Translate Ttl) partial names) (λ o. o ≡ graph_translation form absorbed) (λ o e. subst (IsTold (of_main (Translate Ttl) partial names)) (sym e) (translated_told Ttl partial names _ _ _)) outcome w
 
-  graph_told : (main : Said) (outcome : Outcome) → IsGraphTold main outcome → IsTold (translates Ttl partial names) outcome
+  graph_told : (main : Said) (outcome : Outcome) → IsGraphTold main outcome → IsTold (of_main (Translate Ttl) partial names) outcome
   graph_told main outcome (heavy l e) =
-      subst (IsTold (translates Ttl partial names)) (sym e) (turtle_refused (translates Ttl partial names) tt too_heavy_output of_weight)
+      subst (IsTold (of_main (Translate Ttl) partial names)) (sym e) (turtle_refused (of_main (Translate Ttl) partial names) tt too_heavy_output of_weight)
   graph_told main outcome (light l w) = form_told _ _ outcome w
 
-  turtle_told : (kinds : List Entity) (main : Said) (outcome : Outcome) → IsOfTurtle kinds main outcome → IsTold (translates Ttl partial names) outcome
-  turtle_told kinds main outcome (not_typed h) = typing_told (translates Ttl partial names) tt kinds main.ontology outcome h
+  turtle_told : (kinds : List Entity) (main : Said) (outcome : Outcome) → IsOfTurtle kinds main outcome → IsTold (of_main (Translate Ttl) partial names) outcome
+  turtle_told kinds main outcome (not_typed h) = typing_told (of_main (Translate Ttl) partial names) tt kinds main.ontology outcome h
   turtle_told kinds main outcome (unsaid t part why h e) =
-      subst (IsTold (translates Ttl partial names)) (sym e) (turtle_refused (translates Ttl partial names) tt (unsayable part why) (of_unsayable part why))
+      subst (IsTold (of_main (Translate Ttl) partial names)) (sym e) (turtle_refused (of_main (Translate Ttl) partial names) tt (unsayable part why) (of_unsayable part why))
   turtle_told kinds main outcome (ready r w) = graph_told main outcome w
 
-  written_told : (main : Said) (outcome : Outcome) → IsLimited (λ (o : Outcome). o ≡ translation main) outcome → IsTold (translates Fss partial names) outcome
+  written_told : (main : Said) (outcome : Outcome) → IsLimited (λ (o : Outcome). o ≡ translation main) outcome → IsTold (of_main (Translate Fss) partial names) outcome
   written_told main outcome w =
-      limited_told (translates Fss partial names) (λ o. o ≡ translation main) (λ o e. subst (IsTold (translates Fss partial names)) (sym e) (translated_told Fss partial names _ _ _)) outcome w
+      limited_told (of_main (Translate Fss) partial names) (λ o. o ≡ translation main) (λ o e. subst (IsTold (of_main (Translate Fss) partial names)) (sym e) (translated_told Fss partial names _ _ _)) outcome w
 
-  translation_told : (target : Target) (parsed : Parsed) (kinds : List Entity) (main : Said) (outcome : Outcome) → IsTranslation target parsed kinds main outcome → IsTold (translates target partial names) outcome
+  translation_told : (target : Target) (parsed : Parsed) (kinds : List Entity) (main : Said) (outcome : Outcome) → IsTranslation target parsed kinds main outcome → IsTold (of_main (Translate target) partial names) outcome
   translation_told Fss (an_ontology said) kinds main outcome w = written_told main outcome w
-  translation_told Fss (a_graph read) kinds main outcome (ill_typed h) = typing_told (translates Fss partial names) tt kinds main.ontology outcome h
+  translation_told Fss (a_graph read) kinds main outcome (ill_typed h) = typing_told (of_main (Translate Fss) partial names) tt kinds main.ontology outcome h
   translation_told Fss (a_graph read) kinds main outcome (well_typed t w) = written_told main outcome w
   translation_told Ttl parsed kinds main outcome w = turtle_told kinds (canonical_said main) outcome w
 
@@ -100,11 +102,14 @@ compared_told : (first second : List ℕ) (a b : Said) (outcome : Outcome) → I
 compared_told first second a b outcome (agree h e) = done_told (compares first second) agreement (record { found = tt; no_text = tt }) refl outcome e
 compared_told first second a b outcome (differ h e) = done_told (compares first second) difference (record { found = tt; no_text = tt }) refl outcome e
 
+acted_told : (action : Action) (partial : Bool) (names : List (List ℕ)) (parsed : Parsed) (kinds : List Entity) (main : Said) (outcome : Outcome) → IsActionOutcome action parsed kinds main outcome → IsTold (of_main action partial names) outcome
+acted_told (Translate target) partial names parsed kinds main outcome h = translation_told partial names target parsed kinds main outcome h
+acted_told Show partial names parsed kinds main outcome h =
+    limited_told (of_main Show partial names) (λ o. o ≡ shown main) (done_told (of_main Show partial names) (shown main) (record { found = tt; no_text = tt }) refl) outcome h
+
 answers_told : (request : Request) (documents : List Parsed) (outcome : Outcome) → AnswersWith request documents outcome → IsTold request outcome
-answers_told (translates target partial names) documents outcome w =
-    translation_told partial names target w.main.parsed w.main.kinds w.said outcome w.holds
-answers_told (shows partial names) documents outcome w =
-    limited_told (shows partial names) (λ o. o ≡ shown w.said) (done_told (shows partial names) (shown w.said) (record { found = tt; no_text = tt }) refl) outcome w.holds
+answers_told (of_main action partial names) documents outcome w =
+    acted_told action partial names w.main.parsed w.main.kinds w.said outcome w.holds
 answers_told (compares first second) documents outcome w =
     limited_told (compares first second) (IsComparison w.first w.second) (compared_told first second w.first w.second) outcome w.holds
 

@@ -4,20 +4,18 @@ use Rattle.std.specs.List.{AllByRecursion}
 use Rattle.std.specs.Str.{encode_utf8_all}
 use Rattle.owl_kind.specs.Kinds.{Entity}
 use Rattle.owl_tree.specs.Ontologies.{Head, Ontology}
-use Rattle.owl_close.specs.Imports.{AreReached, IsFirstMissing}
-use Rattle.owl_command.specs.Commands.{AsksImports, Request, compares, names_of, shows, translates}
-use Rattle.owl_command.specs.declared.command.Target.{Target as Syntax}
+use Rattle.owl_close.specs.Imports.{IsFirstMissing}
+use Rattle.owl_command.specs.Commands.{AsksImports, Request, names_of}
+use Rattle.owl_command.specs.declared.command.Action.{Action}
 use Rattle.owl_command.specs.declared.status.Status.{Status}
 use Rattle.owl_command.specs.declared.status.Status.TheVariants.{Done, No, Words, Document as NoDocument, Target, Limit, ReadFailed, WriteFailed, Memory}
 use Rattle.owl_documents.specs.Documents.{Contents, Parsed, Said}
 use Rattle.owl_documents.specs.Shelves.{IsFaulty, IsFirstFaulty, Rises, Shelves}
 use Rattle.owl_documents.specs.declared.trouble.Trouble.{Trouble}
 use Rattle.owl_documents.specs.declared.trouble.Trouble.TheVariants as t
-use Rattle.owl_answer.specs.KindsAt.{AreClosureKinds}
-use Rattle.owl_answer.specs.Outcome.{IsLimited, IsSettled, IsSuccess, IsTheOutcome, Outcome, heads_in, refusal_outcome, refused, shown}
-use Rattle.owl_answer.specs.Runs.{Becomes, Concludes, HasImports, IsBack, IsReadBack, IsTranslation, LineFor, ReadsIn, normal_form}
+use Rattle.owl_answer.specs.Outcome.{IsSettled, IsSuccess, IsTheOutcome, Outcome, refusal_outcome, refused}
+use Rattle.owl_answer.specs.Runs.{Becomes, Concludes, IsActionOutcome, IsActionText, IsBack, IsReadBack, LineFor}
 use Rattle.owl_answer.specs.TurtleOutcome.{IsTurtleTranslation, IsTyped, IsTypingRefusal, ReadsSaid, canonical_said, turtle_form}
-use Rattle.owl_answer.specs.UnderKinds.{IsOfMain}
 use Rattle.owl_answer.specs.declared.answer.Answer.{Answer}
 use Rattle.owl_answer.specs.declared.imports.Missing.{Missing}
 
@@ -40,23 +38,10 @@ pub record IsConclusion (request : Request) (documents : List Parsed) (outcome :
   pub concludes : Concludes request documents outcome
   pub back : IsSuccess outcome.status → IsBack request documents outcome.text
 
--- The main document is asked for, and its imports are there; these places are reached from it, and this is declared there.
-pub record IsClosure (request : Request) (documents : List Parsed) (places : List ℕ) (kinds : List Entity) : Type 0 where
-  pub of_main : IsOfMain request
-  pub imports : HasImports request documents
-  pub reached : AreReached (heads_in documents) places
-  pub declared : AreClosureKinds documents kinds
-
--- what becomes of a main document that is translated, and the text reads back to the normal form of what it says
-pub record IsTranslated (target : Syntax) (parsed : Parsed) (kinds : List Entity) (main : Said) (outcome : Outcome) : Type 0 where
-  pub is : IsTranslation target parsed kinds main outcome
-  pub back : IsSuccess outcome.status → ReadsIn target kinds outcome.text (normal_form target main)
-
--- what becomes of a main document that says this under these kinds
-abbrev pub IsToldOfMain : Request → Parsed → List Entity → Said → Outcome → Type 0
-IsToldOfMain (translates target partial names) parsed kinds main outcome = IsTranslated target parsed kinds main outcome
-IsToldOfMain (shows partial names) parsed kinds main outcome = IsLimited (λ wanted. wanted ≡ shown main) outcome
-IsToldOfMain (compares first second) parsed kinds main outcome = ⊥
+-- what becomes by an action of a main document that says this under these kinds, with its text
+pub record IsToldOfMain (action : Action) (parsed : Parsed) (kinds : List Entity) (main : Said) (outcome : Outcome) : Type 0 where
+  pub is : IsActionOutcome action parsed kinds main outcome
+  pub back : IsSuccess outcome.status → IsActionText action kinds main outcome.text
 
 -- what becomes of a document of which a graph is written, and the text says its normal form
 pub record IsInTurtle (kinds : List Entity) (main : Said) (outcome : Outcome) : Type 0 where

@@ -1,11 +1,12 @@
 -- What documents declare: one of them, or those that the main one reaches (Structural Specification, section 5.8).
-use Rattle.std.specs.Prelude.{◌≡◌, ◌⊎◌, ◌↔◌, ℕ, List, Some, Contains, slice_get}
+use Rattle.std.specs.Prelude.{◌≡◌, ◌<◌, ◌⊎◌, ◌↔◌, ℕ, List, Some, Contains, length, slice_get}
 use Rattle.owl_kind.specs.declared.kind.Kind.{Kind}
 use Rattle.owl_kind.specs.Kinds.{Entity, IsDeclared}
 use Rattle.owl_kind.specs.Order.{AreOrdered}
-use Rattle.owl_close.specs.Imports.{Reaches}
+use Rattle.owl_close.specs.Imports.{AreReached, Reaches}
 use Rattle.owl_documents.specs.Documents.{DeclaresAs, Parsed}
 use Rattle.owl_answer.specs.Outcome.{heads_in}
+use Rattle.owl_answer.specs.declared.closure.Closure.{Closure}
 
 -- what the document declares, in order
 pub record AreOwnKinds (parsed : Parsed) (kinds : List Entity) : Type 0 where
@@ -48,3 +49,9 @@ pub record IsDeclaredInClosure (documents : List Parsed) (kind : Kind) (iri : Li
 pub record AreClosureKinds (documents : List Parsed) (kinds : List Entity) : Type 0 where
   pub declared : (kind : Kind) (iri : List ℕ) → IsDeclared kinds kind iri ↔ IsDeclaredInClosure documents kind iri
   pub ordered : AreOrdered kinds
+
+-- the places of the documents that the main one reaches, and what is declared there
+pub record IsClosure (documents : List Parsed) (closure : Closure) : Type 0 where
+  pub some : 0 < length documents
+  pub reached : AreReached (heads_in documents) closure.places.items
+  pub declared : AreClosureKinds documents closure.kinds

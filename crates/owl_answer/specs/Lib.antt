@@ -1,4 +1,5 @@
 pub mod Answers
+pub mod Asked
 pub mod KindsAt
 pub mod Outcome
 pub mod Runs

@@ -1,17 +1,58 @@
 -- What reading documents under kinds finds.
-use Rattle.std.specs.Prelude.{◌≡◌, ◌≢◌, ◌++◌, ℕ, List, ◌∷◌, Option, None, Some, slice_get}
+use Rattle.std.specs.Prelude.{◌≡◌, ◌≢◌, ◌++◌, ℕ, List, [], ◌∷◌, Some, slice_get}
 use Rattle.std.specs.List.{AllByRecursion}
-use Rattle.owl_documents.specs.Documents.{Parsed}
+use Rattle.owl_doc.specs.Documents as doc
+use Rattle.owl_documents.specs.Documents.{Parsed, Said, said_of}
 use Rattle.owl_kind.specs.Kinds.{Entity}
 use Rattle.rdf_reverse.specs.declared.fault.ReverseFault.{ReverseFault}
 use Rattle.rdf_reverse.specs.declared.fault.ReverseFault.TheVariants.{Memory}
-use Rattle.owl_answer.specs.UnderKinds.{IsUnsaidUnder, SaysSome}
+use Rattle.owl_answer.specs.KindsAt.{AreOwnKinds}
+use Rattle.owl_answer.specs.UnderKinds.{IsUnsaidUnder, SaysSome, SaysUnder}
+use Rattle.owl_answer.specs.declared.reading.Saying.{Saying}
+use Rattle.owl_answer.specs.declared.reading.Saying.TheVariants.{Held, Read}
 use Rattle.owl_answer.specs.declared.reading.Unsaid.{Unsaid}
 
--- the document says something under these kinds, or this is why not, unless memory ran out
-abbrev pub ReadsAs : List Entity → Parsed → Option ReverseFault → Type 0
-ReadsAs kinds parsed None = SaysSome kinds parsed
-ReadsAs kinds parsed (Some fault) = fault ≢ Memory → IsUnsaidUnder kinds parsed fault
+-- the ontology
+abbrev pub doc_in : Saying → doc.Document
+doc_in (Held doc) = doc.now
+doc_in (Read doc) = doc
+
+abbrev pub said_in : Saying → Said
+said_in saying = said_of (doc_in saying)
+
+-- this is why the document says nothing under these kinds, unless memory ran out
+abbrev pub IsFaultUnder : List Entity → Parsed → ReverseFault → Type 0
+IsFaultUnder kinds parsed fault = fault ≢ Memory → IsUnsaidUnder kinds parsed fault
+
+-- behind the others stands what the document says under these kinds
+pub record SaysNext (kinds : List Entity) (parsed : Parsed) (before after : List Saying) : Type 0 where
+  pub saying : Saying
+  pub says : SaysUnder kinds parsed (said_in saying)
+  pub is : after ≡ before ++ saying ∷ []
+
+-- what the document says under the kinds that it declares itself
+pub record SaysAlone (parsed : Parsed) (said : Said) : Type 0 where
+  pub kinds : List Entity
+  pub own : AreOwnKinds parsed kinds
+  pub says : SaysUnder kinds parsed said
+
+-- why it says nothing under them
+pub record IsUnsaidAlone (parsed : Parsed) (fault : ReverseFault) : Type 0 where
+  pub kinds : List Entity
+  pub own : AreOwnKinds parsed kinds
+  pub unsaid : IsUnsaidUnder kinds parsed fault
+
+-- a document stands at this place, and says this under these kinds
+pub record IsSaidAt (documents : List Parsed) (kinds : List Entity) (place : ℕ) (said : Said) : Type 0 where
+  pub parsed : Parsed
+  pub there : slice_get documents place ≡ Some parsed
+  pub says : SaysUnder kinds parsed said
+
+-- the documents at these places say this, one by one
+abbrev pub AllSayAt : List Parsed → List Entity → List ℕ → List Saying → Type 0
+AllSayAt documents kinds [] [] = Unit {0}
+AllSayAt documents kinds (place ∷ places) (saying ∷ sayings) = IsSaidAt documents kinds place (said_in saying) × AllSayAt documents kinds places sayings
+AllSayAt documents kinds places sayings = ⊥
 
 -- a document that stands at this place says something
 abbrev pub SaysSomeAt : List Parsed → List Entity → ℕ → Type 0
@@ -19,11 +60,7 @@ SaysSomeAt documents kinds place = (parsed : Parsed) → slice_get documents pla
 
 -- a document stands at this place, and this is why it says nothing, unless memory ran out
 abbrev pub IsFaultAt : List Parsed → List Entity → ℕ → ReverseFault → Type 0
-IsFaultAt documents kinds place fault = (parsed : Parsed) × (slice_get documents place ≡ Some parsed) × (fault ≢ Memory → IsUnsaidUnder kinds parsed fault)
-
-abbrev pub FindsFault : List Parsed → List Entity → ℕ → Option ReverseFault → Type 0
-FindsFault documents kinds place None = SaysSomeAt documents kinds place
-FindsFault documents kinds place (Some fault) = IsFaultAt documents kinds place fault
+IsFaultAt documents kinds place fault = (parsed : Parsed) × (slice_get documents place ≡ Some parsed) × IsFaultUnder kinds parsed fault
 
 -- the first of these places where a document says nothing
 pub record IsFirstFault (documents : List Parsed) (kinds : List Entity) (places : List ℕ) (unsaid : Unsaid) : Type 0 where
@@ -32,8 +69,3 @@ pub record IsFirstFault (documents : List Parsed) (kinds : List Entity) (places 
   pub split : places ≡ before ++ unsaid.document ∷ after
   pub say : AllByRecursion (SaysSomeAt documents kinds) before
   pub fault : IsFaultAt documents kinds unsaid.document unsaid.fault
-
--- it, or each says something
-abbrev pub FindsUnsaid : List Parsed → List Entity → List ℕ → Option Unsaid → Type 0
-FindsUnsaid documents kinds places None = AllByRecursion (SaysSomeAt documents kinds) places
-FindsUnsaid documents kinds places (Some unsaid) = IsFirstFault documents kinds places unsaid

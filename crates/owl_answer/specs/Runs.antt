@@ -5,7 +5,9 @@ use Rattle.owl_close.specs.Imports.{IsFirstMissing, MissesNone}
 use Rattle.fss_terms.specs.Functional.{ReadsFunctional}
 use Rattle.rdf_sayable.specs.Parts.{Part}
 use Rattle.rdf_sayable.specs.Reasons.{Objection}
-use Rattle.owl_command.specs.Commands.{AsksImports, Asks, HasNoCommand, IsAmong, Request, translates, shows, compares, names_of}
+use Rattle.owl_command.specs.Commands.{AsksImports, Asks, HasNoCommand, IsAmong, Request, compares, names_of, of_main}
+use Rattle.owl_command.specs.declared.command.Action.{Action}
+use Rattle.owl_command.specs.declared.command.Action.TheVariants.{Translate, Show}
 use Rattle.owl_command.specs.declared.command.Target.{Target as Syntax}
 use Rattle.owl_command.specs.declared.command.Target.TheVariants.{Fss, Ttl}
 use Rattle.owl_command.specs.declared.status.Status.{Status}
@@ -35,12 +37,15 @@ IsTranslation Fss (an_ontology said) kinds main outcome = IsLimited (λ wanted. 
 IsTranslation Fss (a_graph read) kinds main outcome = IsFunctionalTranslation kinds main outcome
 IsTranslation Ttl parsed kinds main outcome = IsTurtleTranslation kinds main outcome
 
+-- What becomes of the main document by an action, by what it says under these kinds.
+abbrev pub IsActionOutcome : Action → Parsed → List Entity → Said → Outcome → Type 0
+IsActionOutcome (Translate target) parsed kinds main outcome = IsTranslation target parsed kinds main outcome
+IsActionOutcome Show parsed kinds main outcome = IsLimited (λ wanted. wanted ≡ shown main) outcome
+
 -- What becomes of documents that all say something: of the main one, or of two.
 abbrev pub AnswersWith : Request → List Parsed → Outcome → Type 0
-AnswersWith (translates target partial names) documents outcome =
-    HoldsOfMain (translates target partial names) documents (λ parsed kinds main. IsTranslation target parsed kinds main outcome)
-AnswersWith (shows partial names) documents outcome =
-    HoldsOfMain (shows partial names) documents (λ parsed kinds main. IsLimited (λ wanted. wanted ≡ shown main) outcome)
+AnswersWith (of_main action partial names) documents outcome =
+    HoldsOfMain (of_main action partial names) documents (λ parsed kinds main. IsActionOutcome action parsed kinds main outcome)
 AnswersWith (compares first second) documents outcome =
     HoldsOfTwo (compares first second) documents (λ a b. IsLimited (IsComparison a b) outcome)
 
@@ -60,10 +65,15 @@ pub data IsOutcome (words : List (List ℕ)) (contents : Contents) (outcome : Ou
   no_command : HasNoCommand words → outcome ≡ refused Words (codes "words\n") → IsOutcome words contents outcome
   of_request : (request : Request) → Asks words request → Becomes contents request outcome → IsOutcome words contents outcome
 
+-- the line of an action's success
+abbrev pub ActionLine : Action → Status → List ℕ → Type 0
+ActionLine (Translate target) Done line = (axioms absorbed : ℕ) × (line ≡ done_line axioms absorbed)
+ActionLine Show Done line = line ≡ codes "shown\n"
+ActionLine action status line = ⊥
+
 -- the line of a success
 abbrev pub SuccessLine : Request → Status → List ℕ → Type 0
-SuccessLine (translates target partial names) Done line = (axioms absorbed : ℕ) × (line ≡ done_line axioms absorbed)
-SuccessLine (shows partial names) Done line = line ≡ codes "shown\n"
+SuccessLine (of_main action partial names) status line = ActionLine action status line
 SuccessLine (compares first second) Done line = line ≡ codes "same\n"
 SuccessLine (compares first second) No line = line ≡ codes "different\n"
 SuccessLine request status line = ⊥
@@ -87,16 +97,13 @@ pub data IsTurtleRefusal : Outcome → Type 0 where
 
 -- a translation
 abbrev pub AsksTranslation : Request → Type 0
-AsksTranslation (translates target partial names) = Unit {0}
-AsksTranslation (shows partial names) = ⊥
-AsksTranslation (compares first second) = ⊥
+AsksTranslation (of_main (Translate target) partial names) = Unit {0}
+AsksTranslation request = ⊥
 
 -- a translation to Turtle
 abbrev pub AsksTurtle : Request → Type 0
-AsksTurtle (translates Fss partial names) = ⊥
-AsksTurtle (translates Ttl partial names) = Unit {0}
-AsksTurtle (shows partial names) = ⊥
-AsksTurtle (compares first second) = ⊥
+AsksTurtle (of_main (Translate Ttl) partial names) = Unit {0}
+AsksTurtle request = ⊥
 
 -- The lines of a status for what is asked for. A read fault names a document that has this cause.
 pub data LineFor (request : Request) (IsCause : List ℕ → Type 0) (status : Status) (line : List ℕ) : Type 0 where
@@ -120,11 +127,15 @@ abbrev pub ReadsIn : Syntax → List Entity → List ℕ → Said → Type 0
 ReadsIn Fss kinds text said = ReadsFunctional text said.prefixes said.ontology
 ReadsIn Ttl kinds text said = ReadsSaid kinds text said
 
--- the text of a translation reads back to the normal form of what the main document says, under the same kinds
+-- What the text of an action is: that of a translation reads back to the normal form of what the main document says, under the same kinds.
+abbrev pub IsActionText : Action → List Entity → Said → List ℕ → Type 0
+IsActionText (Translate target) kinds main text = ReadsIn target kinds text (normal_form target main)
+IsActionText Show kinds main text = Unit {0}
+
+-- the text is that of the action, by what the main document says
 abbrev pub IsBack : Request → List Parsed → List ℕ → Type 0
-IsBack (translates target partial names) documents text =
-    HoldsOfMain (translates target partial names) documents (λ parsed kinds main. ReadsIn target kinds text (normal_form target main))
-IsBack (shows partial names) documents text = Unit {0}
+IsBack (of_main action partial names) documents text =
+    HoldsOfMain (of_main action partial names) documents (λ parsed kinds main. IsActionText action kinds main text)
 IsBack (compares first second) documents text = Unit {0}
 
 -- The documents are read, and the text of a translation reads back to the main one's normal form.

@@ -1,7 +1,7 @@
 -- What documents say once the kinds of IRIs are known (Mapping to RDF Graphs, section 3).
 use Rattle.std.specs.Prelude.{◌≡◌, ◌≤◌, ℕ, List, Some, slice_get}
 use Rattle.owl_close.specs.Imports.{Reaches}
-use Rattle.owl_command.specs.Commands.{Request, compares, shows, translates}
+use Rattle.owl_command.specs.Commands.{Request, compares, of_main}
 use Rattle.owl_documents.specs.Documents.{Parsed, Said, a_graph, an_ontology}
 use Rattle.owl_kind.specs.Kinds.{Entity}
 use Rattle.rdf_reverse.specs.Reverse.{IsSaid, IsUnsaid}
@@ -25,15 +25,13 @@ SaysSome kinds parsed = (said : Said) × SaysUnder kinds parsed said
 
 -- what is asked for is of a main document
 abbrev pub IsOfMain : Request → Type 0
-IsOfMain (translates target partial names) = Unit {0}
-IsOfMain (shows partial names) = Unit {0}
+IsOfMain (of_main action partial names) = Unit {0}
 IsOfMain (compares first second) = ⊥
 
 -- The document at this place is read, under these kinds: each that the main one reaches under those of its closure, and each of two that are
 -- compared under its own.
 abbrev pub HasKinds : Request → List Parsed → ℕ → Parsed → List Entity → Type 0
-HasKinds (translates target partial names) documents place parsed kinds = Reaches (heads_in documents) place × AreClosureKinds documents kinds
-HasKinds (shows partial names) documents place parsed kinds = Reaches (heads_in documents) place × AreClosureKinds documents kinds
+HasKinds (of_main action partial names) documents place parsed kinds = Reaches (heads_in documents) place × AreClosureKinds documents kinds
 HasKinds (compares first second) documents place parsed kinds = AreOwnKinds parsed kinds
 
 -- this document stands at this place, and is read under these kinds

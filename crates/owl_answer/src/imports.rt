@@ -5,14 +5,15 @@ ghost use Rattle.owl_close.specs.Imports.{AreReached, heads_of};
 ghost use Rattle.owl_command.specs.Commands.{request_of};
 ghost use Rattle.owl_doc.specs.Heads.{head_of};
 ghost use Rattle.owl_documents.specs.Documents.{head_in, parsed_of};
+ghost use Rattle.owl_answer.specs.Asked.{IsAsked};
 ghost use Rattle.owl_answer.specs.Outcome.{heads_in};
 ghost use Rattle.owl_answer.specs.Runs.{HasImports};
 ghost use Rattle.owl_answer.specs.Answers.{IsMissingFor};
 
+use crate::asked::Asked;
 use owl_atom::Iri;
 use owl_characters::NoMemory;
 use owl_close::{CloseFault, closure};
-use owl_command::Command;
 use owl_doc::Head;
 use owl_documents::Document;
 use std::alloc::{AllocError, Global};
@@ -49,21 +50,18 @@ fn document_head(doc: &Document) -> &Head
 
 /// The first import that names no document, where the command asks for each to
 /// be there.
-pub fn first_missing(
-    alloc: Global,
-    command: &Command,
-    docs: &[Document],
-) -> Result<Option<Missing>, NoMemory>
-    requires { 0 < length docs.now }
+pub fn first_missing(alloc: Global, asked: &Asked) -> Result<Option<Missing>, NoMemory>
+    requires { IsAsked asked.now }
     ensures some { IfOk result (λ found. IfSome found
-        (IsMissingFor (request_of command.now) (heads_in (map parsed_of docs.now)))) }
+        (IsMissingFor (request_of asked.now.command.now)
+        (heads_in (map parsed_of asked.now.docs.now)))) }
     ensures none { IfOk result (λ found. IfNone found
-        (HasImports (request_of command.now) (map parsed_of docs.now))) }
+        (HasImports (request_of asked.now.command.now) (map parsed_of asked.now.docs.now))) }
 {
-    if !command.asks_imports() {
+    if !asked.command.asks_imports() {
         return Ok(None);
     }
-    let heads = heads(alloc, docs)?;
+    let heads = heads(alloc, asked.docs)?;
     match closure(alloc, &heads, false) {
         Ok(_) => Ok(None),
         Err(CloseFault::MissingImport { document, iri }) => Ok(Some(Missing { document, iri })),

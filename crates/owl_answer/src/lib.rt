@@ -2,6 +2,8 @@
 #![tactic(auto)]
 
 mod answer;
+mod asked;
+mod closure;
 mod comparison;
 mod conclusion;
 mod imports;

@@ -1,17 +1,41 @@
 //! What documents say under kinds.
 
-ghost use Rattle.std.specs.Prelude.{◌≢◌, IfErr, IfOk, map};
+ghost use Rattle.std.specs.Prelude.{◌≡◌, ◌≢◌, IfErr, IfOk, OnOk, map};
 ghost use Rattle.owl_documents.specs.Documents.{parsed_of, said_of};
 ghost use Rattle.owl_documents.specs.declared.document.Document.TheVariants.{Graph};
 ghost use Rattle.rdf_reverse.specs.declared.fault.ReverseFault.TheVariants.{Memory};
-ghost use Rattle.owl_answer.specs.Reading.{FindsFault, FindsUnsaid, ReadsAs};
-ghost use Rattle.owl_answer.specs.UnderKinds.{IsUnsaidUnder, SaysUnder};
+ghost use Rattle.owl_answer.specs.KindsAt.{IsClosure};
+ghost use Rattle.owl_answer.specs.Reading.{AllSayAt, IsFaultUnder, IsFirstFault, IsUnsaidAlone, SaysAlone, SaysNext, doc_in, said_in};
+ghost use Rattle.owl_answer.specs.UnderKinds.{SaysUnder};
 
+use crate::closure::Closure;
+use crate::kinds::own_kinds;
 use owl_doc::Doc;
 use owl_documents::{Document, GraphDocument};
 use owl_tree::Kinds;
 use rdf_reverse::{ReverseFault, reverse};
 use std::alloc::Global;
+
+/// What a document says.
+#[derive(Drop)]
+pub enum Saying<'a> {
+    /// The ontology that was read.
+    Held(&'a Doc),
+    /// What its graph says.
+    Read(Doc),
+}
+
+impl Saying<'_> {
+    /// The ontology.
+    pub fn doc(&self) -> &Doc
+        ensures { result.now ≡ doc_in self.now }
+    {
+        match self {
+            Saying::Held(doc) => doc,
+            Saying::Read(doc) => doc,
+        }
+    }
+}
 
 /// Why a document says nothing, and its place among the documents.
 #[derive(Drop)]
@@ -20,64 +44,83 @@ pub struct Unsaid {
     pub fault: ReverseFault,
 }
 
-/// What the graph says under these kinds.
-pub fn read_graph(alloc: Global, doc: &GraphDocument, kinds: &Kinds) -> Result<Doc, ReverseFault>
-    ensures said { IfOk result (λ read.
-        SaysUnder kinds.now (parsed_of (Graph doc.now)) (said_of read)) }
-    ensures fault { IfErr result (λ fault. fault ≢ Memory →
-        IsUnsaidUnder kinds.now (parsed_of (Graph doc.now)) fault) }
-{
-    let prefixes = doc.prefixes.copy(alloc)?;
-    reverse(alloc, &doc.graph, prefixes, kinds)
-}
-
-/// The first of these places where a document says nothing under these kinds.
-pub fn first_unsaid(
+/// What each document of the closure says under its kinds, in the order of their
+/// places, or the first that says nothing.
+pub fn read_closure<'a>(
     alloc: Global,
-    docs: &[Document],
-    places: &[usize],
-    kinds: &Kinds,
-) -> Option<Unsaid>
-    ensures { FindsUnsaid (map parsed_of docs.now) kinds.now places.now result }
+    docs: &'a [Document],
+    closure: &Closure,
+) -> Result<Vec<Saying<'a>>, Unsaid>
+    requires { IsClosure (map parsed_of docs.now) closure.now }
+    ensures said { IfOk result (λ sayings. AllSayAt (map parsed_of docs.now)
+        closure.now.kinds closure.now.places.items sayings.items) }
+    ensures fault { IfErr result (
+        IsFirstFault (map parsed_of docs.now) closure.now.kinds closure.now.places.items) }
 {
-    for place in places {
-        if let Some(fault) = fault_at(alloc, docs, *place, kinds) {
-            return Some(Unsaid {
+    let mut sayings = Vec::new(alloc);
+    for place in &closure.places {
+        let document = &docs[*place];
+        if let Err(fault) = read_next(alloc, document, &closure.kinds, &mut sayings) {
+            return Err(Unsaid {
                 document: *place,
                 fault,
             });
         }
     }
-    None
+    Ok(sayings)
 }
 
-/// Why the document at this place says nothing under these kinds; `None` where it
-/// says something, or where no document stands there.
-fn fault_at(alloc: Global, docs: &[Document], place: usize, kinds: &Kinds) -> Option<ReverseFault>
-    ensures { FindsFault (map parsed_of docs.now) kinds.now place result }
+/// Puts what the document says under these kinds behind the others, or tells why it
+/// says nothing.
+fn read_next<'a>(
+    alloc: Global,
+    doc: &'a Document,
+    kinds: &Kinds,
+    sayings: &mut Vec<Saying<'a>>,
+) -> Result<(), ReverseFault>
+    ensures said { OnOk result (
+        SaysNext kinds.now (parsed_of doc.now) sayings.old.items sayings.new.items) }
+    ensures fault { IfErr result (IsFaultUnder kinds.now (parsed_of doc.now)) }
 {
-    match docs.get(place) {
-        Some(doc) => fault_of(alloc, doc, kinds),
-        None => None,
+    let saying = read_under(alloc, doc, kinds)?;
+    match sayings.push(saying) {
+        Ok(()) => Ok(()),
+        Err(_) => Err(ReverseFault::Memory),
     }
 }
 
-/// Why the document says nothing under these kinds; `None` where it says something.
-fn fault_of(alloc: Global, doc: &Document, kinds: &Kinds) -> Option<ReverseFault>
-    ensures { ReadsAs kinds.now (parsed_of doc.now) result }
+/// What the document says under these kinds.
+fn read_under<'a>(
+    alloc: Global,
+    doc: &'a Document,
+    kinds: &Kinds,
+) -> Result<Saying<'a>, ReverseFault>
+    ensures said { IfOk result (λ saying.
+        SaysUnder kinds.now (parsed_of doc.now) (said_in saying)) }
+    ensures fault { IfErr result (IsFaultUnder kinds.now (parsed_of doc.now)) }
 {
     match doc {
-        Document::Ontology(_) => None,
-        Document::Graph(graph) => graph_fault(alloc, graph, kinds),
+        Document::Ontology(doc) => Ok(Saying::Held(doc)),
+        Document::Graph(graph) => Ok(Saying::Read(read_graph(alloc, graph, kinds)?)),
     }
 }
 
-/// Why the graph says nothing under these kinds; `None` where it says something.
-fn graph_fault(alloc: Global, doc: &GraphDocument, kinds: &Kinds) -> Option<ReverseFault>
-    ensures { ReadsAs kinds.now (parsed_of (Graph doc.now)) result }
+/// What the graph says under these kinds.
+fn read_graph(alloc: Global, doc: &GraphDocument, kinds: &Kinds) -> Result<Doc, ReverseFault>
+    ensures said { IfOk result (λ read.
+        SaysUnder kinds.now (parsed_of (Graph doc.now)) (said_of read)) }
+    ensures fault { IfErr result (IsFaultUnder kinds.now (parsed_of (Graph doc.now))) }
 {
-    match read_graph(alloc, doc, kinds) {
-        Ok(_) => None,
-        Err(fault) => Some(fault),
-    }
+    let prefixes = doc.prefixes.copy(alloc)?;
+    reverse(alloc, &doc.graph, prefixes, kinds)
+}
+
+/// What the document says under the kinds that it declares itself.
+pub fn read_alone(alloc: Global, doc: &Document) -> Result<Saying<'_>, ReverseFault>
+    ensures said { IfOk result (λ saying. SaysAlone (parsed_of doc.now) (said_in saying)) }
+    ensures fault { IfErr result (λ fault.
+        fault ≢ Memory → IsUnsaidAlone (parsed_of doc.now) fault) }
+{
+    let kinds = own_kinds(alloc, doc)?;
+    read_under(alloc, doc, &kinds)
 }

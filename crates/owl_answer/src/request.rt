@@ -6,6 +6,7 @@ ghost use Rattle.owl_documents.specs.Shelves.{IsTaken};
 ghost use Rattle.owl_answer.specs.Answers.{IsAnswered, outcome_of};
 
 use crate::answer::Answer;
+use crate::asked::Asked;
 use crate::conclusion::conclude;
 use crate::refusal::answer_trouble;
 use owl_characters::NoMemory;
@@ -29,7 +30,13 @@ pub fn answer_to<S: Shelf>(
     // What is known of all documents.
     documents_are_read_one_way();
     match read_documents(alloc, command, shelf) {
-        Ok(docs) => conclude(alloc, command, &docs),
+        Ok(docs) => {
+            let asked = Asked {
+                command,
+                docs: &docs,
+            };
+            conclude(alloc, &asked)
+        }
         Err(stop) => answer_trouble(alloc, command.name(stop.document), &stop.trouble),
     }
 }

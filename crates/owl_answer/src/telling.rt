@@ -4,15 +4,12 @@ ghost use Rattle.std.specs.Prelude.{◌≡◌, IfOk};
 ghost use Rattle.std.specs.Str.{encode_utf8_all};
 ghost use Rattle.fss_terms.specs.Functional.{ReadsFunctional};
 ghost use Rattle.fss_write.specs.Text.{text_of};
-ghost use Rattle.owl_command.specs.Commands.{request_of};
-ghost use Rattle.owl_command.specs.declared.command.Target.TheVariants.{Fss};
 ghost use Rattle.owl_doc.specs.Documents.{ontology_of};
 ghost use Rattle.owl_documents.specs.Documents.{parsed_of, said_of};
 ghost use Rattle.owl_writing.specs.Tables.{declared_prefixes};
-ghost use Rattle.owl_answer.specs.Answers.{IsInTurtle, IsToldOfMain, IsTranslated, outcome_of};
+ghost use Rattle.owl_answer.specs.Answers.{IsInTurtle, IsToldOfMain, outcome_of};
 ghost use Rattle.owl_answer.specs.Outcome.{IsLimited, IsSuccess, shown, translation};
 ghost use Rattle.owl_answer.specs.TurtleOutcome.{IsFunctionalTranslation};
-ghost use Rattle.owl_answer.specs.UnderKinds.{IsOfMain};
 
 use crate::answer::{Answer, done_line, told, too_long_output};
 use crate::refusals::typing_refusal;
@@ -20,28 +17,26 @@ use crate::summary::summary;
 use crate::turtle::translate_to_turtle;
 use fss_write::{WriteFault, write};
 use owl_characters::{MOST_BYTES, NoMemory, Text};
-use owl_command::{Command, Status, Target};
+use owl_command::{Action, Status, Target};
 use owl_doc::Doc;
 use owl_documents::Document;
 use owl_tree::Kinds;
 use std::alloc::Global;
 
-/// What is told of the main document, which says this under these kinds.
+/// What an action tells of the main document, which says this under these kinds.
 pub fn tell_main(
     alloc: Global,
-    command: &Command,
+    action: Action,
     document: &Document,
     kinds: &Kinds,
     main: &Doc,
 ) -> Result<Answer, NoMemory>
-    requires { IsOfMain (request_of command.now) }
-    ensures { IfOk result (λ answer. IsToldOfMain (request_of command.now)
-        (parsed_of document.now) kinds.now (said_of main.now) (outcome_of answer)) }
+    ensures { IfOk result (λ answer. IsToldOfMain action (parsed_of document.now) kinds.now
+        (said_of main.now) (outcome_of answer)) }
 {
-    match command {
-        Command::Translate { target, .. } => translate(alloc, *target, document, kinds, main),
-        Command::Show { .. } => show(alloc, main),
-        Command::Same { .. } => unreachable!(),
+    match action {
+        Action::Translate(target) => translate(alloc, target, document, kinds, main),
+        Action::Show => show(alloc, main),
     }
 }
 
@@ -53,8 +48,8 @@ fn translate(
     kinds: &Kinds,
     main: &Doc,
 ) -> Result<Answer, NoMemory>
-    ensures { IfOk result (λ answer. IsTranslated target (parsed_of document.now) kinds.now
-        (said_of main.now) (outcome_of answer)) }
+    ensures { IfOk result (λ answer. IsToldOfMain (Action.Translate target)
+        (parsed_of document.now) kinds.now (said_of main.now) (outcome_of answer)) }
 {
     match target {
         Target::Fss => translate_in_functional(alloc, document, kinds, main),
@@ -70,8 +65,8 @@ fn translate_in_functional(
     kinds: &Kinds,
     main: &Doc,
 ) -> Result<Answer, NoMemory>
-    ensures { IfOk result (λ answer. IsTranslated Fss (parsed_of document.now) kinds.now
-        (said_of main.now) (outcome_of answer)) }
+    ensures { IfOk result (λ answer. IsToldOfMain (Action.Translate Target.Fss)
+        (parsed_of document.now) kinds.now (said_of main.now) (outcome_of answer)) }
 {
     match document {
         Document::Ontology(_) => translate_to_functional(alloc, main),

@@ -4,9 +4,11 @@ use Rattle.std.specs.List.{AllByRecursion}
 use Rattle.std.specs.Str.{encode_utf8_all}
 use Rattle.std.proofs.Math.Seq.{take-length}
 use Rattle.std.proofs.lemmas.List.{map-append}
-use Rattle.owl_command.specs.Commands.{AreNames, IsAmong, Asks, HasNoCommand, IsName, compares, flag_words, shows, translates, translation_words}
-use Rattle.owl_command.proofs.CommandsLaws.{flag_is_no_name, show_is_not_same, target_once, verb}
+use Rattle.owl_command.specs.Commands.{AreNames, IsAmong, Asks, HasNoCommand, IsName, action_words, compares, flag_words, of_main}
+use Rattle.owl_command.proofs.CommandsLaws.{action_is_not_same, actions_once, flag_is_no_name}
 use Rattle.owl_command.specs.WordParts.{AreTwoNames, IsStripped, NameNone, NameWith}
+use Rattle.owl_command.specs.declared.command.Action.{Action}
+use Rattle.owl_command.specs.declared.command.Action.TheVariants.{Translate, Show}
 use Rattle.owl_command.specs.declared.command.Target.{Target}
 
 -- the first of some items, and those behind it
@@ -42,48 +44,42 @@ pub stripped_none : (words others : List (List ℕ)) (partial : Bool) → IsStri
 stripped_none words others partial s none flag names n =
     none (subst AreNames (stripped_names words others names partial flag s n) n.right)
 
+-- words that begin with those of no action
+pub no_action : (words : List (List ℕ)) → ((target : Target) (others : List (List ℕ)) → words ≢ action_words (Translate target) ++ others) → ((others : List (List ℕ)) → words ≢ codes "show" ∷ others) → (action : Action) (others : List (List ℕ)) → words ≢ action_words action ++ others
+no_action words t s (Translate target) others e = t target others e
+no_action words t s Show others e = s others e
+
 -- what the words behind the first ones name is what the words ask for
 module _ (words others : List (List ℕ)) where
-  pub asks_translation : (target : Target) (partial : Bool) (names : List (List ℕ)) → words ≡ translation_words target others → NameWith others partial names → Asks words (translates target partial names)
-  asks_translation target partial names e n = record { names = n.right; are = cc }
+  pub asks_action : (action : Action) (partial : Bool) (names : List (List ℕ)) → words ≡ action_words action ++ others → NameWith others partial names → Asks words (of_main action partial names)
+  asks_action action partial names e n =
+      record { names = n.right; are = e ∙ ap (λ (ws : List (List ℕ)). action_words action ++ ws) n.are }
 
-  pub asks_show : (partial : Bool) (names : List (List ℕ)) → words ≡ codes "show" ∷ others → NameWith others partial names → Asks words (shows partial names)
-  asks_show partial names e n = record { names = n.right; are = cc }
-
-  pub no_translation : (target : Target) → words ≡ translation_words target others → NameNone others → HasNoCommand words
-  no_translation target e none (translates other partial names) a =
-      let same = target_once target other cc in
-      none partial names (record { right = a.names; are = cc })
-  no_translation target e none (shows partial names) a = absurd (cc)
-  no_translation target e none (compares first second) a = absurd (cc)
-
-  pub no_show : words ≡ codes "show" ∷ others → NameNone others → HasNoCommand words
-  no_show e none (translates target partial names) a = absurd (cc)
-  no_show e none (shows partial names) a = none partial names (record { right = a.names; are = cc })
-  no_show e none (compares first second) a = absurd (show_is_not_same (ap verb (sym e ∙ a.are)))
+  pub no_names : (action : Action) → words ≡ action_words action ++ others → NameNone others → HasNoCommand words
+  no_names action e none (of_main other partial names) a =
+      let one = actions_once action other others (flag_words partial ++ names) (sym e ∙ a.are) in
+      none partial names (record { right = a.names; are = one.1 })
+  no_names action e none (compares first second) a =
+      action_is_not_same action others (first ∷ second ∷ []) (sym e ∙ a.are)
 
   pub no_comparison : words ≡ codes "same" ∷ others → (AreTwoNames others → ⊥) → HasNoCommand words
-  no_comparison e none (translates target partial names) a = absurd (cc)
-  no_comparison e none (shows partial names) a = absurd (show_is_not_same (ap verb (sym a.are ∙ e)))
+  no_comparison e none (of_main action partial names) a =
+      action_is_not_same action (flag_words partial ++ names) others (sym a.are ∙ e)
   no_comparison e none (compares first second) a =
       let are : others ≡ first ∷ second ∷ [] = cc in
       none (record { first = first; second = second; are = are; names = subst AreNames (sym are) a.names })
 
-  pub names_no_translation : (target : Target) → words ≡ translation_words target others → HasNoCommand words → NameNone others
-  names_no_translation target e none partial names n = none (translates target partial names) (asks_translation target partial names e n)
-
-  pub names_no_show : words ≡ codes "show" ∷ others → HasNoCommand words → NameNone others
-  names_no_show e none partial names n = none (shows partial names) (asks_show partial names e n)
+  pub names_no_action : (action : Action) → words ≡ action_words action ++ others → HasNoCommand words → NameNone others
+  names_no_action action e none partial names n = none (of_main action partial names) (asks_action action partial names e n)
 
   pub names_no_comparison : words ≡ codes "same" ∷ others → HasNoCommand words → AreTwoNames others → ⊥
   names_no_comparison e none two =
       none (compares two.first two.second) (record { names = subst AreNames two.are two.names; are = e ∙ ap (λ (ws : List (List ℕ)). codes "same" ∷ ws) two.are })
 
 -- words that begin with none of these
-pub no_verb : (words : List (List ℕ)) → ((target : Target) (others : List (List ℕ)) → words ≢ translation_words target others) → ((others : List (List ℕ)) → words ≢ codes "show" ∷ others) → ((others : List (List ℕ)) → words ≢ codes "same" ∷ others) → HasNoCommand words
-no_verb words t s c (translates target partial names) a = t target (flag_words partial ++ names) a.are
-no_verb words t s c (shows partial names) a = s (flag_words partial ++ names) a.are
-no_verb words t s c (compares first second) a = c (first ∷ second ∷ []) a.are
+pub no_verb : (words : List (List ℕ)) → ((action : Action) (others : List (List ℕ)) → words ≢ action_words action ++ others) → ((others : List (List ℕ)) → words ≢ codes "same" ∷ others) → HasNoCommand words
+no_verb words a c (of_main action partial names) asks = a action (flag_words partial ++ names) asks.are
+no_verb words a c (compares first second) asks = c (first ∷ second ∷ []) asks.are
 
 -- two words that are names
 pub pair_asks : {X : Type 0} (text : X → List ℕ) (words : List X) (x y : X) (first second : List ℕ) → 2 ≤ length words → length words < 3 → x ≡ get_or words 0 x → y ≡ get_or words 1 y → encode_utf8_all first ≡ text x → encode_utf8_all second ≡ text y → AreNames (map text words) → Asks (codes "same" ∷ map text words) (compares (encode_utf8_all first) (encode_utf8_all second))

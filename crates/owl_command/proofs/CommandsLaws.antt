@@ -1,7 +1,9 @@
 -- Words ask for one thing.
 use Rattle.std.proofs.Common.{◌≡◌, ℕ, Bool, false, true, List, [], ◌∷◌, ◌++◌, codes, nat_eq, refl, ap, sym, ◌∙◌, subst}
 use Rattle.std.specs.List.{AllByRecursion}
-use Rattle.owl_command.specs.Commands.{Asks, IsName, Request, compares, flag_words, names_of, shows, target_word, translates, words_of}
+use Rattle.owl_command.specs.Commands.{Asks, IsName, Request, action_words, compares, flag_words, names_of, of_main, target_word, words_of}
+use Rattle.owl_command.specs.declared.command.Action.{Action}
+use Rattle.owl_command.specs.declared.command.Action.TheVariants.{Translate, Show}
 use Rattle.owl_command.specs.declared.command.Target.{Target}
 use Rattle.owl_command.specs.declared.command.Target.TheVariants.{Fss, Ttl}
 
@@ -41,24 +43,30 @@ target_once Fss Ttl e = let h : true ≡ false = ap (λ (w : List ℕ). nat_eq (
 target_once Ttl Fss e = let h : false ≡ true = ap (λ (w : List ℕ). nat_eq (first_letter w) 102) e in absurd (cc)
 target_once Ttl Ttl e = refl
 
+-- first words are those of one action, with what stands behind them
+pub actions_once : (one other : Action) (behind rest : List (List ℕ)) → action_words one ++ behind ≡ action_words other ++ rest → (one ≡ other) × (behind ≡ rest)
+actions_once (Translate s) (Translate t) behind rest e =
+    let word : target_word s ≡ target_word t = cc in
+    (ap Translate (target_once s t word), cc)
+actions_once (Translate s) Show behind rest e = absurd (cc)
+actions_once Show (Translate t) behind rest e = absurd (cc)
+actions_once Show Show behind rest e = (refl, cc)
+
+-- and no comparison's
+pub action_is_not_same : (action : Action) (behind rest : List (List ℕ)) → action_words action ++ behind ≡ codes "same" ∷ rest → ⊥
+action_is_not_same (Translate target) behind rest e = cc
+action_is_not_same Show behind rest e = show_is_not_same (ap verb e)
+
 pub asks_once : (words : List (List ℕ)) (one other : Request) → Asks words one → Asks words other → one ≡ other
 asks_once words one other h k = by_words one other h.names.named k.names.named (sym h.are ∙ k.are)
   where
     by_words : (one other : Request) → AllByRecursion IsName (names_of one) → AllByRecursion IsName (names_of other) → words_of one ≡ words_of other → one ≡ other
-    by_words (translates s p names) (translates t q others) h k e =
-        let word : target_word s ≡ target_word t = cc in
-        let behind : flag_words p ++ names ≡ flag_words q ++ others = cc in
-        let target = target_once s t word in
-        let once = flags_once p q names others h k behind in
+    by_words (of_main a p names) (of_main b q others) h k e =
+        let action = actions_once a b (flag_words p ++ names) (flag_words q ++ others) e in
+        let once = flags_once p q names others h k action.1 in
         cc
-    by_words (translates t p names) (shows q others) h k e = absurd (cc)
-    by_words (translates t p names) (compares first second) h k e = absurd (cc)
-    by_words (shows p names) (translates t q others) h k e = absurd (cc)
-    by_words (shows p names) (shows q others) h k e =
-        let behind : flag_words p ++ names ≡ flag_words q ++ others = cc in
-        let once = flags_once p q names others h k behind in
-        cc
-    by_words (shows p names) (compares first second) h k e = absurd (show_is_not_same (ap verb e))
-    by_words (compares first second) (translates t q others) h k e = absurd (cc)
-    by_words (compares first second) (shows q others) h k e = absurd (show_is_not_same (ap verb (sym e)))
+    by_words (of_main a p names) (compares first second) h k e =
+        absurd (action_is_not_same a (flag_words p ++ names) (first ∷ second ∷ []) e)
+    by_words (compares first second) (of_main b q others) h k e =
+        absurd (action_is_not_same b (flag_words q ++ others) (first ∷ second ∷ []) (sym e))
     by_words (compares first second) (compares third fourth) h k e = cc

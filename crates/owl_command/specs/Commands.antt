@@ -4,8 +4,10 @@ use Rattle.std.specs.List.{AllByRecursion}
 use Rattle.std.specs.Str.{encode_utf8_all}
 use Rattle.owl_command.specs.declared.command.Target.{Target}
 use Rattle.owl_command.specs.declared.command.Target.TheVariants.{Fss, Ttl}
+use Rattle.owl_command.specs.declared.command.Action.{Action}
+use Rattle.owl_command.specs.declared.command.Action.TheVariants.{Translate, Show}
 use Rattle.owl_command.specs.declared.command.Command.{Command}
-use Rattle.owl_command.specs.declared.command.Command.TheVariants.{Translate, Show, Same}
+use Rattle.owl_command.specs.declared.command.Command.TheVariants.{OfMain, Same}
 
 -- the name ends in the suffix, behind at least one character
 pub record EndsIn (suffix name : List ℕ) : Type 0 where
@@ -39,24 +41,20 @@ pub record AreNames (names : List (List ℕ)) : Type 0 where
   pub named : AllByRecursion IsName names
   pub distinct : AreDistinct names
 
--- What words can ask for: a translation, what a document counts, or whether two documents say the same. The first of
--- several names is the main document's, and the others are those that it may import; imports may be missing where that is
--- said. Names are in bytes.
+-- What words can ask for: an action, or whether two documents say the same. An action is of a main document, whose name is the
+-- first, and of those that it may import; imports may be missing where that is said. Names are in bytes.
 pub data Request : Type 0 where
-  translates : Target → Bool → List (List ℕ) → Request
-  shows : Bool → List (List ℕ) → Request
+  of_main : Action → Bool → List (List ℕ) → Request
   compares : List ℕ → List ℕ → Request
 
 -- the documents, in the order in which they are read
 abbrev pub names_of : Request → List (List ℕ)
-names_of (translates target partial names) = names
-names_of (shows partial names) = names
+names_of (of_main action partial names) = names
 names_of (compares first second) = first ∷ second ∷ []
 
 -- each import has to be there
 abbrev pub AsksImports : Request → Type 0
-AsksImports (translates target partial names) = partial ≡ false
-AsksImports (shows partial names) = partial ≡ false
+AsksImports (of_main action partial names) = partial ≡ false
 AsksImports (compares first second) = ⊥
 
 -- the word of a target
@@ -64,9 +62,10 @@ abbrev pub target_word : Target → List ℕ
 target_word Fss = codes "fss"
 target_word Ttl = codes "ttl"
 
--- the words of a translation to this target, and those behind them
-abbrev pub translation_words : Target → List (List ℕ) → List (List ℕ)
-translation_words target others = codes "translate" ∷ codes "--to" ∷ target_word target ∷ others
+-- the first words of an action
+abbrev pub action_words : Action → List (List ℕ)
+action_words (Translate target) = codes "translate" ∷ codes "--to" ∷ target_word target ∷ []
+action_words Show = codes "show" ∷ []
 
 -- the word by which imports may be missing
 abbrev pub flag_words : Bool → List (List ℕ)
@@ -75,8 +74,7 @@ flag_words true = codes "--partial" ∷ []
 
 -- the words, in bytes
 abbrev pub words_of : Request → List (List ℕ)
-words_of (translates target partial names) = translation_words target (flag_words partial ++ names)
-words_of (shows partial names) = codes "show" ∷ (flag_words partial ++ names)
+words_of (of_main action partial names) = action_words action ++ (flag_words partial ++ names)
 words_of (compares first second) = codes "same" ∷ first ∷ second ∷ []
 
 -- The words ask for this.
@@ -96,8 +94,7 @@ pub record Name (words : List (List ℕ)) (name : List ℕ) : Type 0 where
 
 -- what a command asks for
 abbrev pub request_of : Command → Request
-request_of (Translate target partial names) = translates target partial (map encode_utf8_all names.items)
-request_of (Show partial names) = shows partial (map encode_utf8_all names.items)
+request_of (OfMain action partial names) = of_main action partial (map encode_utf8_all names.items)
 request_of (Same first second) = compares (encode_utf8_all first) (encode_utf8_all second)
 
 -- The words ask for what the command does.

@@ -1,7 +1,7 @@
 //! The words of the command line.
 
-ghost use Rattle.std.specs.Prelude.{◌≡◌, ◌≢◌, ◌∷◌, ◌<◌, ◌↔◌, List, ℕ, Some, length, map, slice_get, string_bytes, IsTrue, IfOk, IfSome, IfNone, IsErrOf, codes};
-ghost use Rattle.owl_command.specs.Commands.{AsksImports, HasNoCommand, IsCommand, names_of, request_of, target_word, translation_words};
+ghost use Rattle.std.specs.Prelude.{◌≡◌, ◌≢◌, ◌∷◌, ◌++◌, ◌<◌, ◌↔◌, List, ℕ, Some, length, map, slice_get, string_bytes, IsTrue, IfOk, IfSome, IfNone, IsErrOf, codes};
+ghost use Rattle.owl_command.specs.Commands.{AsksImports, HasNoCommand, IsCommand, action_words, names_of, request_of, target_word};
 ghost use Rattle.owl_command.specs.WordParts.{AreTwoNames, IsStripped, NameNone, NameWith};
 
 use crate::names::{are_names, is_word, texts_of};
@@ -18,19 +18,23 @@ pub enum Target {
     Ttl,
 }
 
+/// What is asked of a main document, and of those that it imports.
+#[derive(Clone, Copy, Debug, PartialEq, Eq)]
+pub enum Action {
+    /// `translate --to TARGET`
+    Translate(Target),
+    /// `show`
+    Show,
+}
+
 /// What the words ask for. The first of several names is that of the main
 /// document, and the others are those of documents that it may import. Where it
 /// is `partial`, imports may be missing.
 #[derive(Debug, Drop)]
 pub enum Command {
-    /// `translate --to TARGET [--partial] MAIN {IMPORT}`
-    Translate {
-        target: Target,
-        partial: bool,
-        names: Vec<Text>,
-    },
-    /// `show [--partial] MAIN {IMPORT}`
-    Show {
+    /// `ACTION [--partial] MAIN {IMPORT}`
+    OfMain {
+        action: Action,
         partial: bool,
         names: Vec<Text>,
     },
@@ -47,7 +51,7 @@ impl Command {
         ensures { result ≡ length (names_of (request_of self.now)) }
     {
         match self {
-            Command::Translate { names, .. } | Command::Show { names, .. } => names.len(),
+            Command::OfMain { names, .. } => names.len(),
             Command::Same { .. } => 2,
         }
     }
@@ -59,7 +63,7 @@ impl Command {
         ensures { slice_get (names_of (request_of self.now)) place ≡ Some result.now }
     {
         match self {
-            Command::Translate { names, .. } | Command::Show { names, .. } => names[place].as_str(),
+            Command::OfMain { names, .. } => names[place].as_str(),
             Command::Same { first, second } => {
                 if place == 0 {
                     first.as_str()
@@ -75,7 +79,7 @@ impl Command {
         ensures { IsTrue result ↔ AsksImports (request_of self.now) }
     {
         match self {
-            Command::Translate { partial, .. } | Command::Show { partial, .. } => !*partial,
+            Command::OfMain { partial, .. } => !*partial,
             Command::Same { .. } => false,
         }
     }
@@ -147,12 +151,26 @@ fn strip_target(words: &[String]) -> Option<(Target, &[String])>
 /// them.
 fn strip_translation(words: &[String]) -> Option<(Target, &[String])>
     ensures some { IfSome result (λ found. map string_bytes words.now
-        ≡ translation_words found.0 (map string_bytes found.1.now)) }
+        ≡ action_words (Action.Translate found.0) ++ map string_bytes found.1.now) }
     ensures none { IfNone result ((target : Target) (others : List (List ℕ)) →
-        map string_bytes words.now ≢ translation_words target others) }
+        map string_bytes words.now ≢ action_words (Action.Translate target) ++ others) }
 {
     let others = strip(strip(words, "translate")?, "--to")?;
     strip_target(others)
+}
+
+/// The action that the first words name, and what stands behind them.
+fn strip_action(words: &[String]) -> Option<(Action, &[String])>
+    ensures some { IfSome result (λ found. map string_bytes words.now
+        ≡ action_words found.0 ++ map string_bytes found.1.now) }
+    ensures none { IfNone result ((action : Action) (others : List (List ℕ)) →
+        map string_bytes words.now ≢ action_words action ++ others) }
+{
+    if let Some((target, others)) = strip_translation(words) {
+        return Some((Action::Translate(target), others));
+    }
+    let others = strip(words, "show")?;
+    Some((Action::Show, others))
 }
 
 /// Whether imports may be missing, and the words behind that.
@@ -178,29 +196,16 @@ fn documents(words: &[String]) -> Option<(bool, &[String])>
     }
 }
 
-/// What the words behind those of a translation to this syntax ask for.
-fn translate(alloc: Global, target: Target, words: &[String]) -> Result<Command, WordsFault>
+/// What the words behind those of an action ask for.
+fn of_main(alloc: Global, action: Action, words: &[String]) -> Result<Command, WordsFault>
     ensures command { IfOk result
-        (IsCommand (translation_words target (map string_bytes words.now))) }
+        (IsCommand (action_words action ++ map string_bytes words.now)) }
     ensures none { IsErrOf result WordsFault.Words → NameNone (map string_bytes words.now) }
     ensures refused { NameNone (map string_bytes words.now) → IsErrOf result WordsFault.Words }
 {
     let (partial, names) = documents(words).ok_or(WordsFault::Words)?;
-    Ok(Command::Translate {
-        target,
-        partial,
-        names: texts_of(alloc, names)?,
-    })
-}
-
-/// What the words behind `show` ask for.
-fn show(alloc: Global, words: &[String]) -> Result<Command, WordsFault>
-    ensures command { IfOk result (IsCommand (codes "show" ∷ map string_bytes words.now)) }
-    ensures none { IsErrOf result WordsFault.Words → NameNone (map string_bytes words.now) }
-    ensures refused { NameNone (map string_bytes words.now) → IsErrOf result WordsFault.Words }
-{
-    let (partial, names) = documents(words).ok_or(WordsFault::Words)?;
-    Ok(Command::Show {
+    Ok(Command::OfMain {
+        action,
         partial,
         names: texts_of(alloc, names)?,
     })
@@ -228,10 +233,8 @@ pub fn words(alloc: Global, words: &[String]) -> Result<Command, WordsFault>
     ensures none { IsErrOf result WordsFault.Words → HasNoCommand (map string_bytes words.now) }
     ensures refused { HasNoCommand (map string_bytes words.now) → IsErrOf result WordsFault.Words }
 {
-    if let Some((target, others)) = strip_translation(words) {
-        translate(alloc, target, others)
-    } else if let Some(others) = strip(words, "show") {
-        show(alloc, others)
+    if let Some((action, others)) = strip_action(words) {
+        of_main(alloc, action, others)
     } else if let Some(others) = strip(words, "same") {
         same(alloc, others)
     } else {

@@ -1,18 +1,16 @@
-use Rattle.std.proofs.Common.{map, refl, subst}
+use Rattle.std.proofs.Common.{get_or, map}
 use Rattle.owl_command.specs.Commands.{request_of}
 use Rattle.owl_documents.specs.Documents.{parsed_of}
-use Rattle.owl_documents.specs.declared.document.Document.{Document}
-use Rattle.owl_documents.specs.declared.document.Document.TheVariants.{Ontology}
-use Rattle.owl_answer.specs.KindsAt.{AreOwnKinds}
-use Rattle.owl_answer.proofs.UnderKinds.{own_read}
-use Rattle.owl_answer.proofs.Wanting.{parsed_at, stands_at, zero_within}
+use Rattle.owl_answer.specs.Answers.{outcome_of}
+use Rattle.owl_answer.specs.declared.answer.Answer.{Answer}
+use Rattle.owl_answer.proofs.UnderKinds.{none_first}
+use Rattle.owl_answer.proofs.Wanting.{from_both, parsed_at, stands_at}
 use Rattle.owl_answer.proofs.comparison.compare_both.Goals as goal
 
-pub compare_second-requires-clause-first : goal.compare_second-requires-clause-first
-compare_second-requires-clause-first c =
-    let docs = c.args.docs.now in
-    let first = Ontology c.in-Ontology.first in
-    let kinds = c.in_ok-kinds.kinds in
-    let there = parsed_at docs 0 first (stands_at docs 0 c.index-docs-0.result first (zero_within docs c.requires.two) c.index-docs-0.is c.in-Ontology.is) in
-    let own = subst (λ (d : Document). AreOwnKinds (parsed_of d) kinds) c.in-Ontology.is c.in_ok-kinds.ensures in
-    record { parsed = parsed_of first; kinds = kinds; read = own_read (request_of c.args.command.now) c.requires.alone (map parsed_of docs) 0 (parsed_of first) kinds there own; says = refl }
+pub returns-in-Err : goal.returns-in-Err
+returns-in-Err c =
+    let asked = c.args.asked.now in
+    let docs = asked.docs.now in
+    let document = get_or docs 0 c.index-asked-0.result in
+    let there = parsed_at docs 0 document (stands_at docs 0 c.index-asked-0.result document c.requires.asked_for.some c.index-asked-0.is c.index-asked-0.is) in
+    from_both c.refuse_unsaid.result _ _ _ (λ (a : Answer) e n. none_first (request_of asked.command.now) c.requires.alone (map parsed_of docs) (parsed_of document) there c.in-Err.fault (c.in-Err.ensures.fault n) c.name.result.now c.name.ensures (outcome_of a) e) c.refuse_unsaid.ensures.outcome c.refuse_unsaid.ensures.memory

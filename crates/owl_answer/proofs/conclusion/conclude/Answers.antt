@@ -12,8 +12,8 @@ use Rattle.owl_answer.proofs.conclusion.conclude.Goals as goal
 
 pub returns-in-Some : goal.returns-in-Some
 returns-in-Some c =
-    IfOk-weaker c.refuse_import.result _ _ (λ (a : Answer) e. import_conclusion (request_of c.args.command.now) (map parsed_of c.args.docs.now) c.in-Some.missing c.name.result.now (outcome_of a) (subst (λ (found : Option Missing). IfSome found (IsMissingFor (request_of c.args.command.now) (heads_in (map parsed_of c.args.docs.now)))) c.in-Some.is c.in_ok-missing.ensures.some) c.name.ensures e) c.refuse_import.ensures
+    IfOk-weaker c.refuse_import.result _ _ (λ (a : Answer) e. import_conclusion (request_of c.args.asked.now.command.now) (map parsed_of c.args.asked.now.docs.now) c.in-Some.missing c.name.result.now (outcome_of a) (subst (λ (found : Option Missing). IfSome found (IsMissingFor (request_of c.args.asked.now.command.now) (heads_in (map parsed_of c.args.asked.now.docs.now)))) c.in-Some.is c.in_ok-missing.ensures.some) c.name.ensures e) c.refuse_import.ensures
 
-pub answer_wanted-requires-clause-imports : goal.answer_wanted-requires-clause-imports
-answer_wanted-requires-clause-imports c =
-    subst (λ (found : Option Missing). IfNone found (HasImports (request_of c.args.command.now) (map parsed_of c.args.docs.now))) c.in-None.is c.in_ok-missing.ensures.none
+pub answer_command-requires-clause-imports : goal.answer_command-requires-clause-imports
+answer_command-requires-clause-imports c =
+    subst (λ (found : Option Missing). IfNone found (HasImports (request_of c.args.asked.now.command.now) (map parsed_of c.args.asked.now.docs.now))) c.in-None.is c.in_ok-missing.ensures.none

@@ -1,6 +1,6 @@
 use Rattle.std.proofs.Common.{◌∙◌}
 use Rattle.owl_doc.specs.Documents.{Document}
-use Rattle.owl_answer.proofs.UnderKinds.{unless_memory}
+use Rattle.owl_answer.proofs.Readings.{unless_memory}
 use Rattle.owl_answer.proofs.Wanting.{from_both}
 use Rattle.owl_answer.proofs.reading.read_graph.Goals as goal
 

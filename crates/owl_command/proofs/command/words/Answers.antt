@@ -1,11 +1,8 @@
-use Rattle.owl_command.proofs.Asking.{names_no_comparison, names_no_show, names_no_translation}
+use Rattle.owl_command.proofs.Asking.{names_no_action, names_no_comparison}
 use Rattle.owl_command.proofs.command.words.Goals as goal
 
 pub returns-in-Some-clause-refused : goal.returns-in-Some-clause-refused
-returns-in-Some-clause-refused c = λ none. c.translate.ensures.refused (names_no_translation _ _ _ c.in-Some.ensures.some none)
+returns-in-Some-clause-refused c = λ none. c.of_main.ensures.refused (names_no_action _ _ _ c.in-Some.ensures.some none)
 
 pub returns-in-Some-strip-clause-refused : goal.returns-in-Some-strip-clause-refused
-returns-in-Some-strip-clause-refused c = λ none. c.show.ensures.refused (names_no_show _ _ c.in-Some-strip.ensures.some none)
-
-pub returns-in-Some-strip-2-clause-refused : goal.returns-in-Some-strip-2-clause-refused
-returns-in-Some-strip-2-clause-refused c = λ none. c.same.ensures.refused (names_no_comparison _ _ c.in-Some-strip-2.ensures.some none)
+returns-in-Some-strip-clause-refused c = λ none. c.same.ensures.refused (names_no_comparison _ _ c.in-Some-strip.ensures.some none)

@@ -1,0 +1,32 @@
+-- What is asked, with the documents that are read for it.
+use Rattle.std.specs.Prelude.{◌≡◌, ◌<◌, Bool, List, ℕ, length, map}
+use Rattle.owl_command.specs.Commands.{names_of, of_main, request_of}
+use Rattle.owl_command.specs.declared.command.Action.{Action}
+use Rattle.owl_documents.specs.Documents.{parsed_of}
+use Rattle.owl_answer.specs.Answers.{IsConclusion, outcome_of}
+use Rattle.owl_answer.specs.Runs.{HasImports}
+use Rattle.owl_answer.specs.UnderKinds.{IsOfMain}
+use Rattle.owl_answer.specs.declared.answer.Answer.{Answer}
+use Rattle.owl_answer.specs.declared.asked.Asked.{Asked}
+
+-- a document for each name, and one at least
+pub record IsAsked (asked : Asked) : Type 0 where
+  pub some : 0 < length asked.docs.now
+  pub each : length asked.docs.now ≡ length (names_of (request_of asked.command.now))
+
+-- this action is asked for, and the imports are there that have to be
+pub record IsOfAction (asked : Asked) (action : Action) : Type 0 where
+  pub asked_for : IsAsked asked
+  pub partial : Bool
+  pub names : List (List ℕ)
+  pub asks : request_of asked.command.now ≡ of_main action partial names
+  pub imports : HasImports (request_of asked.command.now) (map parsed_of asked.docs.now)
+
+-- two documents are to be compared
+pub record IsOfTwo (asked : Asked) : Type 0 where
+  pub asked_for : IsAsked asked
+  pub alone : IsOfMain (request_of asked.command.now) → ⊥
+
+-- it is what is answered
+abbrev pub IsAnswerTo : Asked → Answer → Type 0
+IsAnswerTo asked answer = IsConclusion (request_of asked.command.now) (map parsed_of asked.docs.now) (outcome_of answer)

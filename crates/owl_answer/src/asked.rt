@@ -1,0 +1,11 @@
+//! What is asked, and of which documents.
+
+use owl_command::Command;
+use owl_documents::Document;
+
+/// A command, and the documents that it names, in the order of their names.
+#[derive(Clone, Copy)]
+pub struct Asked<'a> {
+    pub command: &'a Command,
+    pub docs: &'a [Document],
+}
