@@ -6,7 +6,7 @@ use Rattle.std.proofs.lemmas.Option.{same_Some, slice_get_within}
 use Rattle.std.specs.declared.cmp.Ordering.TheVariants.{Less}
 use Rattle.std.specs.List.{AllByRecursion}
 use Rattle.std.specs.Ordering.{nat_cmp}
-use Rattle.owl_close.proofs.Reaching.{reached_within}
+use Rattle.owl_close.proofs.ReachingLaws.{reached_within}
 use Rattle.owl_close.specs.Imports.{AreReached, main}
 use Rattle.owl_documents.specs.Documents.{Parsed, Said, parsed_of}
 use Rattle.owl_documents.specs.declared.document.Document.{Document}

@@ -2,7 +2,7 @@ pub mod Adding
 pub mod ImportsLaws
 pub mod Lacking
 pub mod Places
-pub mod Reaching
+pub mod ReachingLaws
 pub mod Refusing
 pub mod UnreachedLaws
 pub mod WorkedCases

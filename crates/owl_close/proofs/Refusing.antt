@@ -12,7 +12,7 @@ use Rattle.owl_close.specs.Imports.{AreReached, IsFirstMissing, IsMissing, Misse
 use Rattle.owl_close.specs.Searches.{FindsLeast, IsLeastMissing}
 use Rattle.owl_close.proofs.Lacking.{IsWhole}
 use Rattle.owl_close.proofs.Places.{imported_at}
-use Rattle.owl_close.proofs.Reaching.{reached_within}
+use Rattle.owl_close.proofs.ReachingLaws.{reached_within}
 
 -- an element is in front of an index, or it stands there or behind
 in_front : (places : List ℕ) (index k other : ℕ) → k < index → index ≤ length places → get_or places k other ≡ other → Contains (take index places) other

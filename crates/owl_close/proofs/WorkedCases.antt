@@ -4,7 +4,7 @@ use Rattle.std.specs.Prelude.{Contains, codes}
 use Rattle.std.specs.Ordering.{nat_cmp}
 use Rattle.std.proofs.lemmas.Option.{none-some}
 use Rattle.owl_close.specs.Imports.{AreReached, HasImport, Imports, IsMissing, IsNamedAt, MissesNone, Names, NamesNone, Reaches, main, import}
-use Rattle.owl_close.proofs.Reaching.{reached_within}
+use Rattle.owl_close.proofs.ReachingLaws.{reached_within}
 use Rattle.owl_list.proofs.AscendingLaws.{ascends, in_cases, in_head, in_none, in_tail, nothing_ascends}
 use Rattle.owl_tree.specs.Ontologies.{Head}
 

@@ -5,7 +5,7 @@ use Rattle.owl_close.specs.Searches.{AddsImported}
 use Rattle.owl_doc.specs.Heads.{head_of}
 use Rattle.owl_doc.specs.declared.head.Head as held
 use Rattle.owl_close.proofs.Places.{imports_at}
-use Rattle.owl_close.proofs.Reaching.{all_reached, at_most, begun, followed_further, place_within}
+use Rattle.owl_close.proofs.ReachingLaws.{all_reached, at_most, begun, followed_further, place_within}
 use Rattle.owl_close.proofs.reached.reached_places.Goals as goal
 
 pub places-init : goal.places-init

@@ -1,6 +1,6 @@
 use Rattle.std.proofs.Common.{◌-◌, length}
 use Rattle.owl_close.specs.Imports.{heads_of}
-use Rattle.owl_close.proofs.Reaching.{AreFound}
+use Rattle.owl_close.proofs.ReachingLaws.{AreFound}
 use Rattle.owl_close.proofs.reached.reached_places.Given as goal
 
 abbrev pub invariant-places : goal.invariant-places
