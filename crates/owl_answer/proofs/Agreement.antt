@@ -13,13 +13,14 @@ use Rattle.owl_documents.specs.OneWay.{IsSameParsed}
 use Rattle.owl_kind.specs.Kinds.{Entity}
 use Rattle.owl_tree.proofs.OntologyLaws.{same_ontology_sym, same_ontology_trans}
 use Rattle.rdf_reverse.specs.declared.fault.ReverseFault.{ReverseFault}
-use Rattle.owl_answer.specs.Outcome.{IsComparison, Outcome, agree, differ, heads_in, missing_import, shown, translation, unsaid_outcome}
+use Rattle.owl_answer.specs.Outcome.{IsComparison, agree, differ, heads_in}
 use Rattle.owl_answer.specs.Runs.{AnswersWith, Concludes, IsActionOutcome, IsTranslation, all_say, misses_import, says_nothing}
 use Rattle.owl_answer.specs.UnderKinds.{AllSay, HasKinds, HoldsOfMain, HoldsOfTwo, IsFirstUnsaid, IsReadUnder, IsUnsaidAt, IsUnsaidUnder, SaysAt, SaysUnder}
 use Rattle.owl_answer.proofs.Closures.{closure_once, own_once}
 use Rattle.owl_answer.proofs.Same.{never_says_both, parsed_back, parsed_refl, says_once, says_same, unsaid_once, unsaid_same}
 use Rattle.owl_answer.proofs.TurtleOnce.{functional_once, functional_same, shown_same, translation_alike, translation_once, translation_same}
 use Rattle.owl_answer.proofs.Wanting.{limited_more, limited_once}
+use Rattle.owl_messages.specs.Outcome.{Outcome, missing_import, shown, translation, unsaid_outcome}
 
 -- a document that is read as the same stands at this place, and is read under these kinds
 pub record IsReadAlike (request : Request) (others : List Parsed) (place : ℕ) (parsed : Parsed) (kinds : List Entity) : Type 0 where

@@ -9,11 +9,12 @@ use Rattle.owl_documents.specs.Shelves.{IsFaulty, IsFirstFaulty, Rises, Shelves}
 use Rattle.owl_documents.specs.declared.trouble.Refusal.{Refusal}
 use Rattle.owl_documents.specs.declared.trouble.Stop.{Stop}
 use Rattle.owl_documents.specs.declared.trouble.Trouble.TheVariants.{ReadFailed, Memory}
-use Rattle.owl_answer.specs.Outcome.{Outcome, refusal_outcome}
 use Rattle.owl_answer.specs.Runs.{Becomes, Concludes, all_read, not_read, of_read_fault}
-use Rattle.owl_answer.specs.Answers.{IsAnswered, IsConclusion, trouble_outcome}
+use Rattle.owl_answer.specs.Answers.{IsAnswered, IsConclusion}
 use Rattle.owl_answer.proofs.Concluding.{concluded_once}
 use Rattle.owl_answer.proofs.Lines.{at_among, concluded_told, refused_fails, refused_told}
+use Rattle.owl_messages.specs.Answers.{trouble_outcome}
+use Rattle.owl_messages.specs.Outcome.{Outcome, refusal_outcome}
 
 module _ (read_way : ReadOneWay) (refused_way : RefusedOneWay) (never : NeverBoth) (request : Request) where
   read_only : (contents : Contents) (documents : List Parsed) (outcome other : Outcome) → AreRead contents (names_of request) documents → Concludes request documents outcome → Becomes contents request other → outcome ≡ other

@@ -5,12 +5,13 @@ use Rattle.owl_command.specs.Commands.{Request, compares, of_main}
 use Rattle.owl_documents.specs.Documents.{Parsed}
 use Rattle.owl_documents.specs.OneWay.{AreSame, IsSameParsed}
 use Rattle.owl_kind.specs.Kinds.{Entity}
-use Rattle.owl_answer.specs.Outcome.{Outcome, heads_in}
+use Rattle.owl_answer.specs.Outcome.{heads_in}
 use Rattle.owl_answer.specs.Runs.{Concludes}
 use Rattle.owl_answer.specs.UnderKinds.{HasKinds}
 use Rattle.owl_answer.proofs.Agreement.{Agree, concludes_once, concludes_there}
 use Rattle.owl_answer.proofs.Closures.{found_alike, kinds_alike, own_alike}
 use Rattle.owl_answer.proofs.Heads.{alike, same_back}
+use Rattle.owl_messages.specs.Outcome.{Outcome}
 
 has_kinds : (request : Request) (ds es : List Parsed) → AreSame ds es → (place : ℕ) (p q : Parsed) (kinds : List Entity) → IsSameParsed p q → HasKinds request ds place p kinds → HasKinds request es place q kinds
 has_kinds (of_main action partial names) ds es s place p q kinds t h =

@@ -15,4 +15,3 @@ pub mod Typings
 pub mod UnderKinds
 pub mod Unreached
 pub mod Wanting
-pub mod WorkedRefusals

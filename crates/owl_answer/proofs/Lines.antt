@@ -11,16 +11,17 @@ use Rattle.owl_command.specs.declared.status.Status.TheVariants.{Done}
 use Rattle.owl_documents.specs.Documents.{Parsed, Said, a_graph, an_ontology, IsProperRefusal}
 use Rattle.owl_documents.specs.declared.trouble.Refusal.{Refusal}
 use Rattle.owl_documents.specs.declared.trouble.Refusal.TheVariants.{DocumentBytes, AllBytes, Unreadable, Headless}
-use Rattle.owl_answer.specs.Outcome.{IsComparison, IsLimited, IsSuccess, Outcome, agree, agreement, differ, difference, done_line, fits, missing_import, passes, refusal_outcome, shown, too_long_output, translation, unsaid_outcome}
-use Rattle.owl_answer.specs.Refusals.{two_kinds, undeclared, unsayable}
+use Rattle.owl_answer.specs.Outcome.{IsComparison, IsLimited, IsSuccess, agree, differ, fits, passes}
+use Rattle.owl_messages.specs.Refusals.{two_kinds, undeclared, unsayable}
 use Rattle.owl_answer.specs.Runs.{AnswersWith, AsksTranslation, AsksTurtle, Concludes, IsActionOutcome, IsIllTyped, IsTranslation, IsTurtleRefusal, LineFor, SuccessLine, all_say, misses_import, of_bytes, of_graph, of_import, of_output, of_refusal, of_success, of_triples, of_turtle, of_two_kinds, of_typing, of_undeclared, of_unsayable, of_weight, says_nothing}
-use Rattle.owl_answer.specs.TurtleOutcome.{IsFormTold, IsGraphTold, IsTold as IsOfTurtle, IsTypingRefusal, canonical_said, clashes, few, graph_translation, heavy, ill_typed, light, many, not_typed, ready, too_heavy_output, too_many_triples, unsaid, untyped, well_typed}
+use Rattle.owl_answer.specs.TurtleOutcome.{IsFormTold, IsGraphTold, IsTold as IsOfTurtle, IsTypingRefusal, canonical_said, clashes, few, graph_translation, heavy, ill_typed, light, many, not_typed, ready, unsaid, untyped, well_typed}
 use Rattle.owl_answer.specs.Answers.{IsProper}
 use Rattle.owl_tree.specs.Ontologies.{Ontology}
 use Rattle.rdf_reverse.specs.declared.fault.ReverseFault.{ReverseFault}
 use Rattle.rdf_reverse.specs.declared.fault.ReverseFault.TheVariants as reverse
 use Rattle.rdf_scans.specs.declared.fault.OutlineFault.TheVariants as outline
 use Rattle.owl_answer.proofs.Same.{never_memory}
+use Rattle.owl_messages.specs.Outcome.{Outcome, agreement, difference, done_line, missing_import, refusal_outcome, shown, too_heavy_output, too_long_output, too_many_triples, translation, unsaid_outcome}
 
 pub at_among : (names : List (List ℕ)) (place : ℕ) (name : List ℕ) → slice_get names place ≡ Some name → IsAmong names name
 at_among [] place name e = absurd (cc)

@@ -21,11 +21,12 @@ use Rattle.rdf_scans.specs.Outlines.{declarations as graph_declarations}
 use Rattle.rdf_states.proofs.NormalStatesLaws.{form_axioms_typed, form_notes_typed, form_says}
 use Rattle.rdf_sayable.specs.Parts.{of_axiom}
 use Rattle.rdf_sayable.specs.Sayable.{CanSayAll}
-use Rattle.owl_answer.specs.Outcome.{IsSuccess, Outcome}
+use Rattle.owl_answer.specs.Outcome.{IsSuccess}
 use Rattle.owl_answer.specs.Typing.{DeclareSame, IsWellTyped}
 use Rattle.owl_answer.specs.TurtleOutcome.{IsReady, IsTold, IsToldBack, IsTurtleTranslation, IsTyped, ReadsGraph, ReadsSaid, canonical_said, heavy, light, not_typed, ready, turtle_form, unsaid}
 use Rattle.owl_answer.specs.Answers.{IsInTurtle}
 use Rattle.owl_answer.proofs.Turtles.{typing_fails}
+use Rattle.owl_messages.specs.Outcome.{Outcome}
 
 each_axiom : (kinds : List Entity) (ts : List Tree) → AllByRecursion (IsWellTyped kinds) (map of_axiom ts) → AllByRecursion (λ t. AreWellTyped kinds (entities t)) ts
 each_axiom kinds [] h = tt

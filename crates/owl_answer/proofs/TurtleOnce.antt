@@ -15,14 +15,14 @@ use Rattle.owl_tree.specs.Trees.{kids_of, weight}
 use Rattle.owl_documents.specs.Documents.{IsSame, Said}
 use Rattle.rdf_normal.specs.NormalForms.{absorbed_count}
 use Rattle.rdf_sayable.proofs.SayableLaws.{not_all_said, unsayable_once}
-use Rattle.owl_answer.specs.Outcome.{Outcome, done_line, shown, translation}
-use Rattle.owl_answer.specs.Refusals.{two_kinds, undeclared, unsayable}
-use Rattle.owl_answer.specs.Summary.{count_line, name_lines}
+use Rattle.owl_messages.specs.Refusals.{two_kinds, undeclared, unsayable}
+use Rattle.owl_messages.specs.Summary.{count_line, name_lines}
 use Rattle.owl_answer.specs.Typing.{DeclareSame}
 use Rattle.owl_kind.proofs.OrderLaws.{clash_once}
 use Rattle.owl_answer.proofs.TypingLaws.{not_all_typed, same_kinds_apart, same_kinds_clash, same_kinds_typed, same_kinds_untyped, same_ontology_typed, same_ontology_untyped, untyped_once}
 use Rattle.owl_answer.specs.TurtleOutcome.{IsFormTold, IsFunctionalTranslation, IsGraphTold, IsTold, IsTurtleTranslation, IsTyped, IsTypingRefusal, canonical_said, clashes, few, graph_translation, heavy, ill_typed, light, many, not_typed, ready, turtle_form, unsaid, untyped, well_typed}
 use Rattle.owl_answer.proofs.Wanting.{limited_more, limited_once}
+use Rattle.owl_messages.specs.Outcome.{Outcome, done_line, shown, translation}
 
 same_form : (a b : Said) → IsSame a b → canonical_ontology a.ontology ≡ canonical_ontology b.ontology
 same_form a b s = (same_ontology_is_equal_form a.ontology b.ontology).0 s.ontology

@@ -19,7 +19,7 @@ use Rattle.rdf_reverse.specs.declared.fault.ReverseFault.TheVariants.{Memory}
 use Rattle.owl_answer.specs.Answers.{IsConclusion, IsToldOfMain}
 use Rattle.owl_answer.specs.Asked.{IsOfTwo}
 use Rattle.owl_answer.specs.KindsAt.{AreOwnKinds, IsClosure}
-use Rattle.owl_answer.specs.Outcome.{IsComparison, IsLimited, IsSuccess, Outcome, unsaid_outcome}
+use Rattle.owl_answer.specs.Outcome.{IsComparison, IsLimited, IsSuccess}
 use Rattle.owl_answer.specs.Reading.{AllSayAt, IsFirstFault, IsUnsaidAlone, SaysAlone, SaysSomeAt}
 use Rattle.owl_answer.specs.Runs.{HasImports, all_say, says_nothing}
 use Rattle.owl_answer.specs.UnderKinds.{AllSay, IsFirstUnsaid, IsOfMain, IsReadUnder, IsUnsaidAt, SaysAt, SaysSome, SaysUnder}
@@ -32,6 +32,7 @@ use Rattle.owl_answer.proofs.Closures.{closure_once}
 use Rattle.owl_answer.proofs.Lines.{unsaid_fails}
 use Rattle.owl_answer.proofs.Readings.{all_some, less_is}
 use Rattle.owl_answer.proofs.Same.{never_says_both}
+use Rattle.owl_messages.specs.Outcome.{Outcome, unsaid_outcome}
 
 both_less : (m n : ℕ) → m < n → n < m → ⊥
 both_less m n l k = omega arith

@@ -1,7 +1,6 @@
--- What an answer says, apart from where it lies in memory.
-use Rattle.std.specs.Prelude.{◌≡◌, ◌++◌, ℕ, List, [], Option, None, Some, IsTrue, codes, string_bytes}
+-- What is answered for documents that are read, and for what is asked of a shelf.
+use Rattle.std.specs.Prelude.{◌≡◌, ◌++◌, ℕ, List, [], Option, None, Some, IsTrue, codes}
 use Rattle.std.specs.List.{AllByRecursion}
-use Rattle.std.specs.Str.{encode_utf8_all}
 use Rattle.owl_kind.specs.Kinds.{Entity}
 use Rattle.owl_tree.specs.Ontologies.{Head, Ontology}
 use Rattle.owl_close.specs.Imports.{IsFirstMissing}
@@ -11,22 +10,13 @@ use Rattle.owl_command.specs.declared.status.Status.{Status}
 use Rattle.owl_command.specs.declared.status.Status.TheVariants.{Done, No, Words, Document as NoDocument, Target, Limit, ReadFailed, WriteFailed, Memory}
 use Rattle.owl_documents.specs.Documents.{Contents, Parsed, Said}
 use Rattle.owl_documents.specs.Shelves.{IsFaulty, IsFirstFaulty, Rises, Shelves}
-use Rattle.owl_documents.specs.declared.trouble.Trouble.{Trouble}
-use Rattle.owl_documents.specs.declared.trouble.Trouble.TheVariants as t
-use Rattle.owl_answer.specs.Outcome.{IsSettled, IsSuccess, IsTheOutcome, Outcome, refusal_outcome, refused}
+use Rattle.owl_answer.specs.Outcome.{IsSettled, IsSuccess, IsTheOutcome}
 use Rattle.owl_answer.specs.Runs.{Becomes, Concludes, IsActionOutcome, IsActionText, IsBack, IsReadBack, LineFor}
 use Rattle.owl_answer.specs.TurtleOutcome.{IsTurtleTranslation, IsTyped, IsTypingRefusal, ReadsSaid, canonical_said, turtle_form}
-use Rattle.owl_answer.specs.declared.answer.Answer.{Answer}
+use Rattle.owl_messages.specs.declared.answer.Answer.{Answer}
 use Rattle.owl_answer.specs.declared.imports.Missing.{Missing}
-
-abbrev pub outcome_of : Answer → Outcome
-outcome_of answer = record { status = answer.status; text = encode_utf8_all answer.text; line = string_bytes answer.line }
-
--- what is told of a trouble with the document under this name
-abbrev pub trouble_outcome : List ℕ → Trouble → Outcome
-trouble_outcome name t.ReadFailed = refused ReadFailed (codes "read: " ++ (name ++ codes "\n"))
-trouble_outcome name (t.Refused refusal) = refusal_outcome name refusal
-trouble_outcome name t.Memory = refused Memory (codes "memory\n")
+use Rattle.owl_messages.specs.Outcome.{Outcome}
+use Rattle.owl_messages.specs.Answers.{outcome_of}
 
 -- an import that has to be there, and is not
 pub record IsMissingFor (request : Request) (heads : List Head) (missing : Missing) : Type 0 where

@@ -3,11 +3,12 @@ use Rattle.std.specs.Prelude.{◌≡◌, ◌<◌, Bool, List, ℕ, length, map}
 use Rattle.owl_command.specs.Commands.{names_of, of_main, request_of}
 use Rattle.owl_command.specs.declared.command.Action.{Action}
 use Rattle.owl_documents.specs.Documents.{parsed_of}
-use Rattle.owl_answer.specs.Answers.{IsConclusion, outcome_of}
+use Rattle.owl_answer.specs.Answers.{IsConclusion}
 use Rattle.owl_answer.specs.Runs.{HasImports}
 use Rattle.owl_answer.specs.UnderKinds.{IsOfMain}
-use Rattle.owl_answer.specs.declared.answer.Answer.{Answer}
+use Rattle.owl_messages.specs.declared.answer.Answer.{Answer}
 use Rattle.owl_answer.specs.declared.asked.Asked.{Asked}
+use Rattle.owl_messages.specs.Answers.{outcome_of}
 
 -- a document for each name, and one at least
 pub record IsAsked (asked : Asked) : Type 0 where

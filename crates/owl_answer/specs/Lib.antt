@@ -4,8 +4,6 @@ pub mod KindsAt
 pub mod Outcome
 pub mod Runs
 pub mod Reading
-pub mod Refusals
-pub mod Summary
 pub mod TurtleOutcome
 pub mod Typing
 pub mod UnderKinds

@@ -16,10 +16,11 @@ use Rattle.owl_documents.specs.Documents.{AreRead, Contents, IsFirstRefused, Par
 use Rattle.owl_documents.specs.declared.trouble.Refusal.{Refusal}
 use Rattle.rdf_reverse.specs.declared.fault.ReverseFault.{ReverseFault}
 use Rattle.rdf_reverse.specs.declared.fault.ReverseFault.TheVariants as reverse
-use Rattle.owl_answer.specs.Outcome.{IsComparison, IsLimited, IsSettled, IsSuccess, IsTheOutcome, Outcome, done_line, functional_form, heads_in, missing_import, refusal_outcome, refused, shown, too_long_output, translation, unsaid_outcome}
-use Rattle.owl_answer.specs.Refusals.{two_kinds, undeclared, unsayable}
+use Rattle.owl_answer.specs.Outcome.{IsComparison, IsLimited, IsSettled, IsSuccess, IsTheOutcome, heads_in}
+use Rattle.owl_messages.specs.Refusals.{two_kinds, undeclared, unsayable}
 use Rattle.owl_answer.specs.UnderKinds.{AllSay, HoldsOfMain, HoldsOfTwo, IsFirstUnsaid}
-use Rattle.owl_answer.specs.TurtleOutcome.{IsFunctionalTranslation, IsTurtleTranslation, ReadsSaid, canonical_said, too_heavy_output, too_many_triples, turtle_form}
+use Rattle.owl_answer.specs.TurtleOutcome.{IsFunctionalTranslation, IsTurtleTranslation, ReadsSaid, canonical_said, turtle_form}
+use Rattle.owl_messages.specs.Outcome.{Outcome, done_line, functional_form, missing_import, refusal_outcome, refused, shown, too_heavy_output, too_long_output, too_many_triples, translation, unsaid_outcome}
 
 -- The normal form that a syntax has for what a document says.
 abbrev pub normal_form : Syntax → Said → Said

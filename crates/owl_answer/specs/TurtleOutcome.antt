@@ -1,5 +1,5 @@
 -- What becomes of a main document that is translated to Turtle, under the kinds of its imports closure.
-use Rattle.std.specs.Prelude.{◌≡◌, ◌<◌, ◌≤◌, ℕ, List, length, codes}
+use Rattle.std.specs.Prelude.{◌≡◌, ◌<◌, ◌≤◌, ℕ, List, length}
 use Rattle.std.specs.Str.{encode_utf8_all}
 use Rattle.owl_arena.specs.Shared.{heaviest}
 use Rattle.owl_kind.specs.Kinds.{Entity, HasClash, IsFirstClash}
@@ -20,9 +20,10 @@ use Rattle.ttl_grammar.specs.Documents.{ReadsTurtle}
 use Rattle.ttl_write.specs.Text.{turtle_text}
 use Rattle.owl_command.specs.declared.status.Status.TheVariants.{Done}
 use Rattle.owl_documents.specs.Documents.{Said}
-use Rattle.owl_answer.specs.Outcome.{IsLimited, IsSuccess, Outcome, done_line, passed_limit, translation}
-use Rattle.owl_answer.specs.Refusals.{two_kinds, undeclared, unsayable}
+use Rattle.owl_answer.specs.Outcome.{IsLimited, IsSuccess}
+use Rattle.owl_messages.specs.Refusals.{two_kinds, undeclared, unsayable}
 use Rattle.owl_answer.specs.Typing.{AllAreWellTyped, DeclareSame, IsFirstUntyped}
+use Rattle.owl_messages.specs.Outcome.{Outcome, done_line, too_heavy_output, too_many_triples, translation}
 
 -- the same document in canonical form, which equivalent ones have in common
 abbrev pub canonical_said : Said → Said
@@ -31,14 +32,6 @@ canonical_said said = record { prefixes = said.prefixes; ontology = canonical_on
 -- the normal form that a graph says, in the document's prefixes
 abbrev pub turtle_form : Said → Said
 turtle_form said = record { prefixes = said.prefixes; ontology = normal_form said.ontology }
-
--- The normal form has more than 2^24 nodes and leaves.
-abbrev pub too_heavy_output : Outcome
-too_heavy_output = passed_limit (codes "Weight") (codes "output")
-
--- Its graph has more than 2^24 triples.
-abbrev pub too_many_triples : Outcome
-too_many_triples = passed_limit (codes "Triples") (codes "output")
 
 -- A translation writes the graph of the normal form, and says how many axioms that has, and how many are absorbed.
 abbrev pub graph_translation : Said → ℕ → Outcome

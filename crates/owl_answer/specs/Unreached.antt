@@ -4,9 +4,10 @@ use Rattle.owl_close.specs.Imports.{Reaches}
 use Rattle.owl_command.specs.Commands.{Request}
 use Rattle.owl_documents.specs.Documents.{Parsed}
 use Rattle.owl_documents.specs.OneWay.{AreSame, IsSameParsed}
-use Rattle.owl_answer.specs.Outcome.{Outcome, heads_in}
+use Rattle.owl_answer.specs.Outcome.{heads_in}
 use Rattle.owl_answer.specs.Runs.{Concludes}
 use Rattle.owl_answer.specs.UnderKinds.{IsOfMain}
+use Rattle.owl_messages.specs.Outcome.{Outcome}
 
 -- one by one the same, but at this place
 abbrev pub AreSameBut : ℕ → List Parsed → List Parsed → Type 0

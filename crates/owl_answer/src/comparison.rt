@@ -3,18 +3,17 @@
 ghost use Rattle.std.specs.Prelude.{IfOk, map};
 ghost use Rattle.owl_command.specs.Commands.{request_of};
 ghost use Rattle.owl_documents.specs.Documents.{parsed_of, said_of};
-ghost use Rattle.owl_answer.specs.Answers.{outcome_of};
 ghost use Rattle.owl_answer.specs.Asked.{IsAnswerTo, IsOfTwo};
 ghost use Rattle.owl_answer.specs.Outcome.{IsComparison, IsLimited};
 ghost use Rattle.owl_answer.specs.UnderKinds.{SaysAt};
+ghost use Rattle.owl_messages.specs.Answers.{outcome_of};
 
-use crate::answer::{Answer, said};
 use crate::asked::Asked;
 use crate::reading::read_alone;
-use crate::unsaid::refuse_unsaid;
 use owl_characters::NoMemory;
 use owl_command::Status;
 use owl_doc::Doc;
+use owl_messages::{Answer, refuse_unsaid, said};
 use std::alloc::Global;
 
 /// What is answered of two documents, each of which is read under the kinds that

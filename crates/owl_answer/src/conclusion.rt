@@ -6,17 +6,15 @@ ghost use Rattle.owl_documents.specs.Documents.{parsed_of};
 ghost use Rattle.owl_answer.specs.Asked.{IsAnswerTo, IsAsked, IsOfAction};
 ghost use Rattle.owl_answer.specs.Runs.{HasImports};
 
-use crate::answer::Answer;
 use crate::asked::Asked;
 use crate::closure::closure_of;
 use crate::comparison::compare_both;
 use crate::imports::first_missing;
 use crate::reading::read_closure;
-use crate::refusal::refuse_import;
 use crate::telling::tell_main;
-use crate::unsaid::refuse_unsaid;
 use owl_characters::NoMemory;
 use owl_command::{Action, Command};
+use owl_messages::{Answer, refuse_import, refuse_unsaid};
 use std::alloc::Global;
 
 /// What is answered for the documents that a command names, all of which are

@@ -1,7 +1,6 @@
 //! Laws of what is answered, as functions that do nothing.
 
 ghost use Rattle.std.specs.Prelude.{◌≡◌, ℕ, List};
-ghost use Rattle.owl_answer.specs.Outcome.{Outcome};
 ghost use Rattle.owl_answer.specs.TurtleOutcome.{IsTurtleTranslation};
 ghost use Rattle.owl_answer.specs.Typing.{AllAreWellTyped, DeclareSame, IsFirstUntyped};
 ghost use Rattle.owl_answer.specs.Unreached.{UnreachedChangeNothing};
@@ -9,6 +8,7 @@ ghost use Rattle.owl_kind.specs.Kinds.{Entity, IsFirstClash};
 ghost use Rattle.owl_documents.specs.Documents.{IsSame, Said};
 ghost use Rattle.owl_tree.specs.Ontologies.{IsSameOntology, Ontology};
 ghost use Rattle.rdf_sayable.specs.Parts.{Part};
+ghost use Rattle.owl_messages.specs.Outcome.{Outcome};
 
 /// A law: what becomes of documents that are read is the same, whatever a
 /// document says that the main one does not reach.

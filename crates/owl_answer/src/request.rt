@@ -3,15 +3,15 @@
 ghost use Rattle.std.specs.Prelude.{◌≡◌, IsTrue, IfOk};
 ghost use Rattle.owl_command.specs.Commands.{AreNames, names_of, request_of};
 ghost use Rattle.owl_documents.specs.Shelves.{IsTaken};
-ghost use Rattle.owl_answer.specs.Answers.{IsAnswered, outcome_of};
+ghost use Rattle.owl_answer.specs.Answers.{IsAnswered};
+ghost use Rattle.owl_messages.specs.Answers.{outcome_of};
 
-use crate::answer::Answer;
 use crate::asked::Asked;
 use crate::conclusion::conclude;
-use crate::refusal::answer_trouble;
 use owl_characters::NoMemory;
 use owl_command::Command;
 use owl_documents::{documents_are_read_one_way, read_documents};
+use owl_messages::{Answer, answer_trouble};
 use owl_port::Shelf;
 use std::alloc::Global;
 

@@ -7,19 +7,20 @@ ghost use Rattle.fss_write.specs.Text.{text_of};
 ghost use Rattle.owl_doc.specs.Documents.{ontology_of};
 ghost use Rattle.owl_documents.specs.Documents.{parsed_of, said_of};
 ghost use Rattle.owl_writing.specs.Tables.{declared_prefixes};
-ghost use Rattle.owl_answer.specs.Answers.{IsInTurtle, IsToldOfMain, outcome_of};
-ghost use Rattle.owl_answer.specs.Outcome.{IsLimited, IsSuccess, shown, translation};
+ghost use Rattle.owl_answer.specs.Answers.{IsInTurtle, IsToldOfMain};
+ghost use Rattle.owl_answer.specs.Outcome.{IsLimited, IsSuccess};
 ghost use Rattle.owl_answer.specs.TurtleOutcome.{IsFunctionalTranslation};
+ghost use Rattle.owl_messages.specs.Answers.{outcome_of};
+ghost use Rattle.owl_messages.specs.Outcome.{shown, translation};
 
-use crate::answer::{Answer, done_line, told, too_long_output};
-use crate::refusals::typing_refusal;
-use crate::summary::summary;
 use crate::turtle::translate_to_turtle;
+use crate::typing::typing_refusal;
 use fss_write::{WriteFault, write};
 use owl_characters::{MOST_BYTES, NoMemory, Text};
 use owl_command::{Action, Status, Target};
 use owl_doc::Doc;
 use owl_documents::Document;
+use owl_messages::{Answer, done_line, summary, told, too_long_output};
 use owl_tree::Kinds;
 use std::alloc::Global;
 

@@ -1,15 +1,19 @@
-//! Parts of a document that are not well typed.
+//! Parts of a document that are not well typed, and what is answered of them.
 
-ghost use Rattle.std.specs.Prelude.{◌↔◌, IfSome, IsNone, map};
+ghost use Rattle.std.specs.Prelude.{◌↔◌, IfOk, IfSome, IsNone, map};
 ghost use Rattle.owl_doc.specs.Documents.{ontology_of};
 ghost use Rattle.owl_doc.specs.Entities.{IsHeldItem};
 ghost use Rattle.owl_kind.specs.Kinds.{Entity};
 ghost use Rattle.rdf_sayable.specs.Parts.{of_axiom, part_at};
+ghost use Rattle.owl_answer.specs.Answers.{IsTyping};
 ghost use Rattle.owl_answer.specs.Typing.{AllAreWellTyped, FindsUntyped, IsFirstUntyped, entity_found};
 
 use owl_atom::Iri;
+use owl_characters::NoMemory;
 use owl_doc::{Doc, Item, undeclared};
+use owl_messages::{Answer, refuse_kinds, refuse_undeclared};
 use owl_tree::{Kind, Kinds};
+use std::alloc::Global;
 
 /// An entity that is neither declared nor built in, and the part of a document
 /// that it stands in.
@@ -56,4 +60,22 @@ fn untyped_axiom<'a>(doc: &'a Doc, kinds: &Kinds) -> Option<Untyped<'a>>
         }
     }
     None
+}
+
+/// What is answered where the document is not well typed under these kinds: the
+/// first IRI with a clash, or else the first part with an entity that is neither
+/// declared nor built in. `None` exactly where it is well typed.
+pub fn typing_refusal(alloc: Global, kinds: &Kinds, doc: &Doc) -> Result<Option<Answer>, NoMemory>
+    ensures { IfOk result (IsTyping kinds.now (ontology_of doc.now)) }
+{
+    if let Some(iri) = kinds.clash() {
+        return Ok(Some(refuse_kinds(alloc, iri)?));
+    }
+    match first_untyped(doc, kinds) {
+        Some(untyped) => {
+            let Untyped { item, kind, iri } = untyped;
+            Ok(Some(refuse_undeclared(alloc, doc, item, kind, iri)?))
+        }
+        None => Ok(None),
+    }
 }

@@ -9,9 +9,9 @@ use Rattle.owl_documents.specs.Documents.{IsProperRefusal}
 use Rattle.rdf_reverse.specs.declared.fault.ReverseFault.{ReverseFault}
 use Rattle.rdf_reverse.specs.declared.fault.ReverseFault.TheVariants as reverse
 use Rattle.rdf_scans.specs.declared.fault.OutlineFault.TheVariants as outline
-use Rattle.owl_answer.specs.Outcome.{Outcome, refusal_outcome, unsaid_outcome}
 use Rattle.owl_answer.specs.Runs.{IsIllTyped, IsRefusalLine, IsTurtleRefusal, LineFor, SuccessLine, of_bytes, of_graph, of_import, of_no_memory, of_output, of_read_fault, of_refusal, of_success, of_triples, of_turtle, of_two_kinds, of_typing, of_undeclared, of_unsayable, of_weight, of_write_fault}
 use Rattle.owl_command.specs.declared.status.Status.TheVariants.{ReadFailed}
+use Rattle.owl_messages.specs.Outcome.{Outcome, refusal_outcome, unsaid_outcome}
 
 -- the line of a read fault names a document with its cause
 no_success : (request : Request) (line : List ℕ) → SuccessLine request ReadFailed line → ⊥

@@ -5,7 +5,7 @@ use Rattle.std.proofs.lemmas.List.{append-nil}
 use Rattle.std.proofs.Math.Seq.{take-length}
 use Rattle.owl_command.specs.Commands.{Asks, HasNoCommand, IsAmong, Name, Request, names_of}
 use Rattle.owl_documents.specs.Shelves.{IsFaulty, IsFirstFaulty, IsFrontTaken, IsTaken, Rises, Shelves}
-use Rattle.owl_answer.specs.Outcome.{IsQuiet, IsSettled, IsSuccess, IsTheOutcome, Outcome, refused}
+use Rattle.owl_answer.specs.Outcome.{IsQuiet, IsSettled, IsSuccess, IsTheOutcome}
 use Rattle.owl_answer.specs.Runs.{Becomes, IsFrontNoted, IsFrontOfNote, IsFrontWritten, IsLine, IsNoted, IsNotedAlone, IsOutcome, IsWritten, LineFor, of_asked, of_memory, of_words, of_write_fault}
 use Rattle.owl_answer.specs.Answers.{HasNoText, IsAnswered, IsFound, IsWrittenFor, delivered_line}
 use Rattle.owl_command.specs.declared.status.Status.{Status}
@@ -13,6 +13,7 @@ use Rattle.owl_command.specs.declared.status.Status.TheVariants.{Done, No, Words
 use Rattle.owl_top.proofs.Causes.{fault_in}
 use Rattle.owl_command.proofs.CommandsLaws.{asks_once}
 use Rattle.owl_top.proofs.Requests.{no_command_the, outcome_the}
+use Rattle.owl_messages.specs.Outcome.{Outcome, refused}
 
 -- what was put is a front of what was to be put, also where it is all
 pub front_of : {T E : Type 0} (r : Result T E) (before after line : List ℕ) → OnOk r (after ≡ before ++ line) → OnErr r ((n : ℕ) × (n < length line) × (after ≡ before ++ take n line)) → (n : ℕ) × (after ≡ before ++ take n line)

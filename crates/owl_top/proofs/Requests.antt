@@ -3,9 +3,10 @@ use Rattle.std.proofs.Common.{◌≡◌, ℕ, List, codes, refl, sym, subst}
 use Rattle.owl_command.specs.Commands.{Asks, HasNoCommand, Request}
 use Rattle.owl_command.proofs.CommandsLaws.{asks_once}
 use Rattle.owl_documents.specs.Documents.{Contents}
-use Rattle.owl_answer.specs.Outcome.{IsTheOutcome, Outcome, refused}
+use Rattle.owl_answer.specs.Outcome.{IsTheOutcome}
 use Rattle.owl_answer.specs.Runs.{Becomes, IsOutcome, no_command, of_request}
 use Rattle.owl_command.specs.declared.status.Status.TheVariants.{Words}
+use Rattle.owl_messages.specs.Outcome.{Outcome, refused}
 
 module _ (words : List (List ℕ)) (contents : Contents) where
   asked_only : (request : Request) → Asks words request → (own other : Outcome) → ((o : Outcome) → Becomes contents request o → own ≡ o) → IsOutcome words contents other → own ≡ other

@@ -5,9 +5,11 @@ ghost use Rattle.std.specs.List.{AllByRecursion};
 ghost use Rattle.owl_port.specs.Outside.{Rose};
 ghost use Rattle.owl_command.specs.Commands.{AreNames, Asks, HasNoCommand, Name, Request, names_of, request_of};
 ghost use Rattle.owl_documents.specs.Shelves.{IsFaulty, IsFirstFaulty, IsFrontTaken, IsTaken};
-ghost use Rattle.owl_answer.specs.Outcome.{IsQuiet, IsSettled, IsSuccess, IsTheOutcome, Outcome};
+ghost use Rattle.owl_answer.specs.Outcome.{IsQuiet, IsSettled, IsSuccess, IsTheOutcome};
 ghost use Rattle.owl_answer.specs.Runs.{Becomes, IsFrontNoted, IsFrontOfNote, IsFrontWritten, IsLine, IsNoted, IsNotedAlone, IsOutcome, IsReadBack, IsWritten, LineFor};
-ghost use Rattle.owl_answer.specs.Answers.{IsProper, IsWrittenFor, delivered_line, outcome_of};
+ghost use Rattle.owl_answer.specs.Answers.{IsProper, IsWrittenFor, delivered_line};
+ghost use Rattle.owl_messages.specs.Answers.{outcome_of};
+ghost use Rattle.owl_messages.specs.Outcome.{Outcome};
 
 use owl_answer::{Answer, answer_to};
 use owl_characters::NoMemory;

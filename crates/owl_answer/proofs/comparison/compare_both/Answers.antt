@@ -1,11 +1,11 @@
 use Rattle.std.proofs.Common.{get_or, map}
 use Rattle.owl_command.specs.Commands.{request_of}
 use Rattle.owl_documents.specs.Documents.{parsed_of}
-use Rattle.owl_answer.specs.Answers.{outcome_of}
-use Rattle.owl_answer.specs.declared.answer.Answer.{Answer}
+use Rattle.owl_messages.specs.declared.answer.Answer.{Answer}
 use Rattle.owl_answer.proofs.UnderKinds.{none_first}
 use Rattle.owl_answer.proofs.Wanting.{from_both, parsed_at, stands_at}
 use Rattle.owl_answer.proofs.comparison.compare_both.Goals as goal
+use Rattle.owl_messages.specs.Answers.{outcome_of}
 
 pub returns-in-Err : goal.returns-in-Err
 returns-in-Err c =

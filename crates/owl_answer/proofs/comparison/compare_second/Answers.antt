@@ -4,12 +4,12 @@ use Rattle.std.proofs.lemmas.Result.{IfOk-weaker}
 use Rattle.owl_command.specs.Commands.{request_of}
 use Rattle.owl_doc.specs.Documents.{Document}
 use Rattle.owl_documents.specs.Documents.{parsed_of, said_of}
-use Rattle.owl_answer.specs.Answers.{outcome_of}
 use Rattle.owl_answer.specs.Reading.{SaysAlone}
-use Rattle.owl_answer.specs.declared.answer.Answer.{Answer}
+use Rattle.owl_messages.specs.declared.answer.Answer.{Answer}
 use Rattle.owl_answer.proofs.UnderKinds.{are_two, both_told, none_second}
 use Rattle.owl_answer.proofs.Wanting.{from_both, one_within, parsed_at, stands_at}
 use Rattle.owl_answer.proofs.comparison.compare_second.Goals as goal
+use Rattle.owl_messages.specs.Answers.{outcome_of}
 
 pub returns-in-Ok : goal.returns-in-Ok
 returns-in-Ok c =

@@ -4,14 +4,14 @@ use Rattle.std.proofs.lemmas.Result.{IfOk-weaker}
 use Rattle.owl_command.specs.Commands.{names_of, request_of}
 use Rattle.owl_doc.specs.Documents.{Document}
 use Rattle.owl_documents.specs.Documents.{Parsed, parsed_of, said_of}
-use Rattle.owl_answer.specs.Answers.{outcome_of}
 use Rattle.owl_answer.specs.Reading.{IsFirstFault, IsSaidAt}
 use Rattle.owl_answer.specs.UnderKinds.{SaysUnder}
-use Rattle.owl_answer.specs.declared.answer.Answer.{Answer}
+use Rattle.owl_messages.specs.declared.answer.Answer.{Answer}
 use Rattle.owl_answer.proofs.Readings.{main_said, some_sayings, within_names}
 use Rattle.owl_answer.proofs.UnderKinds.{action_told, action_unsaid}
 use Rattle.owl_answer.proofs.Wanting.{from_both, parsed_at, stands_at}
 use Rattle.owl_answer.proofs.conclusion.answer_action.Goals as goal
+use Rattle.owl_messages.specs.Answers.{outcome_of}
 
 pub index-requires : goal.index-requires
 index-requires c =

@@ -4,11 +4,12 @@ use Rattle.owl_command.specs.Commands.{request_of}
 use Rattle.owl_documents.specs.Documents.{parsed_of}
 use Rattle.owl_answer.specs.Outcome.{heads_in}
 use Rattle.owl_answer.specs.Runs.{HasImports}
-use Rattle.owl_answer.specs.Answers.{IsMissingFor, outcome_of}
+use Rattle.owl_answer.specs.Answers.{IsMissingFor}
 use Rattle.owl_answer.specs.declared.imports.Missing.{Missing}
-use Rattle.owl_answer.specs.declared.answer.Answer.{Answer}
+use Rattle.owl_messages.specs.declared.answer.Answer.{Answer}
 use Rattle.owl_answer.proofs.Wanting.{import_conclusion}
 use Rattle.owl_answer.proofs.conclusion.conclude.Goals as goal
+use Rattle.owl_messages.specs.Answers.{outcome_of}
 
 pub returns-in-Some : goal.returns-in-Some
 returns-in-Some c =

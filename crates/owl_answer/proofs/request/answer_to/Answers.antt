@@ -4,11 +4,12 @@ use Rattle.owl_documents.specs.declared.document.Document.{Document}
 use Rattle.owl_command.specs.Commands.{request_of}
 use Rattle.owl_documents.specs.Documents.{parsed_of}
 use Rattle.owl_documents.specs.Shelves.{Shelves}
-use Rattle.owl_answer.specs.Answers.{IsConclusion, outcome_of}
-use Rattle.owl_answer.specs.declared.answer.Answer.{Answer}
+use Rattle.owl_answer.specs.Answers.{IsConclusion}
+use Rattle.owl_messages.specs.declared.answer.Answer.{Answer}
 use Rattle.owl_answer.proofs.Answering.{answered_read, answered_stop}
 use Rattle.owl_answer.proofs.Wanting.{from_both}
 use Rattle.owl_answer.proofs.request.answer_to.Goals as goal
+use Rattle.owl_messages.specs.Answers.{outcome_of}
 
 pub returns-in-Ok-clause-answered : goal.returns-in-Ok-clause-answered
 returns-in-Ok-clause-answered g c =

@@ -2,11 +2,11 @@ use Rattle.std.proofs.Common.{◌<◌, ◌∙◌, ℕ, List, length, subst}
 use Rattle.std.proofs.lemmas.Result.{IfOk-weaker}
 use Rattle.owl_characters.specs.Limit.{most_bytes}
 use Rattle.owl_documents.specs.Documents.{said_of}
-use Rattle.owl_answer.specs.Outcome.{shown}
-use Rattle.owl_answer.specs.Answers.{outcome_of}
-use Rattle.owl_answer.specs.declared.answer.Answer.{Answer}
+use Rattle.owl_messages.specs.declared.answer.Answer.{Answer}
 use Rattle.owl_answer.proofs.Wanting.{passed}
 use Rattle.owl_answer.proofs.telling.show.Goals as goal
+use Rattle.owl_messages.specs.Answers.{outcome_of}
+use Rattle.owl_messages.specs.Outcome.{shown}
 
 pub returns-then-as_str-gt-MOST_BYTES : goal.returns-then-as_str-gt-MOST_BYTES
 returns-then-as_str-gt-MOST_BYTES c =

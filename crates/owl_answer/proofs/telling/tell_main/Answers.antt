@@ -2,9 +2,10 @@ use Rattle.std.proofs.Common.{subst, sym}
 use Rattle.std.proofs.lemmas.Result.{IfOk-weaker}
 use Rattle.owl_command.specs.declared.command.Action.{Action}
 use Rattle.owl_documents.specs.Documents.{parsed_of, said_of}
-use Rattle.owl_answer.specs.Answers.{IsToldOfMain, outcome_of}
-use Rattle.owl_answer.specs.declared.answer.Answer.{Answer}
+use Rattle.owl_answer.specs.Answers.{IsToldOfMain}
+use Rattle.owl_messages.specs.declared.answer.Answer.{Answer}
 use Rattle.owl_answer.proofs.telling.tell_main.Goals as goal
+use Rattle.owl_messages.specs.Answers.{outcome_of}
 
 pub returns-in-Translate : goal.returns-in-Translate
 returns-in-Translate c =

@@ -3,9 +3,10 @@ use Rattle.std.proofs.lemmas.Result.{IfOk-weaker}
 use Rattle.owl_command.specs.declared.command.Action.TheVariants.{Translate}
 use Rattle.owl_command.specs.declared.command.Target.{Target}
 use Rattle.owl_documents.specs.Documents.{parsed_of, said_of}
-use Rattle.owl_answer.specs.Answers.{IsToldOfMain, outcome_of}
-use Rattle.owl_answer.specs.declared.answer.Answer.{Answer}
+use Rattle.owl_answer.specs.Answers.{IsToldOfMain}
+use Rattle.owl_messages.specs.declared.answer.Answer.{Answer}
 use Rattle.owl_answer.proofs.telling.translate.Goals as goal
+use Rattle.owl_messages.specs.Answers.{outcome_of}
 
 pub returns-in-Fss : goal.returns-in-Fss
 returns-in-Fss c =

@@ -3,10 +3,11 @@ use Rattle.owl_command.specs.declared.command.Action.TheVariants.{Translate}
 use Rattle.owl_command.specs.declared.command.Target.TheVariants.{Fss}
 use Rattle.owl_documents.specs.Documents.{parsed_of, said_of}
 use Rattle.owl_documents.specs.declared.document.Document.{Document}
-use Rattle.owl_answer.specs.Answers.{IsToldOfMain, outcome_of}
-use Rattle.owl_answer.specs.declared.answer.Answer.{Answer}
+use Rattle.owl_answer.specs.Answers.{IsToldOfMain}
+use Rattle.owl_messages.specs.declared.answer.Answer.{Answer}
 use Rattle.owl_answer.proofs.Wanting.{from_both}
 use Rattle.owl_answer.proofs.telling.translate_in_functional.Goals as goal
+use Rattle.owl_messages.specs.Answers.{outcome_of}
 
 pub returns-in-Ontology : goal.returns-in-Ontology
 returns-in-Ontology c =

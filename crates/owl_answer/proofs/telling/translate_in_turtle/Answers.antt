@@ -1,9 +1,9 @@
 use Rattle.std.proofs.lemmas.Result.{IfOk-weaker}
 use Rattle.owl_documents.specs.Documents.{said_of}
-use Rattle.owl_answer.specs.Answers.{outcome_of}
-use Rattle.owl_answer.specs.declared.answer.Answer.{Answer}
+use Rattle.owl_messages.specs.declared.answer.Answer.{Answer}
 use Rattle.owl_answer.proofs.Sayings.{in_turtle}
 use Rattle.owl_answer.proofs.telling.translate_in_turtle.Goals as goal
+use Rattle.owl_messages.specs.Answers.{outcome_of}
 
 pub returns : goal.returns
 returns c =

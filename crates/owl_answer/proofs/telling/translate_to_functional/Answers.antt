@@ -2,11 +2,11 @@ use Rattle.std.proofs.Common.{◌<◌, ℕ, List, Err, length, ap, sym, subst}
 use Rattle.std.proofs.lemmas.Result.{IfOk-weaker}
 use Rattle.owl_characters.specs.Limit.{most_bytes}
 use Rattle.owl_documents.specs.Documents.{said_of}
-use Rattle.owl_answer.specs.Outcome.{translation}
-use Rattle.owl_answer.specs.Answers.{outcome_of}
-use Rattle.owl_answer.specs.declared.answer.Answer.{Answer}
+use Rattle.owl_messages.specs.declared.answer.Answer.{Answer}
 use Rattle.owl_answer.proofs.Wanting.{passed, translation_text}
 use Rattle.owl_answer.proofs.telling.translate_to_functional.Goals as goal
+use Rattle.owl_messages.specs.Answers.{outcome_of}
+use Rattle.owl_messages.specs.Outcome.{translation}
 
 pub returns-in-Err-TooLong-clause-outcome : goal.returns-in-Err-TooLong-clause-outcome
 returns-in-Err-TooLong-clause-outcome c =

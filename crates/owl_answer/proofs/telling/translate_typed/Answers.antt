@@ -1,11 +1,12 @@
 use Rattle.std.proofs.Common.{Option, subst}
 use Rattle.std.proofs.lemmas.Result.{IfOk-weaker}
 use Rattle.owl_doc.specs.Documents.{ontology_of}
-use Rattle.owl_answer.specs.Answers.{IsTyping, outcome_of}
+use Rattle.owl_answer.specs.Answers.{IsTyping}
 use Rattle.owl_answer.specs.TurtleOutcome.{ill_typed, well_typed}
-use Rattle.owl_answer.specs.declared.answer.Answer.{Answer}
+use Rattle.owl_messages.specs.declared.answer.Answer.{Answer}
 use Rattle.owl_answer.proofs.Turtles.{typing_fails}
 use Rattle.owl_answer.proofs.telling.translate_typed.Goals as goal
+use Rattle.owl_messages.specs.Answers.{outcome_of}
 
 pub returns-in-Some-clause-outcome : goal.returns-in-Some-clause-outcome
 returns-in-Some-clause-outcome c =

@@ -1,10 +1,10 @@
 use Rattle.std.proofs.Common.{refl, sym}
 use Rattle.std.proofs.lemmas.Result.{IfOk-weaker}
 use Rattle.owl_documents.specs.Documents.{said_of}
-use Rattle.owl_answer.specs.Answers.{outcome_of}
-use Rattle.owl_answer.specs.declared.answer.Answer.{Answer}
+use Rattle.owl_messages.specs.declared.answer.Answer.{Answer}
 use Rattle.owl_answer.proofs.Turtles.{light_told}
 use Rattle.owl_answer.proofs.turtle.translate_sayable.Goals as goal
+use Rattle.owl_messages.specs.Answers.{outcome_of}
 
 pub returns-then-is_normal : goal.returns-then-is_normal
 returns-then-is_normal c =

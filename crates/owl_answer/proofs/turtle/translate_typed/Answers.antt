@@ -3,10 +3,10 @@ use Rattle.std.proofs.lemmas.Result.{IfOk-weaker}
 use Rattle.owl_documents.specs.Documents.{said_of}
 use Rattle.rdf_sayable.specs.Parts.{part_at}
 use Rattle.rdf_sayable.specs.Reasons.{why_seen}
-use Rattle.owl_answer.specs.Answers.{outcome_of}
-use Rattle.owl_answer.specs.declared.answer.Answer.{Answer}
+use Rattle.owl_messages.specs.declared.answer.Answer.{Answer}
 use Rattle.owl_answer.proofs.Turtles.{ready_told, unsaid_told}
 use Rattle.owl_answer.proofs.turtle.translate_typed.Goals as goal
+use Rattle.owl_messages.specs.Answers.{outcome_of}
 
 pub returns-in-Some : goal.returns-in-Some
 returns-in-Some c =

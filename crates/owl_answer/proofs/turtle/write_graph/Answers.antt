@@ -1,10 +1,10 @@
 use Rattle.std.proofs.Common.{Err, ap}
 use Rattle.std.proofs.lemmas.Result.{IfOk-weaker}
 use Rattle.owl_documents.specs.Documents.{said_of}
-use Rattle.owl_answer.specs.Answers.{outcome_of}
-use Rattle.owl_answer.specs.declared.answer.Answer.{Answer}
+use Rattle.owl_messages.specs.declared.answer.Answer.{Answer}
 use Rattle.owl_answer.proofs.Turtles.{fits_told, long_told}
 use Rattle.owl_answer.proofs.turtle.write_graph.Goals as goal
+use Rattle.owl_messages.specs.Answers.{outcome_of}
 
 pub returns-in-Ok : goal.returns-in-Ok
 returns-in-Ok c =

@@ -2,11 +2,11 @@ use Rattle.std.proofs.Common.{Err, inl, map, string_bytes, codes, refl, ap}
 use Rattle.owl_port.specs.Outside.{Rose}
 use Rattle.owl_command.specs.Commands.{HasNoCommand, request_of}
 use Rattle.owl_documents.specs.Shelves.{IsFaulty, IsFirstFaulty}
-use Rattle.owl_answer.specs.Outcome.{refused}
 use Rattle.owl_command.specs.declared.status.Status.TheVariants.{Words}
 use Rattle.owl_top.proofs.Delivering.{asked_ended, asked_fault, asked_front, asked_note, asked_note_alone, asked_note_front, asked_note_front_alone, asked_outcome, asked_written, completes_by, no_command_front, no_command_note}
 use Rattle.owl_top.proofs.Requests.{no_command_the}
 use Rattle.owl_top.proofs.program.run.Goals as goal
+use Rattle.owl_messages.specs.Outcome.{refused}
 
 pub returns-in-Ok-clause-outcome : goal.returns-in-Ok-clause-outcome
 returns-in-Ok-clause-outcome g c = λ shelf settled.

@@ -2,7 +2,7 @@ use Rattle.std.proofs.Common.{refl}
 use Rattle.rdf_sayable.specs.Parts.{part_at}
 use Rattle.owl_answer.specs.Typing.{entity_found}
 use Rattle.owl_answer.specs.TurtleOutcome.{clashes, untyped}
-use Rattle.owl_answer.proofs.refusals.typing_refusal.Goals as goal
+use Rattle.owl_answer.proofs.typing.typing_refusal.Goals as goal
 
 pub returns-in-Some : goal.returns-in-Some
 returns-in-Some c = clashes c.in-Some.iri.now c.in-Some.ensures.some c.in_ok-refuse_kinds.ensures

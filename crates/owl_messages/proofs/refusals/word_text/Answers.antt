@@ -3,7 +3,7 @@ use Rattle.std.specs.Str.{encode_utf8_all}
 use Rattle.std.proofs.lemmas.Result.{IfOk-weaker}
 use Rattle.std.proofs.lemmas.Str.{encodes-chars}
 use Rattle.owl_characters.specs.declared.text.Text.{Text}
-use Rattle.owl_answer.proofs.refusals.word_text.Goals as goal
+use Rattle.owl_messages.proofs.refusals.word_text.Goals as goal
 
 pub returns : goal.returns
 returns c =

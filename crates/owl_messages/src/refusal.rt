@@ -1,16 +1,16 @@
 //! What is answered where a document is not read.
 
 ghost use Rattle.std.specs.Prelude.{◌≡◌, ◌≢◌, ◌++◌, string_bytes, codes, decimal, IfOk};
-ghost use Rattle.owl_answer.specs.Outcome.{defect_outcome, missing_import, passed_limit, reason_word, refusal_outcome};
-ghost use Rattle.owl_answer.specs.Answers.{outcome_of, trouble_outcome};
+ghost use Rattle.owl_messages.specs.Outcome.{defect_outcome, missing_import, passed_limit, reason_word, refusal_outcome};
+ghost use Rattle.owl_messages.specs.Answers.{outcome_of, trouble_outcome};
 
 use crate::answer::{Answer, refused};
 use crate::unsaid::refuse_headless;
-use fss_read::{ReadFault, Reason};
 use owl_atom::Iri;
 use owl_characters::NoMemory;
 use owl_command::Status;
 use owl_documents::{Refusal, Trouble};
+use owl_reader::{ReadFault, Reason};
 use std::alloc::{AllocError, Global};
 
 /// The word that a reason is told by.

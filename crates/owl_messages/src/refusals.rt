@@ -2,22 +2,19 @@
 
 ghost use Rattle.std.specs.Prelude.{◌≡◌, string_bytes, IfOk, option_map};
 ghost use Rattle.std.specs.Str.{encode_utf8_all};
-ghost use Rattle.owl_doc.specs.Documents.{ontology_of};
 ghost use Rattle.owl_doc.specs.Entities.{IsHeldItem};
 ghost use Rattle.rdf_sayable.specs.Parts.{part_at};
 ghost use Rattle.rdf_sayable.specs.Reasons.{why_seen};
-ghost use Rattle.owl_answer.specs.Answers.{IsTyping, outcome_of};
-ghost use Rattle.owl_answer.specs.Refusals.{item_text, objection_iri, objection_text, objection_word, tag_of_kind, two_kinds, undeclared, undeclared_line, unsayable, unsayable_line};
-ghost use Rattle.owl_answer.specs.Typing.{entity_found};
+ghost use Rattle.owl_messages.specs.Answers.{outcome_of};
+ghost use Rattle.owl_messages.specs.Refusals.{item_text, objection_iri, objection_text, objection_word, tag_of_kind, two_kinds, undeclared, undeclared_line, unsayable, unsayable_line};
 
 use crate::answer::{Answer, refused};
-use crate::typing::{Untyped, first_untyped};
 use fss_write::{WriteFault, axiom_text};
 use owl_atom::Iri;
 use owl_characters::{NoMemory, Text};
 use owl_command::Status;
 use owl_doc::{Cant, Doc, Item, Why};
-use owl_tree::{Kind, Kinds, Tag};
+use owl_tree::{Kind, Tag};
 use std::alloc::{AllocError, Global};
 
 /// The text that is this word.
@@ -81,33 +78,22 @@ fn undeclared_line(alloc: Global, kind: Kind, iri: &Iri, item: &Text) -> Result<
     format!(in alloc; "typing: Undeclared {keyword} <{iri}>: {item}\n")
 }
 
-/// What is answered where this part of the document is not well typed.
-pub fn refuse_undeclared(alloc: Global, doc: &Doc, untyped: &Untyped) -> Result<Answer, NoMemory>
-    requires { IsHeldItem doc.now untyped.now.item }
+/// What is answered where this entity is not declared, which stands in this part of
+/// the document.
+pub fn refuse_undeclared(
+    alloc: Global,
+    doc: &Doc,
+    item: Item,
+    kind: Kind,
+    iri: &Iri,
+) -> Result<Answer, NoMemory>
+    requires { IsHeldItem doc.now item }
     ensures { IfOk result (λ answer. outcome_of answer
-        ≡ undeclared (part_at doc.now untyped.now.item) (entity_found untyped.now)) }
+        ≡ undeclared (part_at doc.now item) (record { kind = kind; iri = iri.now })) }
 {
-    let item = item_text(alloc, doc, untyped.item)?;
-    refused(
-        alloc,
-        Status::Target,
-        undeclared_line(alloc, untyped.kind, untyped.iri, &item),
-    )
-}
-
-/// What is answered where the document is not well typed under these kinds: the
-/// first IRI with a clash, or else the first part with an entity that is neither
-/// declared nor built in. `None` exactly where it is well typed.
-pub fn typing_refusal(alloc: Global, kinds: &Kinds, doc: &Doc) -> Result<Option<Answer>, NoMemory>
-    ensures { IfOk result (IsTyping kinds.now (ontology_of doc.now)) }
-{
-    if let Some(iri) = kinds.clash() {
-        return Ok(Some(refuse_kinds(alloc, iri)?));
-    }
-    match first_untyped(doc, kinds) {
-        Some(untyped) => Ok(Some(refuse_undeclared(alloc, doc, &untyped)?)),
-        None => Ok(None),
-    }
+    let item = item_text(alloc, doc, item)?;
+    let line = undeclared_line(alloc, kind, iri, &item);
+    refused(alloc, Status::Target, line)
 }
 
 /// The word that an objection is told by.

@@ -16,9 +16,8 @@ use Rattle.rdf_graph.specs.declared.triple.Triple.{Triple}
 use Rattle.rdf_reverse.specs.declared.fault.ReverseFault.TheVariants as reverse
 use Rattle.rdf_scans.specs.declared.fault.OutlineFault.TheVariants as outline
 use Rattle.rdf_terms.specs.Literals.{with_tag}
-use Rattle.owl_answer.specs.Outcome.{headless, unsaid_outcome}
-use Rattle.owl_answer.specs.Refusals.{two_kinds, undeclared, unsayable}
-use Rattle.owl_answer.specs.TurtleOutcome.{too_heavy_output, too_many_triples}
+use Rattle.owl_messages.specs.Refusals.{two_kinds, undeclared, unsayable}
+use Rattle.owl_messages.specs.Outcome.{headless, too_heavy_output, too_many_triples, unsaid_outcome}
 
 abbrev over : Tag → List Tree → Tree
 over t kids = node t (kids_of kids)

@@ -4,7 +4,7 @@ ghost use Rattle.std.specs.Prelude.{◌≡◌, ◌++◌, codes, string_bytes, If
 ghost use Rattle.std.specs.Str.{encode_utf8_all};
 ghost use Rattle.owl_doc.specs.Documents.{ontology_of};
 ghost use Rattle.owl_doc.specs.Heads.{StandsBeside, head_of};
-ghost use Rattle.owl_answer.specs.Summary.{count_line, head_lines, iri_line, name_lines, size_lines, summary_text};
+ghost use Rattle.owl_messages.specs.Summary.{count_line, head_lines, iri_line, name_lines, size_lines, summary_text};
 
 use owl_atom::Iri;
 use owl_characters::{NoMemory, Text};

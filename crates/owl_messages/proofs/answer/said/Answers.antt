@@ -2,9 +2,9 @@ use Rattle.std.proofs.Common.{List, ℕ, ap, ◌∙◌}
 use Rattle.std.specs.Str.{encode_utf8_all}
 use Rattle.std.proofs.lemmas.Result.{IfOk-weaker}
 use Rattle.std.proofs.lemmas.Str.{encodes-chars}
-use Rattle.owl_answer.specs.Outcome.{Outcome}
-use Rattle.owl_answer.specs.declared.answer.Answer.{Answer}
-use Rattle.owl_answer.proofs.answer.said.Goals as goal
+use Rattle.owl_messages.specs.declared.answer.Answer.{Answer}
+use Rattle.owl_messages.proofs.answer.said.Goals as goal
+use Rattle.owl_messages.specs.Outcome.{Outcome}
 
 pub returns : goal.returns
 returns c =

@@ -5,8 +5,8 @@ ghost use Rattle.std.specs.Str.{encode_utf8_all};
 ghost use Rattle.rdf_reverse.specs.declared.fault.ReverseFault.TheVariants.{Memory};
 ghost use Rattle.rdf_scans.specs.declared.fault.OutlineFault.TheVariants as outline;
 ghost use Rattle.ttl_write.specs.Text.{full_term, full_triple};
-ghost use Rattle.owl_answer.specs.Answers.{outcome_of};
-ghost use Rattle.owl_answer.specs.Outcome.{about_iri, about_label, about_node, about_triple, headless, noted_as, refused_graph, unsaid_outcome};
+ghost use Rattle.owl_messages.specs.Answers.{outcome_of};
+ghost use Rattle.owl_messages.specs.Outcome.{about_iri, about_label, about_node, about_triple, headless, noted_as, refused_graph, unsaid_outcome};
 
 use crate::answer::{Answer, refused};
 use crate::refusal::refuse_limit;

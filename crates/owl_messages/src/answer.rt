@@ -2,8 +2,8 @@
 
 ghost use Rattle.std.specs.Prelude.{◌≡◌, [], string_bytes, IfOk, IsErr};
 ghost use Rattle.std.specs.Str.{encode_utf8_all};
-ghost use Rattle.owl_answer.specs.Outcome.{done_line, too_long_output};
-ghost use Rattle.owl_answer.specs.Answers.{outcome_of};
+ghost use Rattle.owl_messages.specs.Outcome.{done_line, too_long_output};
+ghost use Rattle.owl_messages.specs.Answers.{outcome_of};
 
 use owl_characters::{NoMemory, Text};
 use owl_command::Status;

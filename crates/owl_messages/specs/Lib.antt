@@ -1,0 +1,4 @@
+pub mod Answers
+pub mod Outcome
+pub mod Refusals
+pub mod Summary

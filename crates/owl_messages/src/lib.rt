@@ -1,0 +1,14 @@
+//! What a run tells: each answer's text and line.
+#![tactic(auto)]
+
+mod answer;
+mod refusal;
+mod refusals;
+mod summaries;
+mod unsaid;
+
+pub use answer::{Answer, done_line, said, told, too_long_output};
+pub use refusal::{answer_trouble, refuse_import, refuse_output};
+pub use refusals::{refuse_kinds, refuse_undeclared, refuse_unsayable};
+pub use summaries::summary;
+pub use unsaid::refuse_unsaid;
