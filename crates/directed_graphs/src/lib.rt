@@ -12,5 +12,6 @@ mod order;
 mod ranks;
 mod reach;
 
+pub use components::component_ranks;
 pub use laws::ordered_nodes_are_on_no_cycle;
 pub use order::{Order, order_nodes};

@@ -10,7 +10,7 @@ use Rattle.rdf_meaning.specs.Nodes.{is_structural}
 use Rattle.rdf_faults.specs.Asked.{IsTyped}
 use Rattle.rdf_faults.specs.Faults.{IsUntypedPart}
 use Rattle.rdf_roles.proofs.FirstLaws.{HoldsNowhereBelow, holds_for_none, nowhere_below_next}
-use Rattle.rdf_roles.specs.Refusals.{IsFirstUntyped}
+use Rattle.rdf_roles.specs.FaultPlaces.{IsFirstUntyped}
 
 module _ (g : List Triple) (k : List Entity) where
   abbrev pub IsUntyped : Triple → Type 0

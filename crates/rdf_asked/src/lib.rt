@@ -13,7 +13,7 @@ mod source;
 mod typed;
 
 pub use listed::Listed;
-pub use lists::{is_met, meets};
+pub use lists::meets;
 pub use shared::{lists_of, shares_lists};
 pub use sorts::{
     has_kind, is_declared, is_entity, is_of_sort, may_be_declared, names_tree, role_of_term,

@@ -8,38 +8,18 @@ ghost use Rattle.rdf_meaning.specs.Nodes.{chosen, role_of};
 ghost use Rattle.rdf_faults.specs.Asked.{IsListOf, IsMet};
 ghost use Rattle.rdf_asked.specs.Elements.{is_element};
 ghost use Rattle.rdf_asked.specs.Listed.{IsListed, IsSource};
-ghost use Rattle.rdf_roles.specs.Refusals.{AreNodesFormed};
-ghost use Rattle.rdf_roles.specs.Tables.{IsTableOf};
 
 use crate::elements::{Element, is_element};
 use crate::listed::Listed;
 use crate::sorts::{is_declared, is_of_sort, role_of_term};
 use crate::source::Source;
-use owl_kind::Kinds;
-use rdf_graph::{Graph, Term};
+use rdf_graph::Term;
 use rdf_meaning::{Role, Want};
-use rdf_roles::Roles;
 use rdf_rows::{cell, is_nil, is_true};
 use rdf_terms::Label;
 
-/// Whether the term is what is wanted (Mapping to RDF Graphs, section 3.2). Takes no
-/// memory.
-pub fn is_met(graph: &Graph, roles: &Roles, kinds: &Kinds, want: Want, term: &Term) -> bool
-    requires table { IsTableOf graph.now roles.now }
-    requires formed { AreNodesFormed graph.now }
-    ensures { IsTrue result ↔ IsMet graph.now kinds.now want term.now }
-{
-    let source = Source {
-        graph,
-        roles,
-        kinds,
-        lists: &[],
-    };
-    meets(&source, want, term)
-}
-
-/// Whether the term is what is wanted, in time that grows with the graph where what is
-/// known of its lists is kept.
+/// Whether the term is what is wanted (Mapping to RDF Graphs, section 3.2), in time that
+/// grows with the graph where what is known of its lists is kept. Takes no memory.
 pub fn meets(source: &Source, want: Want, term: &Term) -> bool
     requires source { IsSource source.now }
     ensures { IsTrue result ↔ IsMet source.now.graph.now source.now.kinds.now want term.now }

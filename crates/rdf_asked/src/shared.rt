@@ -1,6 +1,6 @@
 //! What is known of the lists of a graph in which lists are shared.
 
-ghost use Rattle.std.specs.Prelude.{◌≡◌, IfOk, IfSome, IsTrue, List, length, nat_lt};
+ghost use Rattle.std.specs.Prelude.{◌≡◌, IfOk, IfSome, List, length, nat_lt};
 ghost use Rattle.std.specs.List.{filter};
 ghost use Rattle.owl_kind.specs.Kinds.{Entity};
 ghost use Rattle.rdf_graph.specs.declared.triple.Triple.{Triple};

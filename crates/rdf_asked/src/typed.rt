@@ -11,7 +11,8 @@ ghost use Rattle.rdf_faults.specs.Faults.{IsUntypedPart};
 ghost use Rattle.rdf_rows.specs.Fits.{CountsWords};
 ghost use Rattle.rdf_asked.specs.Asking.{IsTypedNode};
 ghost use Rattle.rdf_asked.specs.Listed.{IsSource};
-ghost use Rattle.rdf_roles.specs.Refusals.{AreNodesFormed, IsFirstUntyped};
+ghost use Rattle.rdf_roles.specs.Refusals.{AreNodesFormed};
+ghost use Rattle.rdf_roles.specs.FaultPlaces.{IsFirstUntyped};
 ghost use Rattle.rdf_roles.specs.Tables.{IsTableOf};
 
 use crate::asked::is_asked_for;

@@ -13,7 +13,8 @@ use Rattle.rdf_faults.specs.Faults.{IsBadHeader, IsOfNothing, IsOrphan, IsReserv
 use Rattle.rdf_faults.proofs.FirstLaws.{first_is_one}
 use Rattle.rdf_faults.specs.Firsts.{HoldsForNone, IsFirst}
 use Rattle.rdf_roles.proofs.FirstLaws.{first_at}
-use Rattle.rdf_roles.specs.Refusals.{AreNodesFormed, IsFirstNode, IsFirstUntyped, IsNodeFault}
+use Rattle.rdf_roles.specs.Refusals.{AreNodesFormed, IsFirstNode, IsNodeFault}
+use Rattle.rdf_roles.specs.FaultPlaces.{IsFirstUntyped}
 use Rattle.rdf_roles.specs.Tables.{blank_nodes}
 use Rattle.rdf_roles.specs.declared.fault.NodeFault.{NodeFault}
 use Rattle.rdf_roles.specs.declared.fault.NodeFault.TheVariants as node

@@ -16,7 +16,8 @@ use Rattle.rdf_rows.proofs.NodeTripleLaws.{cell_is, chosen_is}
 use Rattle.rdf_roles.specs.declared.fault.NodeFault.{NodeFault}
 use Rattle.rdf_roles.specs.declared.fault.NodeFault.TheVariants.{Mixed, BadList, Cycle, BadNode, Memory}
 use Rattle.rdf_roles.proofs.FirstLaws.{HoldsNowhereBelow, first_at}
-use Rattle.rdf_roles.specs.Refusals.{HaveOneRole, IsBadListAt, IsNodeFault}
+use Rattle.rdf_roles.specs.Refusals.{HaveOneRole, IsNodeFault}
+use Rattle.rdf_roles.specs.FaultPlaces.{IsBadListAt}
 use Rattle.rdf_roles.specs.Tables.{blank_nodes}
 
 abbrev MayBeRest : List Triple → Term → Type 0

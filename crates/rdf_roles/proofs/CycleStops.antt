@@ -4,7 +4,8 @@ use Rattle.directed_graphs.specs.Cycles.{IsFirstOnCycle}
 use Rattle.rdf_graph.specs.declared.triple.Triple.{Triple}
 use Rattle.rdf_roles.specs.declared.fault.NodeFault.{NodeFault}
 use Rattle.rdf_roles.specs.declared.fault.NodeFault.TheVariants.{Mixed, BadList, Cycle, BadNode, Memory}
-use Rattle.rdf_roles.specs.Refusals.{HaveCells, HaveOneRole, IsCycleAt, IsNodeFault}
+use Rattle.rdf_roles.specs.Refusals.{HaveCells, HaveOneRole, IsNodeFault}
+use Rattle.rdf_roles.specs.FaultPlaces.{IsCycleAt}
 use Rattle.rdf_roles.specs.Tables.{AreEdges}
 use Rattle.rdf_roles.proofs.WayLaws.{first_cycle}
 

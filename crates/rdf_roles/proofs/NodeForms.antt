@@ -15,7 +15,8 @@ use Rattle.rdf_rows.proofs.NodeTripleLaws.{facets_are, reification_is}
 use Rattle.rdf_roles.specs.declared.fault.NodeFault.{NodeFault}
 use Rattle.rdf_roles.specs.declared.fault.NodeFault.TheVariants.{Mixed, BadList, Cycle, BadNode, Memory}
 use Rattle.rdf_roles.proofs.FirstLaws.{HoldsNowhereBelow, first_at}
-use Rattle.rdf_roles.specs.Refusals.{HaveCells, HaveNoCycle, HaveOneRole, IsBadNodeAt, IsNodeFault}
+use Rattle.rdf_roles.specs.Refusals.{HaveCells, HaveNoCycle, HaveOneRole, IsNodeFault}
+use Rattle.rdf_roles.specs.FaultPlaces.{IsBadNodeAt}
 use Rattle.rdf_roles.specs.Tables.{blank_nodes}
 
 -- one is told as the only one

@@ -30,7 +30,8 @@ use Rattle.rdf_faults.specs.Firsts.{HoldsForNone}
 use Rattle.rdf_roles.specs.declared.fault.NodeFault.{NodeFault}
 use Rattle.rdf_roles.specs.declared.fault.NodeFault.TheVariants.{Mixed, BadList, Cycle, BadNode, Memory}
 use Rattle.rdf_roles.proofs.NodeLaws.{from_labels}
-use Rattle.rdf_roles.specs.Refusals.{HaveOneRole, IsMixedFault, IsNodeFault}
+use Rattle.rdf_roles.specs.Refusals.{HaveOneRole, IsNodeFault}
+use Rattle.rdf_roles.specs.FaultPlaces.{IsMixedFault}
 use Rattle.rdf_roles.specs.Tables.{IsNew, begins_with, blank_nodes, labels_in, table_of, with_role}
 
 -- the program's test of terms

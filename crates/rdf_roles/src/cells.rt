@@ -1,13 +1,14 @@
 //! The cells of lists.
 
-ghost use Rattle.std.specs.Prelude.{◌≡◌, ◌⊎◌, ◌↔◌, ◌<◌, length, IfErr, IfOk, IsTrue, List, OnOk};
+ghost use Rattle.std.specs.Prelude.{◌≡◌, ◌⊎◌, ◌↔◌, ◌<◌, IfErr, IfOk, IsTrue, List, OnOk};
 ghost use Rattle.rdf_graph.specs.declared.term.Term.TheVariants as held;
 ghost use Rattle.rdf_graph.specs.declared.triple.Triple.{Triple};
 ghost use Rattle.rdf_meaning.specs.declared.role.Role.TheVariants as role;
 ghost use Rattle.rdf_meaning.specs.Nodes.{nil_iri, role_of};
 ghost use Rattle.rdf_meaning.specs.Statements.{IsCell};
 ghost use Rattle.rdf_faults.specs.Faults.{IsBadCell};
-ghost use Rattle.rdf_roles.specs.Refusals.{HasNoFaultAt, HaveCells, HaveOneRole, IsBadListAt, IsNodeFault};
+ghost use Rattle.rdf_roles.specs.Refusals.{HaveCells, HaveOneRole, IsNodeFault};
+ghost use Rattle.rdf_roles.specs.FaultPlaces.{HasNoFaultAt, IsBadListAt};
 ghost use Rattle.rdf_roles.specs.Tables.{table_of};
 
 use crate::fault::NodeFault;

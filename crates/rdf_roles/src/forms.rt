@@ -10,7 +10,8 @@ ghost use Rattle.rdf_meaning.specs.Nodes.{role_of};
 ghost use Rattle.rdf_faults.specs.Faults.{IsBadNode};
 ghost use Rattle.rdf_faults.specs.Formed.{IsFormedAs};
 ghost use Rattle.rdf_roles.specs.Lengths.{AreLengths, IsSeen};
-ghost use Rattle.rdf_roles.specs.Refusals.{HasNoFaultAt, HaveCells, HaveForms, HaveNoCycle, HaveOneRole, IsBadNodeAt, IsNodeFault};
+ghost use Rattle.rdf_roles.specs.Refusals.{HaveCells, HaveForms, HaveNoCycle, HaveOneRole, IsNodeFault};
+ghost use Rattle.rdf_roles.specs.FaultPlaces.{HasNoFaultAt, IsBadNodeAt};
 ghost use Rattle.rdf_roles.specs.Tables.{IsNodeOrder, table_of};
 
 use crate::fault::NodeFault;

@@ -1,6 +1,6 @@
 //! The ways from a reification to those of its annotations.
 
-ghost use Rattle.std.specs.Prelude.{◌≡◌, ◌↔◌, ◌<◌, IsTrue, List, OnOk, length, suc};
+ghost use Rattle.std.specs.Prelude.{◌≡◌, ◌↔◌, ◌<◌, IsTrue, OnOk, length, suc};
 ghost use Rattle.std.specs.List.{list_any};
 ghost use Rattle.directed_graphs.specs.Cycles.{edges_of};
 ghost use Rattle.rdf_graph.specs.declared.term.Term.{Term};

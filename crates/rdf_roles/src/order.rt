@@ -2,7 +2,8 @@
 
 ghost use Rattle.std.specs.Prelude.{◌≡◌, ℕ, IfErr, IfOk, List, OnOk, Some, slice_get};
 ghost use Rattle.rdf_graph.specs.declared.triple.Triple.{Triple};
-ghost use Rattle.rdf_roles.specs.Refusals.{AreNodesFormed, HaveCells, HaveNoCycle, HaveOneRole, IsCycleAt, IsNodeFault};
+ghost use Rattle.rdf_roles.specs.Refusals.{AreNodesFormed, HaveCells, HaveNoCycle, HaveOneRole, IsNodeFault};
+ghost use Rattle.rdf_roles.specs.FaultPlaces.{IsCycleAt};
 ghost use Rattle.rdf_roles.specs.Tables.{IsNodeOrder, blank_nodes, table_of};
 
 use crate::cells::check_cells;

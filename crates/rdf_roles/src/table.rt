@@ -4,7 +4,8 @@ ghost use Rattle.std.specs.Prelude.{◌≡◌, ◌∷◌, [], IfErr, IfOk, OnOk}
 ghost use Rattle.indexmap.specs.IndexMap.{IsEmpty};
 ghost use Rattle.rdf_faults.specs.Faults.{IsMixed};
 ghost use Rattle.rdf_faults.specs.Firsts.{HoldsForNone};
-ghost use Rattle.rdf_roles.specs.Refusals.{HaveOneRole, IsMixedFault, IsNodeFault};
+ghost use Rattle.rdf_roles.specs.Refusals.{HaveOneRole, IsNodeFault};
+ghost use Rattle.rdf_roles.specs.FaultPlaces.{IsMixedFault};
 ghost use Rattle.rdf_roles.specs.Tables.{IsNew, begins_with, labels_in, table_of, with_node};
 
 use crate::fault::NodeFault;

@@ -1,6 +1,6 @@
 use Rattle.std.specs.Prelude.{◌≡◌, IfSome}
 use Rattle.std.proofs.Common.{inl, inr, subst, sym}
-use Rattle.rdf_roles.specs.Refusals.{IsFirstUntyped}
+use Rattle.rdf_roles.specs.FaultPlaces.{IsFirstUntyped}
 use Rattle.rdf_reverse.specs.declared.fault.ReverseFault.TheVariants.{Untyped}
 use Rattle.rdf_reverse.specs.Reverse.{IsFoundBy, typing}
 use Rattle.rdf_reverse.proofs.Finding.{part_at, part_found}
