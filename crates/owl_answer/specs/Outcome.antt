@@ -3,7 +3,7 @@ use Rattle.std.specs.Prelude.{◌≡◌, ◌<◌, ◌≤◌, List, length, map}
 use Rattle.owl_characters.specs.Limit.{most_bytes}
 use Rattle.owl_tree.specs.Ontologies.{Head, IsSameOntology}
 use Rattle.owl_command.specs.declared.status.Status.{Status}
-use Rattle.owl_command.specs.declared.status.Status.TheVariants.{Done, No, Words, Document as NoDocument, Target, Limit, ReadFailed, WriteFailed, Memory}
+use Rattle.owl_command.specs.declared.status.Status.TheVariants.{Done, No, ReadFailed, WriteFailed, Memory}
 use Rattle.owl_documents.specs.Documents.{Parsed, Said, head_in}
 use Rattle.owl_messages.specs.Outcome.{Outcome, agreement, difference, too_long_output}
 
@@ -28,36 +28,20 @@ pub record IsTheOutcome (IsOne : Outcome → Type 0) (outcome : Outcome) : Type 
 
 -- neither a device failed nor memory ran out
 abbrev pub IsSettled : Status → Type 0
-IsSettled Done = Unit {0}
-IsSettled No = Unit {0}
-IsSettled Words = Unit {0}
-IsSettled NoDocument = Unit {0}
-IsSettled Target = Unit {0}
-IsSettled Limit = Unit {0}
 IsSettled ReadFailed = ⊥
 IsSettled WriteFailed = ⊥
 IsSettled Memory = ⊥
+IsSettled _ = Unit {0}
 
 -- what was asked for was done, and the text was written
 abbrev pub IsSuccess : Status → Type 0
 IsSuccess Done = Unit {0}
 IsSuccess No = Unit {0}
-IsSuccess Words = ⊥
-IsSuccess NoDocument = ⊥
-IsSuccess Target = ⊥
-IsSuccess Limit = ⊥
-IsSuccess ReadFailed = ⊥
-IsSuccess WriteFailed = ⊥
-IsSuccess Memory = ⊥
+IsSuccess _ = ⊥
 
 -- nothing is written to the output
 abbrev pub IsQuiet : Status → Type 0
 IsQuiet Done = ⊥
 IsQuiet No = ⊥
-IsQuiet Words = Unit {0}
-IsQuiet NoDocument = Unit {0}
-IsQuiet Target = Unit {0}
-IsQuiet Limit = Unit {0}
-IsQuiet ReadFailed = Unit {0}
 IsQuiet WriteFailed = ⊥
-IsQuiet Memory = Unit {0}
+IsQuiet _ = Unit {0}
