@@ -7,7 +7,7 @@ ghost use Rattle.rdf_terms.specs.Tables.{are_ascii, shown};
 ghost use Rattle.owl_characters.specs.Iri.{is_ascii};
 ghost use Rattle.owl_kind.specs.Kinds.{is_built_in};
 
-use rdf_terms::{Iri, in_map};
+use rdf_terms::{Iri, XSD, in_map, owl, rdf, rdfs};
 
 /// What an IRI may name (Structural Specification, sections 5.1 to 5.6).
 #[derive(Clone, Copy, Debug, PartialEq, Eq)]
@@ -19,30 +19,6 @@ pub enum Kind {
     AnnotationProperty,
     Individual,
 }
-
-/// The IRI of a name of OWL.
-macro_rules! owl {
-    ($name:literal) => {
-        concat!("http://www.w3.org/2002/07/owl#", $name)
-    };
-}
-
-/// The IRI of a name of RDF.
-macro_rules! rdf {
-    ($name:literal) => {
-        concat!("http://www.w3.org/1999/02/22-rdf-syntax-ns#", $name)
-    };
-}
-
-/// The IRI of a name of RDF Schema.
-macro_rules! rdfs {
-    ($name:literal) => {
-        concat!("http://www.w3.org/2000/01/rdf-schema#", $name)
-    };
-}
-
-/// The namespace of XML Schema, in which every IRI is a datatype.
-const XSD: &str = "http://www.w3.org/2001/XMLSchema#";
 
 /// Section 5.1.
 const CLASSES: [&str; 2] = [owl!("Thing"), owl!("Nothing")];

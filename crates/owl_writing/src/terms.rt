@@ -12,9 +12,10 @@ ghost use Rattle.owl_writing.specs.declared.fault.WriteFault.{WriteFault};
 use crate::draft::Draft;
 use crate::fault::WriteFault;
 use owl_atom::{Iri, Label, Literal, Prefixes};
+use rdf_terms::xsd;
 
 /// The IRI of xsd:string.
-const STRING: &str = "http://www.w3.org/2001/XMLSchema#string";
+const STRING: &str = xsd!("string");
 
 impl Draft {
     /// Adds an IRI in full, between `<` and `>` (Structural Specification, section 2.4; RDF 1.1 Turtle, section 2.4).

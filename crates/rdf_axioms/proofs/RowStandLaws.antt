@@ -24,6 +24,7 @@ use Rattle.rdf_meaning.specs.Words.{word_number}
 use Rattle.rdf_meaning.specs.Denotation.{axiom_predicates, axiom_types}
 use Rattle.rdf_mapping.specs.Drawing.{fit, is_pair, kid_of, tags_of}
 use Rattle.rdf_mapping.specs.Forms.{Form, list_form}
+use Rattle.rdf_meaning.specs.Nodes.{words_of}
 use Rattle.rdf_mapping.specs.Frames.{is_node_word}
 use Rattle.rdf_mapping.specs.LinkedLaws.{two_parts}
 use Rattle.rdf_mapping.proofs.RowDrawingLaws.{tag_seen}
@@ -36,7 +37,7 @@ use Rattle.rdf_axioms.proofs.PlacedLaws.{GivesEach, keys_stand, kids_stand}
 -- The tests, which compute.
 
 all_triples : list_all (λ r. is_at_node r.site || is_triple_row r.site r.parts) axiom_rows ≡ true
-unfolding axiom_rows axiom_types axiom_predicates is_node_word word_number admits number_of
+unfolding axiom_rows axiom_types axiom_predicates is_node_word word_number admits number_of words_of
 all_triples = refl
 
 all_ends : list_all (λ r. is_at_node r.site || (is_tag tag.HasKey r.tag || are_ends r.parts)) axiom_rows ≡ true
@@ -48,7 +49,7 @@ is_node_link (LinkedBy w) = is_node_word w
 is_node_link _ = false
 
 only_inverses : list_all (λ r. not (is_node_link r.site) || is_tag tag.InverseObjectProperties r.tag) axiom_rows ≡ true
-unfolding axiom_rows is_node_word word_number number_of
+unfolding axiom_rows is_node_word word_number number_of words_of
 only_inverses = refl
 
 -- a row of a node, or of triples

@@ -22,7 +22,7 @@ use Rattle.rdf_meaning.specs.declared.word.Word.{Word}
 use Rattle.rdf_meaning.specs.declared.word.Word.TheVariants as word
 use Rattle.rdf_meaning.specs.Denotation.{Denotes, Lists, by_list, cell, no_cell}
 use Rattle.rdf_meaning.proofs.NodeLaws.{own_term}
-use Rattle.rdf_meaning.specs.Nodes.{carries, chosen, is_iri, is_same, is_word, nil_iri, role_of, type_iri}
+use Rattle.rdf_meaning.specs.Nodes.{carries, chosen, is_iri, is_same, is_word, nil_iri, role_of, type_iri, words_of}
 use Rattle.rdf_meaning.specs.Rows.{Row}
 use Rattle.rdf_meaning.specs.Words.{is_type, word_iri, word_number}
 use Rattle.rdf_mapping.specs.Forms.{twice, no_arcs, arc, blank, first_iri, link, list_form, nodes, rest_iri, term_of, triples}
@@ -84,13 +84,13 @@ module _ (g : List Triple) (k : List Entity) (s : Sort) (label : List ℕ) (firs
   cell_role = role_is g k label (cell_triples (Blank label) first rest) (cell_row s) apart is spelled
 
   pub cell_first : chosen g (Blank label) word.First ≡ first ∷ []
-  unfolding word_number is_node_word
+  unfolding word_number is_node_word words_of
   cell_first =
       select_one g k label (cell_triples (Blank label) first rest) (cell_row s) apart is spelled (At word.First) (link (Blank label) first_iri first)
       (carries_first (Blank label) first) (in_head (link (Blank label) first_iri first) (link (Blank label) rest_iri rest ∷ [])) refl
 
   pub cell_rest : chosen g (Blank label) word.Rest ≡ rest ∷ []
-  unfolding word_number is_node_word
+  unfolding word_number is_node_word words_of
   cell_rest =
       select_one g k label (cell_triples (Blank label) first rest) (cell_row s) apart is spelled (At word.Rest) (link (Blank label) rest_iri rest)
       (carries_rest (Blank label) rest)

@@ -18,7 +18,7 @@ use Rattle.rdf_meaning.specs.Denotation.{axiom_predicates, axiom_types}
 use Rattle.rdf_meaning.specs.Kinds.{has_kind}
 use Rattle.rdf_meaning.proofs.ListLaws.{passes, some_passes}
 use Rattle.rdf_meaning.proofs.NodeLaws.{one_word, own_term, typed_object}
-use Rattle.rdf_meaning.specs.Nodes.{carries, carries_some, is_facet, is_iri, is_same, is_word, role_of, type_iri}
+use Rattle.rdf_meaning.specs.Nodes.{carries, carries_some, is_facet, is_iri, is_same, is_word, role_of, type_iri, words_of}
 use Rattle.rdf_meaning.specs.Statements.{header_words, is_axiom_predicate}
 use Rattle.rdf_meaning.proofs.WordLaws.{same_iri, same_word}
 use Rattle.rdf_meaning.specs.Words.{is_type, word_iri, word_number}
@@ -76,7 +76,7 @@ unfolding carries is_type word_number
 inverse_object t h = (and_parts (bytes_eq t.predicate (word_iri word.InverseOf)) (is_iri t.object) h).1
 
 only_inverse : list_all (λ w. not (is_node_word w) || is_word w word.InverseOf) axiom_predicates ≡ true
-unfolding axiom_predicates is_node_word word_number
+unfolding axiom_predicates is_node_word word_number words_of
 only_inverse = refl
 
 one_inverse : (w : Word) → Contains axiom_predicates w → is_node_word w ≡ true → w ≡ word.InverseOf

@@ -1,12 +1,12 @@
 -- What a graph keeps of what was drawn.
-use Rattle.std.specs.Prelude.{◌≡◌, ◌⊎◌, ◌≤◌, ◌<◌, ◌+◌, ℕ, suc, Bool, true, List, [], ◌∷◌, Contains}
+use Rattle.std.specs.Prelude.{◌≡◌, ◌⊎◌, ◌≤◌, ◌<◌, ◌+◌, ℕ, suc, Bool, true, ◌||◌, List, [], ◌∷◌, Contains}
 use Rattle.std.specs.List.{list_any}
 use Rattle.rdf_graph.specs.declared.term.Term.{Term}
 use Rattle.rdf_graph.specs.declared.term.Term.TheVariants.{Iri}
 use Rattle.rdf_graph.specs.declared.triple.Triple.{Triple}
 use Rattle.rdf_meaning.specs.declared.word.Word.{Word}
 use Rattle.rdf_meaning.specs.declared.word.Word.TheVariants as word
-use Rattle.rdf_meaning.specs.Nodes.{carries, is_facet, is_word, nil_iri}
+use Rattle.rdf_meaning.specs.Nodes.{carries, is_facet, is_word, marked_roles, nil_iri, words_of}
 use Rattle.rdf_mapping.specs.Forms.{Form, plain, made, twice, Arcs, no_arcs, arc, blank, first_iri, link, nodes, rest_iri, term_of, triples}
 
 -- the blank node of a number from one up to another
@@ -38,16 +38,7 @@ own_triples name x (arc p f more) n = link x p (term_of name f n) ∷ own_triple
 
 -- the words by which a node is what it is
 unfoldable pub is_node_word : Word → Bool
-is_node_word w =
-    list_any (is_word w)
-    (word.Class ∷ word.Datatype ∷ word.Restriction ∷ word.AllDisjointClasses ∷ word.AllDisjointProperties ∷ word.AllDifferent ∷
-    word.NegativePropertyAssertion ∷ word.Axiom ∷ word.Annotation ∷ word.Ontology ∷ word.InverseOf ∷ word.IntersectionOf ∷
-    word.UnionOf ∷ word.ComplementOf ∷ word.OneOf ∷ word.OnProperty ∷ word.OnProperties ∷ word.SomeValuesFrom ∷
-    word.AllValuesFrom ∷ word.HasValue ∷ word.HasSelf ∷ word.MinCardinality ∷ word.MaxCardinality ∷ word.Cardinality ∷
-    word.MinQualifiedCardinality ∷ word.MaxQualifiedCardinality ∷ word.QualifiedCardinality ∷ word.OnClass ∷ word.OnDataRange ∷
-    word.DatatypeComplementOf ∷ word.OnDatatype ∷ word.WithRestrictions ∷ word.First ∷ word.Rest ∷ word.Members ∷
-    word.DistinctMembers ∷ word.SourceIndividual ∷ word.AssertionProperty ∷ word.TargetIndividual ∷ word.TargetValue ∷
-    word.AnnotatedSource ∷ word.AnnotatedProperty ∷ word.AnnotatedTarget ∷ [])
+is_node_word w = is_word w word.Ontology || list_any (λ r. list_any (is_word w) (words_of r)) marked_roles
 
 -- what stands behind the element in a list in which it stands twice
 abbrev pub twice_behind : (ℕ → List ℕ) → Form → ℕ → List Triple

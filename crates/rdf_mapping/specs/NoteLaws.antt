@@ -116,11 +116,11 @@ one_type w x t (inl e) = subst (λ (v : Word). type_count v x t ≡ 1) (sym e) (
 one_type w x t (inr e) = subst (λ (v : Word). type_count v x t ≡ 1) (sym e) (annotation_count x t)
 
 axiom_is_word : is_node_word word.Axiom ≡ true
-unfolding is_node_word word_number
+unfolding is_node_word word_number words_of
 axiom_is_word = refl
 
 annotation_is_word : is_node_word word.Annotation ≡ true
-unfolding is_node_word word_number
+unfolding is_node_word word_number words_of
 annotation_is_word = refl
 
 all_node_words : list_all is_node_word (words_of role.Note) ≡ true
@@ -128,15 +128,15 @@ unfolding words_of is_node_word word_number
 all_node_words = refl
 
 source_is_word : is_node_word word.AnnotatedSource ≡ true
-unfolding is_node_word word_number
+unfolding is_node_word word_number words_of
 source_is_word = refl
 
 property_is_word : is_node_word word.AnnotatedProperty ≡ true
-unfolding is_node_word word_number
+unfolding is_node_word word_number words_of
 property_is_word = refl
 
 target_is_word : is_node_word word.AnnotatedTarget ≡ true
-unfolding is_node_word word_number
+unfolding is_node_word word_number words_of
 target_is_word = refl
 
 structural_is : (g : List Triple) (t : Triple) → role_of g t.subject ≡ role.Note → is_structural g t ≡ carries_some (words_of role.Note) t

@@ -16,7 +16,7 @@ use Rattle.rdf_meaning.specs.Denotation.{facets_of}
 use Rattle.owl_list.proofs.FilterLaws.{from_filter, in_filter}
 use Rattle.rdf_meaning.proofs.ListLaws.{passes, some_passes}
 use Rattle.rdf_meaning.proofs.NodeLaws.{from_subject, in_subject}
-use Rattle.rdf_meaning.specs.Nodes.{carries, chosen, first_role, is_facet, is_same, marked_roles, marks_role, of_subject, role_of, roles_of}
+use Rattle.rdf_meaning.specs.Nodes.{carries, chosen, first_role, is_facet, is_same, marked_roles, marks_role, of_subject, role_of, roles_of, words_of}
 use Rattle.rdf_meaning.specs.Words.{word_number}
 use Rattle.rdf_mapping.specs.Frames.{IsOfNode, IsOwn, by_facet, by_word, is_node_word}
 
@@ -80,7 +80,7 @@ some_word words t all h =
     let p = some_passes (λ w. carries w t) words h in by_word p.element (passes is_node_word words p.element all p.inside) p.passes
 
 pub marks_of_node : (r : Role) (t : Triple) → marks_role r t ≡ true → IsOfNode t
-unfolding marks_role is_node_word word_number
+unfolding marks_role is_node_word word_number words_of
 marks_of_node role.List t h = some_word (word.First ∷ word.Rest ∷ []) t refl h
 marks_of_node role.Property t h = by_word word.InverseOf refl h
 marks_of_node role.Class t h = some_word (word.Class ∷ word.Restriction ∷ []) t refl h

@@ -1,6 +1,6 @@
 //! Terms that the mapping names.
 
-ghost use Rattle.std.specs.Prelude.{◌≡◌, ◌≢◌, IfOk, codes};
+ghost use Rattle.std.specs.Prelude.{◌≡◌, ◌≢◌, IfOk};
 ghost use Rattle.std.specs.Str.{chars};
 ghost use Rattle.rdf_graph.specs.declared.term.Term.TheVariants as held;
 ghost use Rattle.rdf_terms.specs.Literals.{lang_string, of_datatype, plain_literal};
@@ -13,21 +13,21 @@ ghost use Rattle.rdf_mapping.specs.Drawing.{arc_iri, number_literal};
 use owl_characters::NoMemory;
 use rdf_graph::Term;
 use rdf_meaning::Word;
-use rdf_terms::{Iri, Literal, LiteralFault};
+use rdf_terms::{Iri, Literal, LiteralFault, rdf, xsd};
 use std::alloc::Global;
 
 /// The IRI of a word.
 pub fn word_iri(alloc: Global, word: Word) -> Result<Iri, NoMemory>
     ensures { IfOk result (λ iri. iri ≡ word_iri word) }
 {
-    Iri::known(alloc, word.iri())
+    Iri::of_ascii(alloc, word.iri())
 }
 
 /// rdf:type
 pub fn type_iri(alloc: Global) -> Result<Iri, NoMemory>
     ensures { IfOk result (λ iri. iri ≡ type_iri) }
 {
-    Iri::known(alloc, "http://www.w3.org/1999/02/22-rdf-syntax-ns#type")
+    Iri::of_ascii(alloc, rdf!("type"))
 }
 
 /// The predicate of a word's triples: rdf:type for a class.
@@ -46,29 +46,15 @@ pub fn arc_iri(alloc: Global, word: Word) -> Result<Iri, NoMemory>
 pub fn nil(alloc: Global) -> Result<Term, NoMemory>
     ensures { IfOk result (λ term. term ≡ held.Iri nil_iri) }
 {
-    let iri = Iri::known(alloc, "http://www.w3.org/1999/02/22-rdf-syntax-ns#nil")?;
+    let iri = Iri::of_ascii(alloc, rdf!("nil"))?;
     Ok(Term::Iri(iri))
-}
-
-/// The datatype of truth values.
-fn boolean(alloc: Global) -> Result<Iri, NoMemory>
-    ensures { IfOk result (λ iri. iri ≡ xsd (codes "boolean")) }
-{
-    Iri::known(alloc, "http://www.w3.org/2001/XMLSchema#boolean")
-}
-
-/// The datatype of cardinalities.
-fn non_negative_integer(alloc: Global) -> Result<Iri, NoMemory>
-    ensures { IfOk result (λ iri. iri ≡ xsd (codes "nonNegativeInteger")) }
-{
-    Iri::known(alloc, "http://www.w3.org/2001/XMLSchema#nonNegativeInteger")
 }
 
 /// The literal "true".
 pub fn true_literal(alloc: Global) -> Result<Literal, NoMemory>
     ensures { IfOk result (λ literal. literal ≡ true_literal) }
 {
-    let datatype = boolean(alloc)?;
+    let datatype = Iri::of_ascii(alloc, xsd!("boolean"))?;
     typed(alloc, "true", datatype)
 }
 
@@ -76,7 +62,7 @@ pub fn true_literal(alloc: Global) -> Result<Literal, NoMemory>
 pub fn number_literal(alloc: Global, number: u64) -> Result<Literal, NoMemory>
     ensures { IfOk result (λ literal. literal ≡ number_literal number) }
 {
-    let datatype = non_negative_integer(alloc)?;
+    let datatype = Iri::of_ascii(alloc, xsd!("nonNegativeInteger"))?;
     let digits = format!(in alloc; "{number}")?;
     typed(alloc, &digits, datatype)
 }

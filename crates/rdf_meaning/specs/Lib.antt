@@ -1,4 +1,5 @@
 pub mod Words
+pub mod WordIris
 pub mod Rows
 pub mod Nodes
 pub mod Kinds

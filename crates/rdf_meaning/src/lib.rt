@@ -6,6 +6,7 @@ mod role;
 mod row;
 mod rows;
 mod word;
+mod words;
 
 pub use laws::{
     annotations_are_of_triples, axioms_are_of_triples_and_nodes, denoted_nodes_are_grounded,
@@ -17,3 +18,4 @@ pub use role::Role;
 pub use row::{Part, Place, Row, Site, Want};
 pub use rows::{axiom_rows, node_rows};
 pub use word::Word;
+pub use words::{axiom_predicates, axiom_types, class_word, predicate_word, words_of};

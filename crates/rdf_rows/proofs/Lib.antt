@@ -7,5 +7,4 @@ pub mod Marks
 pub mod NodeTripleLaws
 pub mod Only
 pub mod Siting
-pub mod Tables
 pub mod Taken

@@ -9,7 +9,7 @@ use Rattle.rdf_meaning.specs.Nodes.{carries}
 use Rattle.rdf_meaning.specs.Words.{is_type, word_iri}
 use Rattle.rdf_rows.specs.Carrying.{may_have}
 use Rattle.rdf_rows.proofs.CarryingLaws.{by_link}
-use Rattle.rdf_rows.specs.WordTables.{IsWordOf}
+use Rattle.rdf_meaning.specs.WordIris.{IsWordOf}
 
 pub by_name : (t : Triple) (o : Option Word) → IsWordOf false t.predicate o → (w : Word) →
     ((is_type w ≡ false) × (carries w t ≡ true)) ↔ ((o ≡ Some w) × (may_have w t.object ≡ true))

@@ -17,7 +17,7 @@ use Rattle.rdf_meaning.specs.Words.{is_type, word_iri, word_number}
 use Rattle.rdf_rows.specs.Carrying.{is_the}
 use Rattle.rdf_rows.proofs.CarryingLaws.{same_class, the_word}
 use Rattle.rdf_rows.specs.Sites.{linked_site, typed_site}
-use Rattle.rdf_rows.specs.WordTables.{IsWordOf}
+use Rattle.rdf_meaning.specs.WordIris.{IsWordOf}
 
 same_kept : {X : Type 0} (f g sort : X → Bool) → ((x : X) → sort x ≡ true → f x ≡ g x) → (xs : List X) → list_all sort xs ≡ true → filter f xs ≡ filter g xs
 same_kept f g sort same [] h = refl

@@ -1,4 +1,3 @@
-pub mod WordTables
 pub mod Carrying
 pub mod Roles
 pub mod Chosen

@@ -8,9 +8,8 @@ ghost use Rattle.rdf_meaning.specs.Words.{is_type, word_iri};
 ghost use Rattle.rdf_rows.specs.Carrying.{may_have};
 
 use crate::iris::{has_iri, is_type_iri};
-use crate::words::{class_word, predicate_word};
 use rdf_graph::{Term, Triple};
-use rdf_meaning::Word;
+use rdf_meaning::{Word, class_word, predicate_word};
 
 /// The word that the triple carries: rdf:type and its class, or its predicate
 /// (Mapping to RDF Graphs, section 3). Takes no memory.

@@ -10,9 +10,8 @@ ghost use Rattle.rdf_meaning.specs.Words.{word_number};
 ghost use Rattle.rdf_rows.specs.Fits.{CountsWords, FitsRow};
 
 use crate::carried::carried_word;
-use crate::roles::words_of;
 use rdf_graph::Triple;
-use rdf_meaning::{Part, Place, Role, Row, Site, Word};
+use rdf_meaning::{Part, Place, Role, Row, Site, Word, words_of};
 
 /// One more than the number of the last word.
 const WORDS: usize = 70;

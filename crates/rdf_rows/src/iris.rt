@@ -11,13 +11,13 @@ ghost use Rattle.rdf_meaning.specs.Words.{word_iri};
 
 use rdf_graph::Term;
 use rdf_meaning::Word;
-use rdf_terms::Iri;
+use rdf_terms::{Iri, XSD, rdf};
 
 /// Whether the IRI is rdf:type.
 pub fn is_type_iri(iri: &Iri) -> bool
     ensures { result ≡ bytes_eq iri.now type_iri }
 {
-    is_spelled(iri, "http://www.w3.org/1999/02/22-rdf-syntax-ns#type")
+    is_spelled(iri, rdf!("type"))
 }
 
 /// Whether the IRI is the word's.
@@ -41,7 +41,7 @@ pub fn is_nil(term: &Term) -> bool
 pub fn is_nil_iri(iri: &Iri) -> bool
     ensures { IsTrue result ↔ (iri.now ≡ nil_iri) }
 {
-    iri.is("http://www.w3.org/1999/02/22-rdf-syntax-ns#nil")
+    iri.is(rdf!("nil"))
 }
 
 /// Whether the IRI is that of a facet: one of XML Schema, or rdf:langRange
@@ -57,13 +57,13 @@ pub fn is_facet(iri: &Iri) -> bool
 fn is_of_xml_schema(iri: &Iri) -> bool
     ensures { result ≡ starts_with nat_eq iri.now (xsd []) }
 {
-    iri.text().starts_with("http://www.w3.org/2001/XMLSchema#")
+    iri.text().starts_with(XSD)
 }
 
 fn is_lang_range(iri: &Iri) -> bool
     ensures { result ≡ bytes_eq iri.now (rdf (codes "langRange")) }
 {
-    is_spelled(iri, "http://www.w3.org/1999/02/22-rdf-syntax-ns#langRange")
+    is_spelled(iri, rdf!("langRange"))
 }
 
 /// Whether the IRI has the characters of a text in ASCII.

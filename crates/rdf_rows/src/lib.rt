@@ -10,7 +10,6 @@ mod laws;
 mod literals;
 mod roles;
 mod site;
-mod words;
 
 pub use carried::{carried_word, carries};
 pub use chosen::{cell, is_reification, next_object, only_facet, only_object};
@@ -20,4 +19,3 @@ pub use laws::{nodes_are_told_by_their_triples, only_ones_are_told};
 pub use literals::{Cardinality, cardinality_of, is_digits, is_true};
 pub use roles::{Marked, is_own, marked_role};
 pub use site::site_of;
-pub use words::{class_word, predicate_word};

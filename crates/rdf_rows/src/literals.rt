@@ -13,7 +13,7 @@ ghost use Rattle.rdf_rows.specs.Cardinalities.{cardinality, cardinality_of};
 
 use crate::iris::is_spelled;
 use rdf_graph::Term;
-use rdf_terms::{Iri, Literal};
+use rdf_terms::{Iri, Literal, xsd};
 
 /// A number of things, as restrictions name it.
 #[derive(Clone, Copy, Debug, PartialEq, Eq)]
@@ -49,10 +49,7 @@ fn cardinality_of_literal(literal: &Literal) -> Option<Cardinality>
 fn is_non_negative_integer(datatype: &Iri) -> bool
     ensures { result ≡ bytes_eq datatype.now (xsd (codes "nonNegativeInteger")) }
 {
-    is_spelled(
-        datatype,
-        "http://www.w3.org/2001/XMLSchema#nonNegativeInteger",
-    )
+    is_spelled(datatype, xsd!("nonNegativeInteger"))
 }
 
 /// The number that the digits write.
@@ -112,5 +109,5 @@ fn is_word_true(literal: &Literal) -> bool
 fn is_boolean(datatype: &Iri) -> bool
     ensures { result ≡ bytes_eq datatype.now (xsd (codes "boolean")) }
 {
-    is_spelled(datatype, "http://www.w3.org/2001/XMLSchema#boolean")
+    is_spelled(datatype, xsd!("boolean"))
 }

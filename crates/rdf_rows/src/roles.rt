@@ -8,68 +8,8 @@ ghost use Rattle.rdf_rows.specs.Roles.{role_marked, role_rank, roles_in, told_ro
 use crate::carried::carried_word;
 use crate::iris::is_facet;
 use rdf_graph::Triple;
-use rdf_meaning::{Role, Word};
+use rdf_meaning::{Role, Word, words_of};
 use rdf_terms::Iri;
-
-// The words of each role's own triples.
-
-const LIST_WORDS: [Word; 2] = [Word::First, Word::Rest];
-
-const PROPERTY_WORDS: [Word; 1] = [Word::InverseOf];
-
-const CLASS_WORDS: [Word; 20] = [
-    Word::Class,
-    Word::Restriction,
-    Word::IntersectionOf,
-    Word::UnionOf,
-    Word::ComplementOf,
-    Word::OneOf,
-    Word::OnProperty,
-    Word::OnProperties,
-    Word::SomeValuesFrom,
-    Word::AllValuesFrom,
-    Word::HasValue,
-    Word::HasSelf,
-    Word::MinCardinality,
-    Word::MaxCardinality,
-    Word::Cardinality,
-    Word::MinQualifiedCardinality,
-    Word::MaxQualifiedCardinality,
-    Word::QualifiedCardinality,
-    Word::OnClass,
-    Word::OnDataRange,
-];
-
-const RANGE_WORDS: [Word; 7] = [
-    Word::Datatype,
-    Word::IntersectionOf,
-    Word::UnionOf,
-    Word::DatatypeComplementOf,
-    Word::OneOf,
-    Word::OnDatatype,
-    Word::WithRestrictions,
-];
-
-const MAIN_WORDS: [Word; 10] = [
-    Word::AllDisjointClasses,
-    Word::AllDisjointProperties,
-    Word::AllDifferent,
-    Word::NegativePropertyAssertion,
-    Word::Members,
-    Word::DistinctMembers,
-    Word::SourceIndividual,
-    Word::AssertionProperty,
-    Word::TargetIndividual,
-    Word::TargetValue,
-];
-
-const NOTE_WORDS: [Word; 5] = [
-    Word::Axiom,
-    Word::Annotation,
-    Word::AnnotatedSource,
-    Word::AnnotatedProperty,
-    Word::AnnotatedTarget,
-];
 
 /// How many roles come before that of an individual.
 const ROLES: u8 = 8;
@@ -185,20 +125,4 @@ fn is_own_word(role: Role, word: Word) -> bool
     ensures { result ≡ list_any (λ own. is_word own word) (words_of role) }
 {
     words_of(role).contains(&word)
-}
-
-/// The words of the role's own triples.
-#[tactic(auto, unfolding(rdf_meaning::specs::Nodes::words_of))]
-pub(crate) fn words_of(role: Role) -> &'static [Word]
-    ensures { result.now ≡ words_of role }
-{
-    match role {
-        Role::List => &LIST_WORDS,
-        Role::Property => &PROPERTY_WORDS,
-        Role::Class => &CLASS_WORDS,
-        Role::Range => &RANGE_WORDS,
-        Role::Main => &MAIN_WORDS,
-        Role::Note => &NOTE_WORDS,
-        Role::Facet | Role::Header | Role::Individual => &[],
-    }
 }

@@ -8,44 +8,8 @@ ghost use Rattle.rdf_rows.specs.Sites.{linked_site, typed_site};
 
 use crate::carried::word_of_class;
 use crate::iris::is_type_iri;
-use crate::words::predicate_word;
 use rdf_graph::Triple;
-use rdf_meaning::{Site, Word};
-
-/// Classes that say, as an object of rdf:type, which axiom a triple is.
-const AXIOM_TYPES: [Word; 13] = [
-    Word::Class,
-    Word::Datatype,
-    Word::ObjectProperty,
-    Word::DatatypeProperty,
-    Word::AnnotationProperty,
-    Word::NamedIndividual,
-    Word::FunctionalProperty,
-    Word::InverseFunctionalProperty,
-    Word::ReflexiveProperty,
-    Word::IrreflexiveProperty,
-    Word::SymmetricProperty,
-    Word::AsymmetricProperty,
-    Word::TransitiveProperty,
-];
-
-/// Predicates that say it.
-const AXIOM_PREDICATES: [Word; 14] = [
-    Word::SubClassOf,
-    Word::EquivalentClass,
-    Word::DisjointWith,
-    Word::DisjointUnionOf,
-    Word::HasKey,
-    Word::SubPropertyOf,
-    Word::PropertyChainAxiom,
-    Word::EquivalentProperty,
-    Word::PropertyDisjointWith,
-    Word::InverseOf,
-    Word::Domain,
-    Word::Range,
-    Word::SameAs,
-    Word::DifferentFrom,
-];
+use rdf_meaning::{Site, Word, axiom_predicates, axiom_types, predicate_word};
 
 /// Which rows may say the triple, whatever the kinds of its terms (Mapping to
 /// RDF Graphs, tables 16 and 17). Takes no memory.
@@ -91,16 +55,14 @@ fn linked_site(predicate: Option<Word>) -> Site
     }
 }
 
-#[tactic(auto, unfolding(rdf_meaning::specs::Denotation::axiom_types))]
 fn is_axiom_type(word: Word) -> bool
     ensures { result ≡ list_any (λ v. is_word v word) axiom_types }
 {
-    AXIOM_TYPES.contains(&word)
+    axiom_types().contains(&word)
 }
 
-#[tactic(auto, unfolding(rdf_meaning::specs::Denotation::axiom_predicates))]
 fn is_axiom_predicate(word: Word) -> bool
     ensures { result ≡ list_any (λ v. is_word v word) axiom_predicates }
 {
-    AXIOM_PREDICATES.contains(&word)
+    axiom_predicates().contains(&word)
 }

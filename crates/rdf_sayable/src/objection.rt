@@ -11,10 +11,10 @@ ghost use Rattle.rdf_sayable.specs.Sayable.{atom_objection, entity_objection, fa
 use owl_doc::Why;
 use owl_kind::{Kind, built_in};
 use owl_tree::{Atom, Tag};
-use rdf_terms::{Iri, XSD, reserved};
+use rdf_terms::{Iri, XSD, rdf, reserved};
 
 /// The facet of the ranges of languages (Structural Specification, section 4.3).
-const LANG_RANGE: &str = "http://www.w3.org/1999/02/22-rdf-syntax-ns#langRange";
+const LANG_RANGE: &str = rdf!("langRange");
 
 /// What is to be said against a leaf.
 pub fn atom_objection<'a>(tag: Tag, atom: &'a Atom) -> Option<Why<'a>>

@@ -1,9 +1,9 @@
 -- What the tables of the code say. Their texts are bytes.
-use Rattle.std.specs.Prelude.{◌≡◌, ◌&&◌, ℕ, Bool, List, Contains, map, nat_eq}
+use Rattle.std.specs.Prelude.{◌≡◌, ◌&&◌, ℕ, Bool, List, Contains, codes, map, nat_eq}
 use Rattle.std.specs.List.{list_all, list_any, starts_with}
 use Rattle.std.specs.Str.{bytes_eq}
 use denote.Ref.{Bor}
-use Rattle.owl_characters.specs.Iri.{is_ascii}
+use Rattle.owl_characters.specs.Iri.{is_ascii, is_iri_character}
 use Rattle.rdf_terms.specs.declared.datatypes.DatatypeRow.{DatatypeRow}
 use Rattle.rdf_terms.specs.declared.lexical.IntegerRow.{IntegerRow}
 use Rattle.rdf_terms.specs.Datatypes.{IntegerRow as Range, IsIntegerForm}
@@ -39,3 +39,7 @@ range row = record { datatype = row.datatype.now; least = row.least; greatest = 
 -- the form is one of each row with the datatype
 pub record FitsRows (rows : List IntegerRow) (datatype form : List ℕ) : Type 0 where
   pub fits : (row : IntegerRow) → Contains rows row → row.datatype.now ≡ datatype → IsIntegerForm (range row) form
+
+-- an IRI of HTTP in ASCII
+abbrev pub is_ascii_iri : List ℕ → Bool
+is_ascii_iri text = starts_with nat_eq text (codes "http:") && (list_all is_ascii text && list_all is_iri_character text)

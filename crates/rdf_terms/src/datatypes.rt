@@ -6,7 +6,8 @@ ghost use Rattle.rdf_terms.specs.Tables.{begins_with_name, has_datatype, has_fac
 ghost use Rattle.rdf_terms.specs.Vocabulary.{is_reserved};
 
 use crate::iri::Iri;
-use crate::vocabulary::{NAMESPACES, owl, rdf, xsd};
+use crate::vocabulary::NAMESPACES;
+use crate::{owl, rdf, xsd};
 
 /// Datatypes, and the facets that each of them has.
 struct DatatypeRow {

@@ -8,6 +8,7 @@ ghost use Rattle.owl_characters.specs.Order.{text_eq};
 ghost use Rattle.owl_characters.specs.Names.{begins_with};
 ghost use Rattle.std.specs.Cmp.Rules.{comparing};
 ghost use Rattle.std.proofs.Common.{rules};
+ghost use Rattle.rdf_terms.specs.Tables.{is_ascii_iri};
 ghost use Rattle.rdf_terms.specs.declared.fault.IriFault.{IriFault};
 
 use crate::fault::IriFault;
@@ -58,6 +59,14 @@ impl Iri {
     {
         let text = Text::of(alloc, text)?;
         Ok(Iri { text })
+    }
+
+    /// The IRI with these characters of ASCII, as of a name in one of the namespaces.
+    pub fn of_ascii(alloc: Global, text: &str) -> Result<Iri, NoMemory>
+        requires { is_ascii_iri text.now ≡ true }
+        ensures { IfOk result (λ iri. iri ≡ text.now) }
+    {
+        Iri::known(alloc, text)
     }
 
     /// The same characters. Takes no memory.

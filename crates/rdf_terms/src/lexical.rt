@@ -13,7 +13,8 @@ ghost use Rattle.rdf_terms.specs.Vocabulary.{xsd};
 use crate::datatypes::is_one_of;
 use crate::iri::Iri;
 use crate::literal::Literal;
-use crate::vocabulary::{BOOLEAN, DECIMAL, xsd};
+use crate::vocabulary::{BOOLEAN, DECIMAL};
+use crate::xsd;
 
 /// An integer datatype, and the least and the greatest number, where there are
 /// any.

@@ -289,7 +289,7 @@ fn tagged(alloc: Global, lexical: &str, tag: &str) -> Result<Literal, LiteralFau
 fn plain_literal(alloc: Global) -> Result<Iri, NoMemory>
     ensures { IfOk result (λ iri. iri ≡ plain_literal) }
 {
-    Iri::known(alloc, PLAIN_LITERAL)
+    Iri::of_ascii(alloc, PLAIN_LITERAL)
 }
 
 /// A literal of xsd:string.
@@ -304,7 +304,7 @@ fn string_of(alloc: Global, lexical: &str) -> Result<Literal, LiteralFault>
 fn string(alloc: Global) -> Result<Iri, NoMemory>
     ensures { IfOk result (λ iri. iri ≡ string) }
 {
-    Iri::known(alloc, STRING)
+    Iri::of_ascii(alloc, STRING)
 }
 
 /// A literal of a datatype that has no tags.

@@ -2,6 +2,7 @@
 //! Specification, section 2.4).
 
 /// The IRI of a name of RDF.
+#[macro_export]
 macro_rules! rdf {
     ($name:literal) => {
         concat!("http://www.w3.org/1999/02/22-rdf-syntax-ns#", $name)
@@ -9,6 +10,7 @@ macro_rules! rdf {
 }
 
 /// The IRI of a name of RDF Schema.
+#[macro_export]
 macro_rules! rdfs {
     ($name:literal) => {
         concat!("http://www.w3.org/2000/01/rdf-schema#", $name)
@@ -16,6 +18,7 @@ macro_rules! rdfs {
 }
 
 /// The IRI of a name of XML Schema.
+#[macro_export]
 macro_rules! xsd {
     ($name:literal) => {
         concat!("http://www.w3.org/2001/XMLSchema#", $name)
@@ -23,15 +26,12 @@ macro_rules! xsd {
 }
 
 /// The IRI of a name of OWL.
+#[macro_export]
 macro_rules! owl {
     ($name:literal) => {
         concat!("http://www.w3.org/2002/07/owl#", $name)
     };
 }
-
-pub(crate) use owl;
-pub(crate) use rdf;
-pub(crate) use xsd;
 
 /// The namespace of RDF.
 pub const RDF: &str = rdf!("");

@@ -6,12 +6,12 @@ ghost use Rattle.ttl_grammar.specs.States.{bracket_opened, cell_added, closed, c
 ghost use Rattle.ttl_read.specs.Computing.{Turns, TurnsTo};
 ghost use Rattle.ttl_read.specs.Keeping.{AreKept, AreSame, IsNear, IsNearNode};
 
-use crate::vocabulary::{first, nil, rest};
 use indexmap::IndexSet;
 use owl_atom::Iri;
 use owl_characters::NoMemory;
 use owl_reader::TokenFault;
 use rdf_graph::MOST_TRIPLES;
+use rdf_terms::rdf;
 use std::alloc::{AllocError, Global};
 use std::marker::Model;
 use std::mem;
@@ -209,7 +209,7 @@ impl Facts {
     {
         let number = self.unlabelled;
         let last = copy_node(self.alloc, &self.nest.subject)?;
-        let rest = rest(self.alloc)?;
+        let rest = Iri::of_ascii(self.alloc, rdf!("rest"))?;
         let cell = Object::Node(Node::Unlabelled(number));
         self.add_triple(last, Some(rest), Some(cell))?;
         let whole = self.nest.whole.take();
@@ -227,7 +227,7 @@ impl Facts {
         ensures { OnOk result (AreSame self.new (element_added self.old)) }
     {
         let cell = copy_node(self.alloc, &self.nest.subject)?;
-        let first = first(self.alloc)?;
+        let first = Iri::of_ascii(self.alloc, rdf!("first"))?;
         let element = self.term.take();
         self.add_triple(cell, Some(first), element)
     }
@@ -237,12 +237,13 @@ impl Facts {
         ensures { OnOk result (AreSame self.new (collection_closed self.old)) }
     {
         let last = copy_node(self.alloc, &self.nest.subject)?;
-        let rest = rest(self.alloc)?;
-        let end = Object::Node(Node::Iri(nil(self.alloc)?));
+        let rest = Iri::of_ascii(self.alloc, rdf!("rest"))?;
+        let nil = Iri::of_ascii(self.alloc, rdf!("nil"))?;
+        let end = Object::Node(Node::Iri(nil));
         self.add_triple(last, Some(rest), Some(end))?;
         let whole = match self.nest.whole.take() {
             Some(first) => first,
-            None => Node::Iri(nil(self.alloc)?),
+            None => Node::Iri(Iri::of_ascii(self.alloc, rdf!("nil"))?),
         };
         self.close(Some(whole));
         Ok(())

@@ -9,7 +9,6 @@ mod reader;
 mod refusals;
 mod syntax;
 mod terms;
-mod vocabulary;
 
 pub use owl_reader::{ReadFault, Reason};
 pub use reader::{Reader, TtlDoc};

@@ -1,9 +1,10 @@
 //! Terms of tokens.
 
-ghost use Rattle.std.specs.Prelude.{◌≡◌, codes, IfSome, Ok};
+ghost use Rattle.std.specs.Prelude.{◌≡◌, codes, IfSome, Ok, true};
 ghost use Rattle.std.specs.Option.{option_map};
 ghost use Rattle.std.specs.Str.{chars};
 ghost use Rattle.rdf_terms.specs.Literals.{of_datatype, string};
+ghost use Rattle.rdf_terms.specs.Tables.{is_ascii_iri};
 ghost use Rattle.rdf_terms.specs.Vocabulary.{rdf};
 ghost use Rattle.ttl_tokens.specs.TokenForms.{IsFormed};
 ghost use Rattle.ttl_grammar.specs.States as stated;
@@ -16,10 +17,10 @@ ghost use Rattle.ttl_read.specs.NameTables.{AreNames};
 
 use crate::names::Names;
 use crate::refusals::{of_label, of_literal};
-use crate::vocabulary::{boolean, decimal, double, integer, type_iri};
 use owl_atom::{Iri, Label, Literal};
 use owl_characters::Text;
 use owl_reader::{Reason, TokenFault};
+use rdf_terms::{rdf, xsd};
 use std::alloc::Global;
 use ttl_grammar::{Node, Object};
 use ttl_tokens::{Symbol, Token};
@@ -48,7 +49,7 @@ pub fn form_in(next: &Option<Token>) -> Option<&Text>
 pub fn type_term(alloc: Global) -> Result<Object, TokenFault>
     ensures { Computes result (Ok (object.Node (node.Iri (rdf (codes "type"))))) }
 {
-    Ok(Object::Node(Node::Iri(type_iri(alloc)?)))
+    Ok(Object::Node(Node::Iri(Iri::of_ascii(alloc, rdf!("type"))?)))
 }
 
 /// The blank node of a label.
@@ -113,14 +114,23 @@ fn typed(alloc: Global, form: &str, datatype: Iri) -> Result<Object, TokenFault>
     }
 }
 
+/// The literal of a form with a datatype of XML Schema.
+fn of_xsd(alloc: Global, form: &str, datatype: &str) -> Result<Object, TokenFault>
+    requires { is_ascii_iri datatype.now ≡ true }
+    ensures { Computes result (literal_term (typed_literal (chars form.now) datatype.now)) }
+{
+    let datatype = Iri::of_ascii(alloc, datatype)?;
+    typed(alloc, form, datatype)
+}
+
 /// The literal that a number or a word is short for.
 pub fn shorthand_term(alloc: Global, next: &Option<Token>) -> Result<Object, TokenFault>
     ensures { Computes result (shorthand_term next.now) }
 {
     match next {
-        Some(Token::Integer(form)) => typed(alloc, form.as_str(), integer(alloc)?),
-        Some(Token::Decimal(form)) => typed(alloc, form.as_str(), decimal(alloc)?),
-        Some(Token::Double(form)) => typed(alloc, form.as_str(), double(alloc)?),
+        Some(Token::Integer(form)) => of_xsd(alloc, form.as_str(), xsd!("integer")),
+        Some(Token::Decimal(form)) => of_xsd(alloc, form.as_str(), xsd!("decimal")),
+        Some(Token::Double(form)) => of_xsd(alloc, form.as_str(), xsd!("double")),
         Some(Token::Symbol(Symbol::True)) => true_term(alloc),
         Some(Token::Symbol(Symbol::False)) => false_term(alloc),
         _ => Err(TokenFault::Defect(Reason::NotHere)),
@@ -130,11 +140,11 @@ pub fn shorthand_term(alloc: Global, next: &Option<Token>) -> Result<Object, Tok
 fn true_term(alloc: Global) -> Result<Object, TokenFault>
     ensures { Computes result (of_xsd (codes "true") (codes "boolean")) }
 {
-    typed(alloc, "true", boolean(alloc)?)
+    of_xsd(alloc, "true", xsd!("boolean"))
 }
 
 fn false_term(alloc: Global) -> Result<Object, TokenFault>
     ensures { Computes result (of_xsd (codes "false") (codes "boolean")) }
 {
-    typed(alloc, "false", boolean(alloc)?)
+    of_xsd(alloc, "false", xsd!("boolean"))
 }

@@ -16,7 +16,7 @@ fn iri(rt: &HostRuntime, namespace: &str, name: &str) -> Result<Iri, Fail> {
     Ok(Iri::of(rt.alloc(), &format!(in rt.alloc(); "{namespace}{name}")?)?)
 }
 
-/// Whether a form is one of a datatype of XML Schema.
+/// Whether the form is one of a datatype of XML Schema.
 fn is_form_of(rt: &HostRuntime, name: &str, form: &str) -> Result<bool, Fail> {
     let datatype = iri(rt, XSD, name)?;
     let literal = Literal::of(rt.alloc(), form, Some(datatype), None)?;
@@ -42,32 +42,15 @@ fn has_facet(rt: &HostRuntime, datatype: (&str, &str), facet: (&str, &str)) -> R
 
 #[test]
 fn forms_of_datatypes(rt: HostRuntime) -> Result<(), Fail> {
-    for (name, form, fits) in [
+    for (name, forms, fit) in [
         ("unsignedByte", "255", true),
         ("unsignedByte", "256", false),
-        ("byte", "+007", true),
-        ("byte", "128", false),
-        ("byte", "-128", true),
-        ("byte", "-129", false),
-        ("nonNegativeInteger", "-0", true),
-        ("nonNegativeInteger", "-1", false),
-        ("nonNegativeInteger", "18446744073709551616", true),
-        ("positiveInteger", "0", false),
-        ("negativeInteger", "-1", true),
-        ("negativeInteger", "0", false),
-        ("long", "9223372036854775807", true),
-        ("long", "9223372036854775808", false),
-        ("long", "-9223372036854775808", true),
-        ("unsignedLong", "18446744073709551615", true),
-        ("unsignedLong", "18446744073709551616", false),
-        ("integer", "", false),
-        ("integer", "+", false),
-        ("integer", "1.0", false),
-        ("integer", "++5", false),
-        ("integer", "-340282366920938463463374607431768211456", true),
+        ("byte", "+007 -128", true),
+        ("byte", "128 -129", false),
+        ("nonNegativeInteger", "-0 18446744073709551616", true),
         (
             "nonNegativeInteger",
-            "-340282366920938463463374607431768211456",
+            "-1 -340282366920938463463374607431768211456",
             false,
         ),
         (
@@ -75,22 +58,25 @@ fn forms_of_datatypes(rt: HostRuntime) -> Result<(), Fail> {
             "340282366920938463463374607431768211456",
             false,
         ),
+        ("positiveInteger", "0", false),
+        ("negativeInteger", "-1", true),
+        ("negativeInteger", "0", false),
+        ("long", "9223372036854775807 -9223372036854775808", true),
+        ("long", "9223372036854775808", false),
+        ("unsignedLong", "18446744073709551615", true),
+        ("unsignedLong", "18446744073709551616", false),
+        ("integer", "-340282366920938463463374607431768211456", true),
+        ("integer", " + 1.0 ++5", false),
+        ("boolean", "true 1", true),
         ("boolean", "TRUE", false),
-        ("boolean", "true", true),
-        ("boolean", "1", true),
-        ("decimal", "1.", true),
-        ("decimal", ".5", true),
-        ("decimal", "-1.5", true),
-        ("decimal", "+0", true),
-        ("decimal", ".", false),
-        ("decimal", "", false),
-        ("decimal", "1e5", false),
-        ("decimal", "1.2.3", false),
-        ("string", "", true),
-        ("string", "any\ntext", true),
+        ("decimal", "1. .5 -1.5 +0", true),
+        ("decimal", " . 1e5 1.2.3", false),
+        ("string", " any\ntext", true),
         ("elsewhere", "+", true),
     ] {
-        assert_eq!(rt; is_form_of(&rt, name, form)?, fits, "{name} {form}");
+        for form in forms.split(' ') {
+            assert_eq!(rt; is_form_of(&rt, name, form)?, fit, "{name} {form}");
+        }
     }
     Ok(())
 }

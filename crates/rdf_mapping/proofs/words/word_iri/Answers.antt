@@ -1,9 +1,10 @@
-use Rattle.std.proofs.Common.{◌≡◌, IfOk, subst}
-use Rattle.rdf_mapping.proofs.WordTexts.{word_chars, word_is_iri}
+use Rattle.std.proofs.Common.{◌≡◌, IfOk, ap, ◌∙◌, subst}
+use Rattle.rdf_terms.specs.Tables.{is_ascii_iri}
+use Rattle.rdf_mapping.proofs.WordTexts.{word_is_ascii}
 use Rattle.rdf_mapping.proofs.words.word_iri.Goals as goal
 
-pub known-requires : goal.known-requires
-known-requires c = word_is_iri c.args.word c.iri.result.now c.iri.ensures
+pub of_ascii-requires : goal.of_ascii-requires
+of_ascii-requires c = ap is_ascii_iri c.iri.ensures ∙ word_is_ascii c.args.word
 
 pub returns : goal.returns
-returns c = subst (λ x. IfOk c.known.result (λ iri. iri ≡ x)) (word_chars c.args.word c.iri.result.now c.iri.ensures) c.known.ensures
+returns c = subst (λ x. IfOk c.of_ascii.result (λ iri. iri ≡ x)) c.iri.ensures c.of_ascii.ensures

@@ -1,7 +1,7 @@
 use Rattle.std.proofs.Common.{ap, ◌∙◌}
 use Rattle.std.specs.List.{list_all}
 use Rattle.owl_characters.specs.Iri.{is_ascii}
-use Rattle.rdf_rows.proofs.Tables.{all_ascii}
+use Rattle.rdf_meaning.proofs.WordLaws.{all_ascii}
 use Rattle.rdf_rows.proofs.iris.has_iri.Goals as goal
 
 pub is_spelled-requires : goal.is_spelled-requires

@@ -1,5 +1,4 @@
 use Rattle.std.proofs.Common.{ℕ, List, codes, refl, subst}
-use Rattle.std.specs.Str.{chars}
 use Rattle.owl_characters.proofs.AsciiLaws.{ascii_chars}
 use Rattle.rdf_terms.specs.Vocabulary.{xsd}
 use Rattle.ttl_grammar.specs.States.{literal_term}
@@ -9,5 +8,4 @@ use Rattle.ttl_read.proofs.terms.false_term.Goals as goal
 
 pub returns : goal.returns
 returns c =
-    subst (λ (form : List ℕ). Computes c.typed.result (literal_term (typed_literal form (xsd (codes "boolean"))))) (ascii_chars (codes "false") refl)
-    (subst (λ (d : List ℕ). Computes c.typed.result (literal_term (typed_literal (chars (codes "false")) d))) c.in_ok-boolean.ensures c.typed.ensures)
+    subst (λ (form : List ℕ). Computes c.of_xsd.result (literal_term (typed_literal form (xsd (codes "boolean"))))) (ascii_chars (codes "false") refl) c.of_xsd.ensures

@@ -7,7 +7,7 @@ use Rattle.ttl_read.proofs.facts.Facts.close_collection.Goals as goal
 
 pub returns : goal.returns
 returns c =
-    let nil : c.in_ok-nil.field-0 ≡ nil_iri = search rules in
+    let nil : c.in_ok-nil.nil ≡ nil_iri = search rules in
     let last : c.in_ok-last.last ≡ c.args.self.now.nest.subject = search rules in
     let rest : c.in_ok-rest.rest ≡ rest_iri = search rules in
     let done : c.close.new.self ≡ closed (Some c.match-take.whole) c.add_triple.new.self = search rules in
