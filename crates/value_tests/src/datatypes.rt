@@ -1,6 +1,6 @@
 //! The datatypes that are built in.
 
-use owl_atom::{Iri, Literal, facet_ok, in_map, lexical_ok, reserved};
+use owl_atom::{Iri, Literal, facet_ok, in_map, lexical_ok};
 use std::test::Fail;
 
 const RDF: &str = "http://www.w3.org/1999/02/22-rdf-syntax-ns#";
@@ -26,11 +26,6 @@ fn is_form_of(rt: &HostRuntime, name: &str, form: &str) -> Result<bool, Fail> {
 fn is_in_map(rt: &HostRuntime, namespace: &str, name: &str) -> Result<bool, Fail> {
     let datatype = iri(rt, namespace, name)?;
     Ok(in_map(&datatype))
-}
-
-fn is_reserved(rt: &HostRuntime, namespace: &str, name: &str) -> Result<bool, Fail> {
-    let name = iri(rt, namespace, name)?;
-    Ok(reserved(&name))
 }
 
 /// Whether a datatype has a facet, each by its namespace and name.
@@ -137,26 +132,6 @@ fn facets_of_datatypes(rt: HostRuntime) -> Result<(), Fail> {
             "{} {}",
             datatype.1,
             facet.1
-        );
-    }
-    Ok(())
-}
-
-#[test]
-fn reserved_namespaces(rt: HostRuntime) -> Result<(), Fail> {
-    for (namespace, name, expected) in [
-        (RDF, "type", true),
-        (RDFS, "label", true),
-        (XSD, "string", true),
-        (OWL, "Thing", true),
-        (OWL, "", true),
-        ("http://e/", "a", false),
-        ("http://www.w3.org/2002/07/owl", "", false),
-    ] {
-        assert_eq!(rt;
-            is_reserved(&rt, namespace, name)?,
-            expected,
-            "{namespace}{name}"
         );
     }
     Ok(())

@@ -1,19 +1,7 @@
-//! Tests of characters, tokens, atoms, datatypes, kinds and tags, for what no row
-//! reaches.
+//! Tests of datatypes and of refusals as texts, which no row reaches.
 #![tactic(auto)]
 
 #[cfg(test)]
-mod atoms;
-#[cfg(test)]
 mod datatypes;
 #[cfg(test)]
-mod kinds;
-#[cfg(test)]
-mod lexer;
-mod numbers;
-#[cfg(test)]
-mod port;
-#[cfg(test)]
-mod tags;
-#[cfg(test)]
-mod text;
+mod printed;

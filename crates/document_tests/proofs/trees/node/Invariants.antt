@@ -1,5 +1,0 @@
-use Rattle.owl_arena.specs.Held.{AreHeld}
-use Rattle.document_tests.proofs.trees.node.Given as goal
-
-abbrev pub invariant-loop-kid : goal.invariant-loop-kid
-invariant-loop-kid l = AreHeld l.arena.trees l.held.items
