@@ -15,7 +15,8 @@ field behind a dot lead nowhere; a constructor leads to its type, a name in a bl
 in a block `module` has the line of that block too, and leads to what the line names.
 
 This goes by words and knows no types: where a clause binds a variable with the name of a definition, that definition is
-not led to from there. Names of std lead nowhere. A Rust type that is named is counted, and leads nowhere either.
+not led to from there. Names of std lead nowhere. A Rust type that is named is counted, and leads nowhere either; so are
+the constants of a file of Rust, together.
 """
 
 import difflib
@@ -343,12 +344,15 @@ class Project:
         return numbers
 
     def rust_type(self, module):
-        """The file, the name and the number of lines of the Rust type that a module declares, unless std has it."""
+        """The file, the name and the number of lines of the Rust type that a module declares, or of its constants, unless
+        std has it."""
         crate, _, path = module.partition(".specs.declared.")
         if crate not in self.crates:
             return None
         *folders, name = (it for it in path.split(".") if it not in ("TheVariants", "TheInside"))
         source = f"{crate}/src/{'/'.join(folders)}.rt"
+        if name == "TheConstants":
+            return source, "const", len(re.findall("^pub const ", self.source(source), re.M))
         found = re.search(rf"^( *)pub (?:enum|struct) {name}\b(?:[^;{{]*;|.*?^\1}})", self.source(source), re.S | re.M)
         if not found:
             raise SystemExit(f"{source} has no type {name}")
@@ -398,7 +402,7 @@ def list_steps(project, steps, types):
     for number, step in enumerate(steps, 1):
         so_far += step.lines
         yield f"| {number}. {step.title} | {step.says} | {step.lines:,} | {so_far:,} |"
-    yield f"| Rust types | Those that the definitions speak of. | {of_types:,} | {so_far + of_types:,} |"
+    yield f"| Rust types | Those that the definitions speak of, and constants. | {of_types:,} | {so_far + of_types:,} |"
     for number, step in enumerate(steps, 1):
         yield from ("", f"### {number}. {step.title}", "", "| File | Lines | Definitions |", "|---|---|---|")
         for module in sorted(step.files, key=lambda it: (project.crates.index(it.split(".")[0]), it)):
@@ -411,7 +415,7 @@ def list_steps(project, steps, types):
 def list_sums(project, steps, types):
     for last, words in SUMS:
         yield f"- {sum(it.lines for it in steps[:last]):,} lines {words}"
-    yield f"- {sum(lines for _, _, lines in types):,} more are the Rust types that these speak of."
+    yield f"- {sum(lines for _, _, lines in types):,} more are the Rust types and constants that these speak of."
 
 
 PARTS = {"steps": list_steps, "sums": list_sums}

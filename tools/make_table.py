@@ -9,13 +9,14 @@ is not what would be written.
 
 What it makes is not trusted: the proofs test the table against the grammar. It reads
 the patterns as the definitions write them, and mirrors `rests`, `join` and
-`grow_states` of owl_lexer.
+`grow_states` of owl_lexer, and the words of TurtleGrammar.antt for characters.
 """
 
 import re
 import sys
 
 EMPTY = ("empty",)
+ESCAPES = {"0": "\0", "n": "\n", "r": "\r", "t": "\t"}
 NO_STATE = 255
 ASCII = 128
 LINE_WIDTH = 92
@@ -29,6 +30,7 @@ class Reader:
         self.bodies = {}
         self.numbers = {}
         self.patterns = {}
+        self.sets = []
         for text in texts:
             self.read(text)
 
@@ -76,6 +78,18 @@ class Reader:
     def applied(self, words):
         if words.take("one"):
             return ("one", self.number(words.next()))
+        for word, outside in (("any_of", False), ("none_of", True)):
+            if words.take(word):
+                return self.one_of((outside, ranges_of(quoted(words))))
+        if words.take("one_of"):
+            if not words.take("("):
+                return self.one_of(self.whole(words.next(), self.set))
+            leaf = self.one_of(self.set(words))
+            words.want(")")
+            return leaf
+        for word, make in (("text", only), ("any_case", either_case)):
+            if words.take(word):
+                return in_turn([self.one_of(make(c)) for c in quoted(words)])
         if words.take("many"):
             return ("many", self.atom(words))
         if words.take("maybe"):
@@ -91,6 +105,11 @@ class Reader:
             words.want(")")
             return inner
         return EMPTY if words.take("empty") else self.pattern(words.next())
+
+    def one_of(self, one_set):
+        if one_set not in self.sets:
+            sys.exit(f"make_table: {one_set} is not among the sets")
+        return ("one", self.sets.index(one_set))
 
     # lists, of which an item is read as told, or is the name of a list
 
@@ -112,13 +131,15 @@ class Reader:
     def named(self, words, read):
         if words.take("each_of"):
             return [(c, c) for c in self.characters(words)]
+        if words.take("map"):
+            make = {"only": only, "either_case": either_case}[words.next()]
+            return [make(c) for c in self.characters(words)]
         return self.whole(words.next(), lambda body: self.items(body, read))
 
     def characters(self, words):
         words.want("(")
         if words.take("codes"):
-            text = words.next()[1:-1]
-            found = [ord(c) for c in re.sub(r"\\(.)", r"\1", text)]
+            found = quoted(words)
         else:
             found = self.items(words, lambda it: self.number(it.next()) if it.ahead()[0].isdigit() else None)
         words.want(")")
@@ -136,6 +157,11 @@ class Reader:
 
     def set(self, words):
         """Whether the set is a complement, and the ranges."""
+        for word, outside in (("these", False), ("all_but", True)):
+            if words.take(word):
+                return (outside, ranges_of(quoted(words)))
+        if words.ahead() in self.bodies and words.ahead(1) == "∷":
+            return self.whole(words.next(), self.set)
         if words.ahead() not in ("inside", "outside"):
             return None
         outside = words.next() == "outside"
@@ -147,6 +173,13 @@ class Reader:
         return (outside, ranges)
 
     def terminal(self, words):
+        if words.ahead(2) == "is":
+            words.want("(")
+            kind = self.number(words.next())
+            words.want("is")
+            pattern = self.either(words)
+            words.want(")")
+            return (kind, pattern)
         if not words.take("record"):
             return None
         for word in ("{", "kind", "="):
@@ -163,14 +196,14 @@ class Reader:
         words = self.body(name)
         for word in ("record", "{", "sets", "="):
             words.want(word)
-        sets = self.items(words, self.set)
+        self.sets = self.items(words, self.set)
         for word in (";", "terminals", "="):
             words.want(word)
         terminals = self.items(words, self.terminal)
         words.take(";")
         words.want("}")
         words.end()
-        return sets, terminals
+        return self.sets, terminals
 
 
 class Words:
@@ -202,6 +235,30 @@ class Words:
     def end(self):
         if self.at < len(self.words):
             sys.exit(f"make_table: {self.name}: {self.ahead()} is not understood")
+
+
+def quoted(words):
+    """The characters of a text between quotes."""
+    found = re.findall(r"\\u\{(\w+)\}|\\(.)|(.)", words.next()[1:-1])
+    return [int(point, 16) if point else ord(ESCAPES.get(escaped, escaped) or plain) for point, escaped, plain in found]
+
+
+def ranges_of(chars):
+    if len(chars) > 2 and chars[1] == ord("-"):
+        return [(chars[0], chars[2]), *ranges_of(chars[3:])]
+    return [(chars[0], chars[0]), *ranges_of(chars[1:])] if chars else []
+
+
+def only(c):
+    return (False, [(c, c)])
+
+
+def either_case(c):
+    return (False, [(c + 32, c + 32), (c, c)])
+
+
+def in_turn(patterns):
+    return patterns[0] if len(patterns) == 1 else ("both", patterns[0], in_turn(patterns[1:]))
 
 
 def is_nullable(pattern):

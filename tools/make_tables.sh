@@ -13,11 +13,12 @@ make_table() {
 
 check=${1:-}
 tokens=crates/owl_tokens
-shared=("$tokens/specs/SharedPatterns.antt" "$tokens/src/kinds.rt" crates/owl_characters/specs/Names.antt)
+names=crates/owl_characters/specs/Names.antt
+shared=("$tokens/specs/SharedPatterns.antt" "$tokens/src/kinds.rt" "$names")
 
 make_table functional_grammar owl_tokens functional_table FunctionalOrigin "$tokens/specs/FunctionalGrammar.antt" "${shared[@]}"
 make_table manchester_grammar owl_tokens manchester_table ManchesterOrigin "$tokens/specs/ManchesterGrammar.antt" "${shared[@]}"
-make_table turtle_grammar ttl_tokens table TurtleOrigin crates/ttl_tokens/specs/TurtleGrammar.antt
+make_table turtle_grammar ttl_tokens table TurtleOrigin crates/ttl_tokens/{specs/TurtleGrammar.antt,src/kinds.rt} "$names"
 
 # The grammar, its crate and its name, and the names of the table's files.
 make_grammar() {

@@ -1,5 +1,9 @@
 -- Each string that the grammar has stands for a text: its escapes are all of characters.
-use Rattle.std.proofs.Common.{◌≡◌, inl, inr, ℕ, zero, suc, ◌+◌, ◌-◌, ◌*◌, ◌<◌, ◌≤◌, ◌==◌, nat_lt, nat_le, Bool, true, false, not, ◌&&◌, ◌||◌, if◌then◌else◌, Option, None, Some, List, [], ◌∷◌, ◌++◌, length, take, drop, refl, sym, ap, ◌∙◌, subst, arith, append_assoc, map, unwrap_or, length-append}
+--
+-- Sets go by their places in `turtle_sets`: 4 is the backslash, 5 and 6 are the quotes, 25 to 31
+-- digits, 34 what an ECHAR has behind its backslash, 36 to 39 what strings have beside escapes, and
+-- 47 and 48 the letters of a UCHAR.
+use Rattle.std.proofs.Common.{◌≡◌, inl, inr, ℕ, zero, suc, ◌+◌, ◌-◌, ◌*◌, ◌<◌, ◌≤◌, ◌==◌, nat_lt, nat_le, Bool, true, false, not, ◌&&◌, ◌||◌, if◌then◌else◌, Option, None, Some, List, [], ◌∷◌, ◌++◌, length, take, drop, refl, sym, ap, ap₂, ◌∙◌, subst, arith, append_assoc, map, unwrap_or, length-append}
 use Rattle.std.proofs.lemmas.List.{append-nil}
 use Rattle.std.proofs.Math.Seq.{take-append_seam, drop-append_seam}
 use Rattle.std.proofs.lemmas.Bool.{and_parts, eq-eqb, eqb-true, leb-true}
@@ -18,7 +22,8 @@ use Rattle.ttl_tokens.specs.EscapedText.{IsPiece, Piece, behind_text, piece_char
 use Rattle.ttl_tokens.specs.EscapedText.Piece.{plain, echar, uchar, long_uchar}
 use Rattle.ttl_tokens.proofs.EscapeLaws.{at_piece}
 use Rattle.ttl_tokens.specs.Escapes.{character_at, hex_number, hex_value, in_front, is_character, string_escape as string_escape_of, unescaped}
-use Rattle.ttl_tokens.specs.TurtleGrammar.{turtle_grammar, string_escape, character_digits, long_character_digits, string_literal_quote_kind, string_literal_single_quote_kind, string_literal_long_quote_kind, string_literal_long_single_quote_kind}
+use Rattle.ttl_tokens.specs.TurtleGrammar.{turtle_grammar, string_escape, character_digits, long_character_digits}
+use Rattle.ttl_tokens.specs.declared.kinds.TheConstants.{STRING_LITERAL_QUOTE, STRING_LITERAL_SINGLE_QUOTE, STRING_LITERAL_LONG_QUOTE, STRING_LITERAL_LONG_SINGLE_QUOTE}
 use Rattle.ttl_tokens.specs.TurtleValues.{inside, string_text, IsUndone}
 
 -- the characters are written for a text, whatever stands behind them
@@ -108,19 +113,6 @@ only n c h = either_way (nat_le n c && nat_le c n) false h (λ k. let parts = an
 
 abbrev in_turtle : ℕ → ℕ → Bool
 in_turtle = test_of turtle_grammar.sets
-
-record BeginsOne (test : ℕ → ℕ → Bool) (set : ℕ) (others : Pattern) (cs : List ℕ) : Type 0 where
-  first : ℕ
-  in_set : test set first ≡ true
-  rest : List ℕ
-  matches : Matches test others rest
-  is : cs ≡ first ∷ rest
-
-begins_one : (test : ℕ → ℕ → Bool) (set : ℕ) (others : Pattern) (cs : List ℕ) → Matches test (both (one set) others) cs → BeginsOne test set others cs
-begins_one test set others cs h = record { first = h.2.0; in_set = h.2.1; rest = h.1; matches = h.3; is = h.4 ∙ ap (λ (f : List ℕ). f ++ h.1) h.2.2 }
-
-three_first : (x y z : ℕ) (cs r s t u : List ℕ) → cs ≡ x ∷ r → r ≡ y ∷ s → s ≡ z ∷ t → t ≡ u → cs ≡ x ∷ y ∷ z ∷ u
-three_first x y z cs r s t u e f g h = e ∙ ap (λ (l : List ℕ). x ∷ l) (f ∙ ap (λ (l : List ℕ). y ∷ l) (g ∙ ap (λ (l : List ℕ). z ∷ l) h))
 
 -- how many characters a pattern has
 
@@ -286,36 +278,33 @@ capital_u_is : (c : ℕ) → in_turtle 48 c ≡ true → c ≡ 0x55
 unfolding turtle_grammar
 capital_u_is c h = only 0x55 c h
 
-echar_text : (cs : List ℕ) → BeginsOne in_turtle 4 (one 34) cs → HasText cs
+echar_text : (cs : List ℕ) → Matches in_turtle (both (one 4) (one 34)) cs → HasText cs
 unfolding turtle_grammar
-echar_text cs x =
-    let c = x.matches.0 in
-    let is : cs ≡ 0x5C ∷ c ∷ [] = x.is ∙ ap (λ (r : List ℕ). x.first ∷ r) x.matches.2 ∙ ap (λ (b : ℕ). b ∷ c ∷ []) (backslash_is x.first x.in_set) in
-    let small = differs (in_turtle 34) c 0x75 x.matches.1 refl in
-    let capital = differs (in_turtle 34) c 0x55 x.matches.1 refl in
+echar_text cs h =
+    let c = h.3.0 in
+    let is : cs ≡ 0x5C ∷ c ∷ [] =
+    h.4 ∙ ap₂ (λ (f b : List ℕ). f ++ b) h.2.2 h.3.2 ∙ ap (λ (b : ℕ). b ∷ c ∷ []) (backslash_is h.2.0 h.2.1) in
+    let small = differs (in_turtle 34) c 0x75 h.3.1 refl in
+    let capital = differs (in_turtle 34) c 0x55 h.3.1 refl in
     subst HasText (sym is) (piece_text (echar c) (string_escape_of c) (small, capital) refl)
 
-uchar_text : (cs rest : List ℕ) (b : ℕ) → cs ≡ b ∷ rest → in_turtle 4 b ≡ true → BeginsOne in_turtle 47 character_digits rest → HasText cs
-uchar_text cs rest b e h x =
-    let digits = writes character_digits refl refl x.rest x.matches in
-    let is : cs ≡ 0x5C ∷ 0x75 ∷ x.rest = e ∙ ap (λ (l : List ℕ). b ∷ l) x.is ∙ ap (λ (u : ℕ). b ∷ u ∷ x.rest) (small_u_is x.first x.in_set) ∙ ap (λ (y : ℕ). y ∷ 0x75 ∷ x.rest) (backslash_is b h) in
-    subst HasText (sym is) (piece_text (uchar x.rest) digits.character digits.counted digits.is)
-
-long_uchar_text : (cs rest : List ℕ) (b : ℕ) → cs ≡ b ∷ rest → in_turtle 4 b ≡ true → BeginsOne in_turtle 48 long_character_digits rest → HasText cs
-long_uchar_text cs rest b e h x =
-    let digits = writes long_character_digits refl refl x.rest x.matches in
-    let is : cs ≡ 0x5C ∷ 0x55 ∷ x.rest = e ∙ ap (λ (l : List ℕ). b ∷ l) x.is ∙ ap (λ (u : ℕ). b ∷ u ∷ x.rest) (capital_u_is x.first x.in_set) ∙ ap (λ (y : ℕ). y ∷ 0x55 ∷ x.rest) (backslash_is b h) in
-    subst HasText (sym is) (piece_text (long_uchar x.rest) digits.character digits.counted digits.is)
-
-numeric_text : (cs rest : List ℕ) (b : ℕ) → cs ≡ b ∷ rest → in_turtle 4 b ≡ true → Matches in_turtle (either (both (one 47) character_digits) (both (one 48) long_character_digits)) rest → HasText cs
-numeric_text cs rest b e h (inl k) = uchar_text cs rest b e h (begins_one in_turtle 47 character_digits rest k)
-numeric_text cs rest b e h (inr k) = long_uchar_text cs rest b e h (begins_one in_turtle 48 long_character_digits rest k)
+-- a backslash and the letter of this set
+begins_with : (set letter : ℕ) → ((c : ℕ) → in_turtle set c ≡ true → c ≡ letter) → (cs front digits : List ℕ)
+    → cs ≡ front ++ digits → Matches in_turtle (both (one 4) (one set)) front → cs ≡ 0x5C ∷ letter ∷ digits
+begins_with set letter is_letter cs front digits e h =
+    e ∙ ap (λ (l : List ℕ). l ++ digits) (h.4 ∙ ap₂ (λ (f b : List ℕ). f ++ b) h.2.2 h.3.2)
+    ∙ ap₂ (λ (b l : ℕ). b ∷ l ∷ digits) (backslash_is h.2.0 h.2.1) (is_letter h.3.0 h.3.1)
 
 escape_text : (cs : List ℕ) → Matches in_turtle string_escape cs → HasText cs
-escape_text cs (inl h) = echar_text cs (begins_one in_turtle 4 (one 34) cs h)
-escape_text cs (inr h) =
-    let x = begins_one in_turtle 4 (either (both (one 47) character_digits) (both (one 48) long_character_digits)) cs h in
-    numeric_text cs x.rest x.first x.is x.in_set x.matches
+escape_text cs (inl h) = echar_text cs h
+escape_text cs (inr (inl h)) =
+    let digits = writes character_digits refl refl h.1 h.3 in
+    subst HasText (sym (begins_with 47 0x75 small_u_is cs h.0 h.1 h.4 h.2))
+    (piece_text (uchar h.1) digits.character digits.counted digits.is)
+escape_text cs (inr (inr h)) =
+    let digits = writes long_character_digits refl refl h.1 h.3 in
+    subst HasText (sym (begins_with 48 0x55 capital_u_is cs h.0 h.1 h.4 h.2))
+    (piece_text (long_uchar h.1) digits.character digits.counted digits.is)
 
 -- a character or an escape
 character_text : (set : ℕ) → in_turtle set 0x5C ≡ false → (cs : List ℕ) → Matches in_turtle (either (one set) string_escape) cs → HasText cs
@@ -353,34 +342,20 @@ undone_inside count cs front middle back e h k t =
     let is : inside count cs ≡ middle = ap (λ (l : List ℕ). inside count l) e ∙ inside_quotes count front middle back h k in
     subst (λ (l : List ℕ). unescaped l ≡ Some (string_text l)) (sym is) (undone_whole middle t)
 
-abbrev short_pattern : ℕ → ℕ → Pattern
-short_pattern quote set = both (one quote) (both (many (either (one set) string_escape)) (one quote))
-
-short_string : (quote set : ℕ) → in_turtle set 0x5C ≡ false → (cs : List ℕ) → Matches in_turtle (short_pattern quote set) cs → IsUndone 1 cs
-short_string quote set e cs h =
-    let x = begins_one in_turtle quote (both (many (either (one set) string_escape)) (one quote)) cs h in
-    let m = x.matches in
-    undone_inside 1 cs (x.first ∷ []) m.0 m.1 (x.is ∙ ap (λ (l : List ℕ). x.first ∷ l) m.4) refl (ap (λ (l : List ℕ). length l) m.3.2)
-    (parts_text (Matches in_turtle (either (one set) string_escape)) (character_text set e) m.2.0 m.0 m.2.1)
-
 abbrev long_part : ℕ → ℕ → Pattern
-long_part quote set = both (either (either (one quote) (both (one quote) (one quote))) empty) (either (one set) string_escape)
+long_part quote set =
+    both (either (either (one quote) (both (one quote) (one quote))) empty) (either (one set) string_escape)
 
-abbrev long_pattern : ℕ → ℕ → Pattern
-long_pattern quote set = both (one quote) (both (one quote) (both (one quote) (both (many (long_part quote set)) (both (one quote) (both (one quote) (one quote))))))
+abbrev quoted : Pattern → Pattern → Pattern
+quoted quotes part = both quotes (both (many part) quotes)
 
-long_string : (quote set : ℕ) → in_turtle quote 0x5C ≡ false → in_turtle set 0x5C ≡ false → (cs : List ℕ) → Matches in_turtle (long_pattern quote set) cs → IsUndone 3 cs
-long_string quote set e f cs h =
-    let part = long_part quote set in
-    let last = both (one quote) (both (one quote) (one quote)) in
-    let x = begins_one in_turtle quote (both (one quote) (both (one quote) (both (many part) last))) cs h in
-    let y = begins_one in_turtle quote (both (one quote) (both (many part) last)) x.rest x.matches in
-    let z = begins_one in_turtle quote (both (many part) last) y.rest y.matches in
-    let m = z.matches in
-    let is = three_first x.first y.first z.first cs x.rest y.rest z.rest (m.0 ++ m.1) x.is y.is z.is m.4 in
-    let last_length = sized in_turtle last refl m.1 m.3 in
-    undone_inside 3 cs (x.first ∷ y.first ∷ z.first ∷ []) m.0 m.1 is refl last_length
-    (parts_text (Matches in_turtle part) (long_character_text quote set e f) m.2.0 m.0 m.2.1)
+quoted_string : (quotes part : Pattern) → is_sized quotes ≡ true → ((cs : List ℕ) → Matches in_turtle part cs → HasText cs)
+    → (cs : List ℕ) → Matches in_turtle (quoted quotes part) cs → IsUndone (size_of quotes) cs
+quoted_string quotes part sizes each cs h =
+    let m = h.3 in
+    undone_inside (size_of quotes) cs h.0 m.0 m.1 (h.4 ∙ ap (λ (l : List ℕ). h.0 ++ l) m.4)
+    (sized in_turtle quotes sizes h.0 h.2) (sized in_turtle quotes sizes m.1 m.3)
+    (parts_text (Matches in_turtle part) each m.2.0 m.0 m.2.1)
 
 -- terminals of a kind
 
@@ -402,20 +377,36 @@ only_one : (test : ℕ → ℕ → Bool) (kind : ℕ) (pattern : Pattern) (cs : 
 only_one test kind pattern cs (inl h) = h.1
 only_one test kind pattern cs (inr h) = absurd h
 
-pub quote_is_undone : (cs : List ℕ) → IsLexeme turtle_grammar string_literal_quote_kind cs → IsUndone 1 cs
-unfolding turtle_grammar
-quote_is_undone cs h =
-    short_string 5 36 refl cs (only_one in_turtle 10 (short_pattern 5 36) cs (only_of_kind in_turtle 10 cs turtle_grammar.terminals h))
+-- strings of each kind
 
-pub single_quote_is_undone : (cs : List ℕ) → IsLexeme turtle_grammar string_literal_single_quote_kind cs → IsUndone 1 cs
-unfolding turtle_grammar
-single_quote_is_undone cs h =
-    short_string 6 37 refl cs (only_one in_turtle 11 (short_pattern 6 37) cs (only_of_kind in_turtle 11 cs turtle_grammar.terminals h))
+abbrev three : ℕ → Pattern
+three quote = both (one quote) (both (one quote) (one quote))
 
-pub long_quote_is_undone : (cs : List ℕ) → IsLexeme turtle_grammar string_literal_long_quote_kind cs → IsUndone 3 cs
-unfolding turtle_grammar
-long_quote_is_undone cs h = long_string 5 38 refl refl cs (only_one in_turtle 12 (long_pattern 5 38) cs (only_of_kind in_turtle 12 cs turtle_grammar.terminals h))
+string_of_kind : (kind : ℕ) (quotes part : Pattern)
+    → of_kind kind turtle_grammar.terminals ≡ record { kind = kind; pattern = quoted quotes part } ∷ []
+    → is_sized quotes ≡ true → ((cs : List ℕ) → Matches in_turtle part cs → HasText cs)
+    → (cs : List ℕ) → IsLexeme turtle_grammar kind cs → IsUndone (size_of quotes) cs
+string_of_kind kind quotes part is sizes each cs h =
+    let m = only_of_kind in_turtle kind cs turtle_grammar.terminals h in
+    quoted_string quotes part sizes each cs
+    (only_one in_turtle kind (quoted quotes part) cs (subst (λ (xs : List Terminal). IsLexemeOf in_turtle xs kind cs) is m))
 
-pub long_single_quote_is_undone : (cs : List ℕ) → IsLexeme turtle_grammar string_literal_long_single_quote_kind cs → IsUndone 3 cs
+pub quote_is_undone : (cs : List ℕ) → IsLexeme turtle_grammar STRING_LITERAL_QUOTE cs → IsUndone 1 cs
 unfolding turtle_grammar
-long_single_quote_is_undone cs h = long_string 6 39 refl refl cs (only_one in_turtle 13 (long_pattern 6 39) cs (only_of_kind in_turtle 13 cs turtle_grammar.terminals h))
+quote_is_undone =
+    string_of_kind STRING_LITERAL_QUOTE (one 5) (either (one 36) string_escape) refl refl (character_text 36 refl)
+
+pub single_quote_is_undone : (cs : List ℕ) → IsLexeme turtle_grammar STRING_LITERAL_SINGLE_QUOTE cs → IsUndone 1 cs
+unfolding turtle_grammar
+single_quote_is_undone =
+    string_of_kind STRING_LITERAL_SINGLE_QUOTE (one 6) (either (one 37) string_escape) refl refl (character_text 37 refl)
+
+pub long_quote_is_undone : (cs : List ℕ) → IsLexeme turtle_grammar STRING_LITERAL_LONG_QUOTE cs → IsUndone 3 cs
+unfolding turtle_grammar
+long_quote_is_undone =
+    string_of_kind STRING_LITERAL_LONG_QUOTE (three 5) (long_part 5 38) refl refl (long_character_text 5 38 refl refl)
+
+pub long_single_quote_is_undone : (cs : List ℕ) → IsLexeme turtle_grammar STRING_LITERAL_LONG_SINGLE_QUOTE cs → IsUndone 3 cs
+unfolding turtle_grammar
+long_single_quote_is_undone =
+    string_of_kind STRING_LITERAL_LONG_SINGLE_QUOTE (three 6) (long_part 6 39) refl refl (long_character_text 6 39 refl refl)

@@ -16,7 +16,8 @@ use Rattle.owl_lexer.specs.Patterns.Pattern.{both, many, one}
 use Rattle.owl_lexer.specs.PatternWords.{some}
 use Rattle.owl_lexer.specs.Splitting.{is_line_end, is_space}
 use Rattle.owl_lexer.specs.Tables.{automaton_of}
-use Rattle.ttl_tokens.specs.TurtleGrammar.{comment_kind, turtle_grammar, white_space_kind}
+use Rattle.ttl_tokens.specs.TurtleGrammar.{turtle_grammar}
+use Rattle.ttl_tokens.specs.declared.kinds.TheConstants.{COMMENT, WHITE_SPACE}
 use Rattle.ttl_tokens.specs.TurtleLaws.{turtle_knows}
 use Rattle.ttl_tokens.specs.TurtleSpellings.{Spells, long_quotes}
 use Rattle.ttl_tokens.specs.TurtleTable.{turtle_table}
@@ -42,12 +43,12 @@ comment_text_is =
     (one_is in_turtle 23 (λ c. not (is_line_end c)) (λ c. ap not (each_is (10 ∷ 13 ∷ []) c)))
 
 abbrev pub is_gap : ℕ → Bool
-is_gap kind = (kind == white_space_kind) || (kind == comment_kind)
+is_gap kind = (kind == WHITE_SPACE) || (kind == COMMENT)
 
 gaps_are_none : (kind : ℕ) (cs : List ℕ) → is_gap kind ≡ true → token_of kind cs ≡ None
-gaps_are_none kind cs h = elim (or_cases (kind == white_space_kind) (kind == comment_kind) h) [
-  | inl e ↦ ap (λ (k : ℕ). token_of k cs) (eqb-true kind white_space_kind e)
-  | inr e ↦ ap (λ (k : ℕ). token_of k cs) (eqb-true kind comment_kind e)
+gaps_are_none kind cs h = elim (or_cases (kind == WHITE_SPACE) (kind == COMMENT) h) [
+  | inl e ↦ ap (λ (k : ℕ). token_of k cs) (eqb-true kind WHITE_SPACE e)
+  | inr e ↦ ap (λ (k : ℕ). token_of k cs) (eqb-true kind COMMENT e)
 ]
 
 -- all other lexemes stand for tokens
@@ -96,8 +97,8 @@ unfolding turtle_grammar
 lexemes_stand = record {
   says = says;
   token = λ t cs h. h;
-  space = λ cs h. (white_space_kind, inl (refl, (white_space_is cs).1 h));
-  comment = λ cs h. (comment_kind, inr (inl (refl, (comment_text_is cs).1 h)));
+  space = λ cs h. (WHITE_SPACE, inl (refl, (white_space_is cs).1 h));
+  comment = λ cs h. (COMMENT, inr (inl (refl, (comment_text_is cs).1 h)));
   none = gaps_are_none;
 }
 

@@ -1,5 +1,9 @@
-//! The kinds of lexemes, as the grammar numbers them (RDF 1.1 Turtle, section
-//! 6.5). White space and comments, which stand for no token, have the first two.
+//! The kinds of lexemes, which the table has as numbers (RDF 1.1 Turtle, section
+//! 6.5).
+
+pub const WHITE_SPACE: u8 = 1;
+
+pub const COMMENT: u8 = 2;
 
 pub const IRIREF: u8 = 3;
 

@@ -1,7 +1,7 @@
 //! Laws of the tokens.
 
-ghost use Rattle.std.specs.Prelude.{◌≡◌, ℕ, List, ◌++◌, codes, flat_map};
-ghost use Rattle.std.specs.List.{AllByRecursion};
+ghost use Rattle.std.specs.Prelude.{◌≡◌, ℕ, true, List, ◌++◌, length, codes, flat_map};
+ghost use Rattle.std.specs.List.{AllByRecursion, list_all};
 ghost use Rattle.owl_lexer.specs.Automata.{Knows};
 ghost use Rattle.owl_lexer.specs.Grammars.{IsLexeme};
 ghost use Rattle.owl_lexer.specs.Languages.{IsPrompt};
@@ -11,7 +11,8 @@ ghost use Rattle.ttl_tokens.specs.EscapedText.{IsPiece, Piece, characters_of, pi
 ghost use Rattle.ttl_tokens.specs.Escapes.{unescaped};
 ghost use Rattle.ttl_tokens.specs.TurtleValues.{IsUndone, local_text, prefix_text};
 ghost use Rattle.ttl_tokens.specs.TokenForms.{IsFormed};
-ghost use Rattle.ttl_tokens.specs.TurtleGrammar.{string_literal_long_quote_kind, string_literal_long_single_quote_kind, string_literal_quote_kind, string_literal_single_quote_kind, turtle_grammar};
+ghost use Rattle.ttl_tokens.specs.TurtleGrammar.{are_listed, turtle_grammar};
+ghost use Rattle.ttl_tokens.specs.declared.kinds.TheConstants.{STRING_LITERAL_LONG_QUOTE, STRING_LITERAL_LONG_SINGLE_QUOTE, STRING_LITERAL_QUOTE, STRING_LITERAL_SINGLE_QUOTE};
 ghost use Rattle.ttl_tokens.specs.TurtleSpellings.{Spells, long_quotes};
 ghost use Rattle.ttl_tokens.specs.TurtleTable.{turtle_table};
 ghost use Rattle.ttl_tokens.specs.declared.token.Token.{Token};
@@ -19,6 +20,12 @@ ghost use Rattle.ttl_tokens.specs.declared.token.Token.{Token};
 /// A law: the automaton of Turtle knows the lexemes of the grammar.
 pub fn lexemes_are_known()
     ensures { Knows (automaton_of turtle_table) (IsLexeme turtle_grammar) }
+{}
+
+/// A law: each set of characters that a terminal names is one of the grammar's, by
+/// its place.
+pub fn sets_are_listed()
+    ensures { list_all (λ terminal. are_listed (length turtle_grammar.sets) terminal.pattern) turtle_grammar.terminals ≡ true }
 {}
 
 /// A law: behind a token no characters lead on to white space, unless the quotes
@@ -36,10 +43,10 @@ pub fn escapes_are_undone()
 /// A law: each string of the grammar is undone to its text, since its escapes
 /// are all of characters.
 pub fn strings_are_undone()
-    ensures quote { (cs : List ℕ) → IsLexeme turtle_grammar string_literal_quote_kind cs → IsUndone 1 cs }
-    ensures single_quote { (cs : List ℕ) → IsLexeme turtle_grammar string_literal_single_quote_kind cs → IsUndone 1 cs }
-    ensures long_quote { (cs : List ℕ) → IsLexeme turtle_grammar string_literal_long_quote_kind cs → IsUndone 3 cs }
-    ensures long_single_quote { (cs : List ℕ) → IsLexeme turtle_grammar string_literal_long_single_quote_kind cs → IsUndone 3 cs }
+    ensures quote { (cs : List ℕ) → IsLexeme turtle_grammar STRING_LITERAL_QUOTE cs → IsUndone 1 cs }
+    ensures single_quote { (cs : List ℕ) → IsLexeme turtle_grammar STRING_LITERAL_SINGLE_QUOTE cs → IsUndone 1 cs }
+    ensures long_quote { (cs : List ℕ) → IsLexeme turtle_grammar STRING_LITERAL_LONG_QUOTE cs → IsUndone 3 cs }
+    ensures long_single_quote { (cs : List ℕ) → IsLexeme turtle_grammar STRING_LITERAL_LONG_SINGLE_QUOTE cs → IsUndone 3 cs }
 {}
 
 /// A law: a prefix and a local part, as the three syntaxes write them, are read

@@ -1,4 +1,5 @@
--- What is written for a token is a lexeme that stands for it.
+-- What is written for a token is a lexeme that stands for it. Sets of characters go by their places
+-- in `turtle_sets`.
 use Rattle.std.proofs.Common.{◌≡◌, ◌+◌, ◌-◌, inl, inr, ℕ, Bool, true, false, not, ◌||◌, if◌then◌else◌, Option, Some, List, [], ◌∷◌, ◌++◌, length, take, codes, refl, sym, ap, ◌∙◌, arith}
 use Rattle.std.specs.Prelude.{◌==◌, flat_map, unwrap_or}
 use Rattle.std.specs.Char.{is_ascii_digit}
@@ -26,7 +27,8 @@ use Rattle.ttl_tokens.specs.EscapedText.Piece.{plain, echar}
 use Rattle.ttl_tokens.specs.Escapes.{in_front, string_escape as escape_of, unescaped}
 use Rattle.ttl_tokens.proofs.NameLaws.{local_is_read, prefix_is_read}
 use Rattle.ttl_tokens.proofs.PatternWithinLaws.{matches_within}
-use Rattle.ttl_tokens.specs.TurtleGrammar.{blank_node_label_kind, circumflexes_kind, dot_kind, iriref_kind, langtag, langtag_kind, prefixed_name_kind, string_escape, string_literal_quote_kind, turtle_grammar}
+use Rattle.ttl_tokens.specs.TurtleGrammar.{langtag, string_escape, turtle_grammar, uchar}
+use Rattle.ttl_tokens.specs.declared.kinds.TheConstants.{BLANK_NODE_LABEL, CIRCUMFLEXES, DOT, IRIREF, LANGTAG, PREFIXED_NAME, STRING_LITERAL_QUOTE}
 use Rattle.ttl_tokens.specs.TurtleLaws.{turtle_knows}
 use Rattle.ttl_tokens.specs.TurtleSpellings.{Spells}
 use Rattle.ttl_tokens.specs.TurtleTable.{turtle_table}
@@ -45,11 +47,11 @@ in_functional = test_of functional_grammar.sets
 
 pub spells_dot : Spells (Symbol Dot) (codes ".")
 unfolding turtle_table
-spells_dot = (dot_kind, (turtle_knows dot_kind (codes ".")).0 refl, refl)
+spells_dot = (DOT, (turtle_knows DOT (codes ".")).0 refl, refl)
 
 pub spells_carets : Spells (Symbol Carets) (codes "^^")
 unfolding turtle_table
-spells_carets = (circumflexes_kind, (turtle_knows circumflexes_kind (codes "^^")).0 refl, refl)
+spells_carets = (CIRCUMFLEXES, (turtle_knows CIRCUMFLEXES (codes "^^")).0 refl, refl)
 
 -- what stands between two marks
 
@@ -79,19 +81,14 @@ unescaped_iri : (cs : List ℕ) → AllAre is_iri_character cs → unescaped cs 
 unescaped_iri [] a = refl
 unescaped_iri (c ∷ cs) a = at_piece (plain c) cs (not_escaped c a.0) ∙ ap (λ (o : Option (List ℕ)). in_front (Some c) o) (unescaped_iri cs a.1)
 
-abbrev uchar : Pattern
-uchar =
-    both (one 4) (either (both (one 47) (both (one 25) (both (one 25) (both (one 25) (one 25)))))
-    (both (one 48) (both (one 25) (both (one 25) (both (one 25) (both (one 25) (both (one 25) (both (one 25) (both (one 25) (one 25))))))))))
-
-iri_lexeme : (cs : List ℕ) → AllAre is_iri_character cs → IsLexeme turtle_grammar iriref_kind (60 ∷ (cs ++ 62 ∷ []))
+iri_lexeme : (cs : List ℕ) → AllAre is_iri_character cs → IsLexeme turtle_grammar IRIREF (60 ∷ (cs ++ 62 ∷ []))
 unfolding turtle_grammar
 iri_lexeme cs a = inr (inr (inl (refl, (60 ∷ [], cs ++ 62 ∷ [], (60, refl, refl), (cs, 62 ∷ [], each_first in_turtle 35 uchar is_iri_character in_iri cs a, (62, refl, refl), refl), refl))))
 
 pub spells_iri : (iri : List ℕ) → IsIri iri → Spells (Iri (Some iri)) (full_iri iri)
 spells_iri iri h =
     let a = iri_characters iri h in
-    (iriref_kind, iri_lexeme iri a, ap (λ (cs : List ℕ). Some (Iri (unescaped cs))) (between_marks 60 62 iri) ∙ ap (λ (o : Option (List ℕ)). Some (Iri o)) (unescaped_iri iri a))
+    (IRIREF, iri_lexeme iri a, ap (λ (cs : List ℕ). Some (Iri (unescaped cs))) (between_marks 60 62 iri) ∙ ap (λ (o : Option (List ℕ)). Some (Iri o)) (unescaped_iri iri a))
 
 -- any number of characters and a last one
 
@@ -194,24 +191,24 @@ label_start_matches c h = elim (or_cases (is_start c) (is_ascii_digit c) h) as (
   | inr x ↦ inr (c, digit_matches c x, refl)
 ]
 
-label_lexeme : (c : ℕ) (cs : List ℕ) → IsLabel (c ∷ cs) → IsLexeme turtle_grammar blank_node_label_kind (95 ∷ 58 ∷ c ∷ cs)
+label_lexeme : (c : ℕ) (cs : List ℕ) → IsLabel (c ∷ cs) → IsLexeme turtle_grammar BLANK_NODE_LABEL (95 ∷ 58 ∷ c ∷ cs)
 unfolding turtle_grammar
 label_lexeme c cs h =
-    inr (inr (inr (inr (inl (refl, (95 ∷ [], 58 ∷ c ∷ cs, (95, refl, refl), (58 ∷ [], c ∷ cs, (58, refl, refl), (c ∷ [], cs, label_start_matches c h.0, name_end c cs h.1 h.2, refl), refl), refl))))))
+    inr (inr (inr (inr (inl (refl, (95 ∷ 58 ∷ [], c ∷ cs, (95 ∷ [], 58 ∷ [], (95, refl, refl), (58, refl, refl), refl), (c ∷ [], cs, label_start_matches c h.0, name_end c cs h.1 h.2, refl), refl))))))
 
 pub spells_label : (label : List ℕ) → IsLabel label → Spells (Label label) (codes "_:" ++ label)
 spells_label [] h = absurd h
-spells_label (c ∷ cs) h = (blank_node_label_kind, label_lexeme c cs h, refl)
+spells_label (c ∷ cs) h = (BLANK_NODE_LABEL, label_lexeme c cs h, refl)
 
 -- language tags, and the word of a directive
 
-tag_lexeme : (tag : List ℕ) → IsLanguageTag tag → IsLexeme turtle_grammar langtag_kind (64 ∷ tag)
+tag_lexeme : (tag : List ℕ) → IsLanguageTag tag → IsLexeme turtle_grammar LANGTAG (64 ∷ tag)
 unfolding turtle_grammar functional_grammar
 tag_lexeme tag h =
     inr (inr (inr (inr (inr (inl (refl, matches_within functional_grammar.sets turtle_grammar.sets language_tag langtag refl (64 ∷ tag) (matches_tag in_functional functional_tests tag h)))))))
 
 pub spells_tag : (tag : List ℕ) → IsLanguageTag tag → Spells (At tag) (codes "@" ++ tag)
-spells_tag tag h = (langtag_kind, tag_lexeme tag h, refl)
+spells_tag tag h = (LANGTAG, tag_lexeme tag h, refl)
 
 pub spells_prefix_word : Spells (At (codes "prefix")) (codes "@prefix")
 spells_prefix_word = spells_tag (codes "prefix") (tag_from_fits (codes "prefix") refl)
@@ -229,13 +226,13 @@ namespace_matches : (name : List ℕ) → IsPrefixName name → Matches in_turtl
 unfolding turtle_grammar
 namespace_matches name h = (name, 58 ∷ [], prefix_matches name h, (58, refl, refl), refl)
 
-namespace_lexeme : (name : List ℕ) → IsPrefixName name → IsLexeme turtle_grammar prefixed_name_kind (name ++ 58 ∷ [])
+namespace_lexeme : (name : List ℕ) → IsPrefixName name → IsLexeme turtle_grammar PREFIXED_NAME (name ++ 58 ∷ [])
 unfolding turtle_grammar
 namespace_lexeme name h = inr (inr (inr (inl (refl, inr (namespace_matches name h)))))
 
 pub spells_namespace : (name : List ℕ) → IsPrefixName name → Spells (Name name []) (name ++ codes ":")
 spells_namespace name h = (
-  prefixed_name_kind,
+  PREFIXED_NAME,
   namespace_lexeme name h,
   ap (λ (p : List ℕ). Some (Name p (local_text (name ++ 58 ∷ [])))) (prefix_is_read name [] h)
       ∙ ap (λ (l : List ℕ). Some (Name name l)) (local_is_read name [] [] h spells_nothing),
@@ -303,14 +300,14 @@ local_matches c cs h = (
   refl,
 )
 
-name_lexeme : (name : List ℕ) (c : ℕ) (cs : List ℕ) → IsPrefixName name → IsPlainLocal (c ∷ cs) → IsLexeme turtle_grammar prefixed_name_kind (name ++ 58 ∷ c ∷ cs)
+name_lexeme : (name : List ℕ) (c : ℕ) (cs : List ℕ) → IsPrefixName name → IsPlainLocal (c ∷ cs) → IsLexeme turtle_grammar PREFIXED_NAME (name ++ 58 ∷ c ∷ cs)
 unfolding turtle_grammar
 name_lexeme name c cs h l = inr (inr (inr (inl (refl, inl (name ++ 58 ∷ [], c ∷ cs, namespace_matches name h, local_matches c cs l, sym (append_assoc name (58 ∷ []) (c ∷ cs)))))))
 
 pub spells_name : (name local : List ℕ) → IsPrefixName name → IsPlainLocal local → Spells (Name name local) (name ++ (codes ":" ++ local))
 spells_name name [] h l = absurd l
 spells_name name (c ∷ cs) h l = (
-  prefixed_name_kind,
+  PREFIXED_NAME,
   name_lexeme name c cs h l,
   ap (λ (p : List ℕ). Some (Name p (local_text (name ++ 58 ∷ c ∷ cs)))) (prefix_is_read name (c ∷ cs) h)
       ∙ ap (λ (x : List ℕ). Some (Name name x)) (local_is_read name (c ∷ cs) (c ∷ cs) h (spells_plain (c ∷ cs) l)),
@@ -360,14 +357,14 @@ unescaped_form : (form : List ℕ) → unescaped (flat_map character_text form) 
 unescaped_form [] = refl
 unescaped_form (c ∷ cs) = (is_written c).undone (flat_map character_text cs) ∙ ap (λ (o : Option (List ℕ)). in_front (Some c) o) (unescaped_form cs)
 
-string_lexeme : (form : List ℕ) → IsLexeme turtle_grammar string_literal_quote_kind (34 ∷ (flat_map character_text form ++ 34 ∷ []))
+string_lexeme : (form : List ℕ) → IsLexeme turtle_grammar STRING_LITERAL_QUOTE (34 ∷ (flat_map character_text form ++ 34 ∷ []))
 unfolding turtle_grammar
 string_lexeme form =
     inr (inr (inr (inr (inr (inr (inr (inr (inr (inl (refl, (34 ∷ [], flat_map character_text form ++ 34 ∷ [], (34, refl, refl), (flat_map character_text form, 34 ∷ [], all_written form, (34, refl, refl), refl), refl)))))))))))
 
 pub spells_string : (form : List ℕ) → Spells (Str form) (string_text form)
 spells_string form = (
-  string_literal_quote_kind,
+  STRING_LITERAL_QUOTE,
   string_lexeme form,
   ap (λ (cs : List ℕ). Some (Str (unwrap_or (unescaped cs) []))) (between_marks 34 34 (flat_map character_text form))
       ∙ ap (λ (o : Option (List ℕ)). Some (Str (unwrap_or o []))) (unescaped_form form),

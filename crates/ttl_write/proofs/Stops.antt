@@ -9,7 +9,7 @@ use Rattle.owl_lexer.proofs.GapTestLaws.{passes_among}
 use Rattle.owl_lexer.specs.Splitting.{IsLongest}
 use Rattle.owl_lexer.proofs.StopLaws.{longest_always, longest_before, tokens_are_closed}
 use Rattle.ttl_tokens.specs.Escapes.{unescaped}
-use Rattle.ttl_tokens.specs.TurtleGrammar.{a_word_kind, base_word_kind, blank_node_label_kind, circumflexes_kind, close_bracket_kind, close_parenthesis_kind, comma_kind, comment_kind, decimal_kind, dot_kind, double_kind, false_word_kind, integer_kind, iriref_kind, langtag_kind, open_bracket_kind, open_parenthesis_kind, prefix_word_kind, prefixed_name_kind, semicolon_kind, string_literal_long_quote_kind, string_literal_long_single_quote_kind, string_literal_quote_kind, string_literal_single_quote_kind, true_word_kind, white_space_kind}
+use Rattle.ttl_tokens.specs.declared.kinds.TheConstants.{A_WORD, BASE_WORD, BLANK_NODE_LABEL, CIRCUMFLEXES, CLOSE_BRACKET, CLOSE_PARENTHESIS, COMMA, COMMENT, DECIMAL, DOT, DOUBLE, FALSE_WORD, INTEGER, IRIREF, LANGTAG, OPEN_BRACKET, OPEN_PARENTHESIS, PREFIX_WORD, PREFIXED_NAME, SEMICOLON, STRING_LITERAL_LONG_QUOTE, STRING_LITERAL_LONG_SINGLE_QUOTE, STRING_LITERAL_QUOTE, STRING_LITERAL_SINGLE_QUOTE, TRUE_WORD, WHITE_SPACE}
 use Rattle.ttl_tokens.specs.TurtleSpellingLaws.{is_gap, turtle_is_language}
 use Rattle.ttl_tokens.specs.TurtleSpellings.{Spells}
 use Rattle.ttl_tokens.specs.TurtleTable.{turtle_table}
@@ -29,9 +29,9 @@ unfolding turtle_table
 stops_end = refl
 
 gap_is_none : (kind : ℕ) (cs : List ℕ) → is_gap kind ≡ true → token_of kind cs ≡ None
-gap_is_none kind cs h = elim (or_cases (kind == white_space_kind) (kind == comment_kind) h) as (λ _. token_of kind cs ≡ None) [
-  | inl e ↦ ap (λ (k : ℕ). token_of k cs) (eqb-true kind white_space_kind e)
-  | inr e ↦ ap (λ (k : ℕ). token_of k cs) (eqb-true kind comment_kind e)
+gap_is_none kind cs h = elim (or_cases (kind == WHITE_SPACE) (kind == COMMENT) h) as (λ _. token_of kind cs ≡ None) [
+  | inl e ↦ ap (λ (k : ℕ). token_of k cs) (eqb-true kind WHITE_SPACE e)
+  | inr e ↦ ap (λ (k : ℕ). token_of k cs) (eqb-true kind COMMENT e)
 ]
 
 no_gap : (t : Token) (cs : List ℕ) (kind : ℕ) → token_of kind cs ≡ Some t → is_gap kind ≡ false
@@ -46,7 +46,7 @@ longest_before_stop t cs c rest spelled stop =
 -- two circumflexes are the longest before anything
 
 is_other_kind : ℕ → Bool
-is_other_kind kind = not (kind == circumflexes_kind)
+is_other_kind kind = not (kind == CIRCUMFLEXES)
 
 carets_closed : tokens_are_closed is_other_kind turtle_table.rows turtle_table.kinds ≡ true
 unfolding turtle_table is_other_kind
@@ -72,25 +72,25 @@ none_chosen f (x ∷ xs) other h k = none_of f x.0 x.1 (chosen xs other) h.0 (no
 abbrev is_carets_word : Option Word → Bool
 is_carets_word o = is_carets (symbol_token o)
 
-others_are_none : (kind : ℕ) (cs : List ℕ) → (kind == circumflexes_kind) ≡ false → is_carets (token_of kind cs) ≡ false
+others_are_none : (kind : ℕ) (cs : List ℕ) → (kind == CIRCUMFLEXES) ≡ false → is_carets (token_of kind cs) ≡ false
 unfolding is_carets
 others_are_none kind cs h =
-    let last : is_carets_word (if kind == circumflexes_kind then Some Carets else None) ≡ false = ap (λ (b : Bool). is_carets_word (if b then Some Carets else None)) h in
+    let last : is_carets_word (if kind == CIRCUMFLEXES then Some Carets else None) ≡ false = ap (λ (b : Bool). is_carets_word (if b then Some Carets else None)) h in
     let words : List (Bool × Option Word) =
-    (kind == a_word_kind, Some A) ∷ (kind == true_word_kind, Some True) ∷ (kind == false_word_kind, Some False) ∷ (kind == prefix_word_kind, Some Prefix) ∷ (kind == base_word_kind, Some Base)
-    ∷ (kind == dot_kind, Some Dot) ∷ (kind == semicolon_kind, Some Semicolon) ∷ (kind == comma_kind, Some Comma) ∷ (kind == open_bracket_kind, Some OpenBracket) ∷ (kind == close_bracket_kind, Some CloseBracket)
-    ∷ (kind == open_parenthesis_kind, Some OpenParenthesis) ∷ (kind == close_parenthesis_kind, Some CloseParenthesis) ∷ [] in
-    let symbols = none_chosen is_carets_word words (if kind == circumflexes_kind then Some Carets else None) (refl, (refl, (refl, (refl, (refl, (refl, (refl, (refl, (refl, (refl, (refl, (refl, tt)))))))))))) last in
+    (kind == A_WORD, Some A) ∷ (kind == TRUE_WORD, Some True) ∷ (kind == FALSE_WORD, Some False) ∷ (kind == PREFIX_WORD, Some Prefix) ∷ (kind == BASE_WORD, Some Base)
+    ∷ (kind == DOT, Some Dot) ∷ (kind == SEMICOLON, Some Semicolon) ∷ (kind == COMMA, Some Comma) ∷ (kind == OPEN_BRACKET, Some OpenBracket) ∷ (kind == CLOSE_BRACKET, Some CloseBracket)
+    ∷ (kind == OPEN_PARENTHESIS, Some OpenParenthesis) ∷ (kind == CLOSE_PARENTHESIS, Some CloseParenthesis) ∷ [] in
+    let symbols = none_chosen is_carets_word words (if kind == CIRCUMFLEXES then Some Carets else None) (refl, (refl, (refl, (refl, (refl, (refl, (refl, (refl, (refl, (refl, (refl, (refl, tt)))))))))))) last in
     let others : List (Bool × Option Token) =
-    (kind == iriref_kind, Some (Iri (unescaped (inside 1 cs)))) ∷ (kind == prefixed_name_kind, Some (Name (prefix_text cs) (local_text cs))) ∷ (kind == blank_node_label_kind, Some (Label (drop 2 cs)))
-    ∷ (kind == langtag_kind, Some (At (drop 1 cs))) ∷ (kind == integer_kind, Some (Integer cs)) ∷ (kind == decimal_kind, Some (Decimal cs)) ∷ (kind == double_kind, Some (Double cs))
-    ∷ ((kind == string_literal_quote_kind) || (kind == string_literal_single_quote_kind), Some (Str (string_text (inside 1 cs))))
-    ∷ ((kind == string_literal_long_quote_kind) || (kind == string_literal_long_single_quote_kind), Some (Str (string_text (inside 3 cs)))) ∷ [] in
+    (kind == IRIREF, Some (Iri (unescaped (inside 1 cs)))) ∷ (kind == PREFIXED_NAME, Some (Name (prefix_text cs) (local_text cs))) ∷ (kind == BLANK_NODE_LABEL, Some (Label (drop 2 cs)))
+    ∷ (kind == LANGTAG, Some (At (drop 1 cs))) ∷ (kind == INTEGER, Some (Integer cs)) ∷ (kind == DECIMAL, Some (Decimal cs)) ∷ (kind == DOUBLE, Some (Double cs))
+    ∷ ((kind == STRING_LITERAL_QUOTE) || (kind == STRING_LITERAL_SINGLE_QUOTE), Some (Str (string_text (inside 1 cs))))
+    ∷ ((kind == STRING_LITERAL_LONG_QUOTE) || (kind == STRING_LITERAL_LONG_SINGLE_QUOTE), Some (Str (string_text (inside 3 cs)))) ∷ [] in
     none_chosen is_carets others (symbol_token (symbol_of kind)) (refl, (refl, (refl, (refl, (refl, (refl, (refl, (refl, (refl, tt))))))))) symbols
 
 is_circumflexes : (kind : ℕ) (cs : List ℕ) → token_of kind cs ≡ Some (Symbol Carets) → is_other_kind kind ≡ false
 unfolding is_other_kind is_carets
-is_circumflexes kind cs v = elim (cases_Bool (kind == circumflexes_kind)) as (λ _. not (kind == circumflexes_kind) ≡ false) [
+is_circumflexes kind cs v = elim (cases_Bool (kind == CIRCUMFLEXES)) as (λ _. not (kind == CIRCUMFLEXES) ≡ false) [
   | inl e ↦ ap not e
   | inr e ↦ absurd (both_ways (is_carets (token_of kind cs)) (others_are_none kind cs e) (ap is_carets v))
 ]
