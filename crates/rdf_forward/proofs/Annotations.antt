@@ -10,14 +10,14 @@ use Rattle.rdf_graph.specs.declared.term.Term.{Term}
 use Rattle.rdf_graph.specs.declared.triple.Triple.{Triple}
 use Rattle.rdf_meaning.specs.declared.word.Word.{Word}
 use Rattle.rdf_meaning.specs.declared.word.Word.TheVariants as word
-use Rattle.rdf_forward.specs.declared.notes.Holder.{Holder}
-use Rattle.rdf_forward.specs.declared.notes.Holder.TheVariants as holder
+use Rattle.rdf_forward.specs.declared.ends.Holder.{Holder}
+use Rattle.rdf_forward.specs.declared.ends.Holder.TheVariants as holder
 use Rattle.rdf_forward.specs.declared.writer.Writer.{Writer}
 use Rattle.rdf_mapping.specs.Forms.{blank, link}
 use Rattle.rdf_mapping.specs.Drawing.{atom_term}
 use Rattle.rdf_mapping.specs.Notes.{Notes, annotation_in, no_notes, note, note_nodes, note_triples, notes_in, notes_of, reified, reified_nodes, reifying, where_some}
-use Rattle.rdf_forward.specs.NoteWalks.{IsNoNote, WritesNotes, are_some, holder_term, notes_among, notes_at}
-use Rattle.rdf_forward.specs.Walks.{Writes, names}
+use Rattle.rdf_forward.specs.NoteWalks.{IsNoNote, WritesNotes, are_some, notes_among, notes_at}
+use Rattle.rdf_forward.specs.Walks.{Writes, holder_term, names}
 use Rattle.rdf_forward.proofs.Cells.{writes_nothing}
 use Rattle.rdf_forward.proofs.Writing.{followed}
 

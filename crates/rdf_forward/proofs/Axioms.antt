@@ -1,5 +1,5 @@
 -- Axioms, one behind the other.
-use Rattle.std.proofs.Common.{◌≡◌, ℕ, suc, ◌+◌, List, [], ◌∷◌, ◌++◌, refl, sym, ap, ◌∙◌, subst, arith}
+use Rattle.std.proofs.Common.{◌≡◌, ℕ, suc, ◌+◌, true, false, List, [], ◌∷◌, ◌++◌, refl, sym, ap, ◌∙◌, subst, arith}
 use Rattle.std.proofs.lemmas.List.{append_assoc}
 use Rattle.owl_arena.specs.Held.{tree_at, trees_at}
 use Rattle.owl_tree.specs.Trees.{Tree, leaf, node, no_kids, kid, kids_in}
@@ -7,17 +7,20 @@ use Rattle.rdf_graph.specs.declared.term.Term.{Term}
 use Rattle.rdf_graph.specs.declared.term.Term.TheVariants.{Iri, Blank, Literal}
 use Rattle.rdf_graph.specs.declared.triple.Triple.{Triple}
 use Rattle.rdf_meaning.specs.declared.row.Place.{Place}
-use Rattle.rdf_meaning.specs.declared.row.Place.TheVariants.{Object, Subject}
+use Rattle.rdf_meaning.specs.declared.row.Place.TheVariants.{At, Object, Predicate, Subject}
 use Rattle.rdf_meaning.specs.declared.word.Word.TheVariants as word
-use Rattle.rdf_forward.specs.declared.notes.Holder.TheVariants as holder
+use Rattle.rdf_forward.specs.declared.ends.Holder.TheVariants as holder
+use Rattle.rdf_forward.specs.declared.ends.End.{End}
+use Rattle.rdf_forward.specs.declared.ends.Link.{Link}
+use Rattle.rdf_forward.specs.declared.ends.Name.{Name}
 use Rattle.rdf_forward.specs.declared.writer.Writer.{Writer}
 use Rattle.rdf_mapping.specs.Forms.{Form, Arcs, arc_nodes, arc_triples, blank, link, made, nodes, term_of, triples}
 use Rattle.rdf_mapping.specs.Drawing.{between, linked, linked_back, looped, standing}
 use Rattle.rdf_mapping.specs.Notes.{Notes, note_nodes, note_triples, notes_of, reified, reified_nodes}
 use Rattle.rdf_mapping.specs.Graphs.{axiom_notes, main_triple, set_nodes, set_triples, standing_nodes, standing_triples}
 use Rattle.rdf_forward.specs.NoteWalks.{WritesNotes, notes_at}
-use Rattle.rdf_forward.specs.AxiomWalks.{AreEnds, WritesEnds, WritesMain, WritesSets, WritesStatement, sets_at}
-use Rattle.rdf_forward.specs.Walks.{Writes, WritesArcs, WritesForm, names}
+use Rattle.rdf_forward.specs.AxiomWalks.{AreEnds, WritesEnds, WritesMain, WritesSets, WritesStatement, is_end, link_at, main_triples, sets_at}
+use Rattle.rdf_forward.specs.Walks.{Writes, WritesArcs, WritesForm, end_term, link_triple, name_iri, names}
 use Rattle.rdf_forward.proofs.Annotations.{notes_by_kids}
 use Rattle.rdf_forward.proofs.Cells.{writes_nothing}
 use Rattle.rdf_forward.proofs.Writing.{followed}
@@ -35,16 +38,17 @@ axiom_notes_first trees id n ids inside others e f g =
 
 -- the sets, one behind the other
 
-pub record SetsOn (trees : List Tree) (t : Triple) (start now : Writer) (ids left : List ℕ) : Type 0 where
+pub record SetsOn (trees : List Tree) (t : Link) (start now : Writer) (ids left : List ℕ) : Type 0 where
   pub on : (last : Writer) → WritesSets now last t (sets_at trees left) → WritesSets start last t (sets_at trees ids)
 
-pub sets_next : (trees : List Tree) (t : Triple) (start now new : Writer) (ids left : List ℕ) (id : ℕ) (ns : Notes) → ns ≡ axiom_notes (tree_at trees id) → Writes now new (reified_nodes ns) (reified (names now) word.Axiom t ns now.next) → SetsOn trees t start now ids (id ∷ left) → SetsOn trees t start new ids left
+pub sets_next : (trees : List Tree) (t : Link) (start now new : Writer) (ids left : List ℕ) (id : ℕ) (ns : Notes) → ns ≡ axiom_notes (tree_at trees id) → Writes now new (reified_nodes ns) (reified (names now) word.Axiom (link_triple (names now) t) ns now.next) → SetsOn trees t start now ids (id ∷ left) → SetsOn trees t start new ids left
 sets_next trees t start now new ids left id ns e one l =
     let ms = axiom_notes (tree_at trees id) in
-    let first : Writes now new (reified_nodes ms) (reified (names now) word.Axiom t ms now.next) = subst (λ (n : Notes). Writes now new (reified_nodes n) (reified (names now) word.Axiom t n now.next)) e one in
-    record { on = λ last behind. l.on last (followed now new last (reified_nodes ms) (set_nodes (sets_at trees left)) (set_nodes (sets_at trees (id ∷ left))) (now.next + reified_nodes ms) (reified (names now) word.Axiom t ms now.next) (set_triples (names now) t (sets_at trees (id ∷ left)) now.next) (λ (m : ℕ → List ℕ) (k : ℕ). set_triples m t (sets_at trees left) k) first behind refl refl refl) }
+    let this = link_triple (names now) t in
+    let first : Writes now new (reified_nodes ms) (reified (names now) word.Axiom this ms now.next) = subst (λ (n : Notes). Writes now new (reified_nodes n) (reified (names now) word.Axiom this n now.next)) e one in
+    record { on = λ last behind. l.on last (followed now new last (reified_nodes ms) (set_nodes (sets_at trees left)) (set_nodes (sets_at trees (id ∷ left))) (now.next + reified_nodes ms) (reified (names now) word.Axiom this ms now.next) (set_triples (names now) this (sets_at trees (id ∷ left)) now.next) (λ (m : ℕ → List ℕ) (k : ℕ). set_triples m (link_triple m t) (sets_at trees left) k) first behind refl refl refl) }
 
-pub sets_end : (trees : List Tree) (t : Triple) (start now : Writer) (ids : List ℕ) → SetsOn trees t start now ids [] → WritesSets start now t (sets_at trees ids)
+pub sets_end : (trees : List Tree) (t : Link) (start now : Writer) (ids : List ℕ) → SetsOn trees t start now ids [] → WritesSets start now t (sets_at trees ids)
 sets_end trees t start now ids l = l.on now (writes_nothing now)
 
 -- the nodes of axioms, one behind the other
@@ -88,43 +92,66 @@ main_front name (Iri s) p o sets = refl
 main_front name (Blank s) p o sets = refl
 main_front name (Literal s) p o sets = refl
 
-pub main_written : (old mid new : Writer) (s : Term) (p : List ℕ) (o : Term) (sets : List Notes) → Writes old mid 0 (main_triple (names old) s p o []) → WritesSets mid new (link s p o) sets → WritesMain old new s p o sets
-main_written old mid new s p o sets x y =
-    followed old mid new 0 (set_nodes sets) (set_nodes sets) old.next (main_triple (names old) s p o []) (main_triple (names old) s p o (set_triples (names old) (link s p o) sets old.next)) (λ (m : ℕ → List ℕ) (k : ℕ). set_triples m (link s p o) sets k) x y (omega arith) (omega arith)
-    (main_front (names old) s p o (set_triples (names old) (link s p o) sets old.next))
+pub main_written : (old mid new : Writer) (l : Link) (sets : List Notes) → Writes old mid 0 (main_triples (names old) l []) → WritesSets mid new l sets → WritesMain old new l sets
+main_written old mid new l sets x y =
+    let name = names old in
+    let behind = set_triples name (link_triple name l) sets old.next in
+    record {
+      writes = followed old mid new 0 (set_nodes sets) (set_nodes sets) old.next (main_triples name l []) (main_triples name l behind) (λ (m : ℕ → List ℕ) (k : ℕ). set_triples m (link_triple m l) sets k) x y (omega arith) (omega arith)
+          (main_front name (end_term name l.subject) (name_iri l.predicate) (end_term name l.object) behind);
+    }
 
 -- the ends, and then the triple
 
-after_ends : (old mid new : Writer) (f g : Form) (s : Term) (p : List ℕ) (o : Term) (sets : List Notes) → WritesEnds old mid f g → WritesMain mid new s p o sets → Writes old new (nodes f + nodes g + set_nodes sets) ((triples (names old) f old.next ++ triples (names old) g (old.next + nodes f)) ++ main_triple (names old) s p o (set_triples (names old) (link s p o) sets (old.next + (nodes f + nodes g))))
-after_ends old mid new f g s p o sets x y =
+-- a triple between these terms, and what reifies it
+abbrev between_terms : (ℕ → List ℕ) → List ℕ → List Notes → ℕ → Term → Term → List Triple
+between_terms name p sets n s o = main_triple name s p o (set_triples name (link s p o) sets n)
+
+after_ends : (old mid new : Writer) (f g : Form) (l : Link) (sets : List Notes) → WritesEnds old mid f g → WritesMain mid new l sets → Writes old new (nodes f + nodes g + set_nodes sets) ((triples (names old) f old.next ++ triples (names old) g (old.next + nodes f)) ++ between_terms (names old) (name_iri l.predicate) sets (old.next + (nodes f + nodes g)) (end_term (names old) l.subject) (end_term (names old) l.object))
+after_ends old mid new f g l sets x y =
     followed old mid new (nodes f + nodes g) (set_nodes sets) (nodes f + nodes g + set_nodes sets) (old.next + (nodes f + nodes g)) (triples (names old) f old.next ++ triples (names old) g (old.next + nodes f)) _
-    (λ (m : ℕ → List ℕ) (k : ℕ). main_triple m s p o (set_triples m (link s p o) sets k)) x y refl refl refl
+    (λ (m : ℕ → List ℕ) (k : ℕ). between_terms m (name_iri l.predicate) sets k (end_term m l.subject) (end_term m l.object)) x y.writes refl refl refl
 
-linked_written : (old mid new : Writer) (f g : Form) (s : Term) (p : List ℕ) (o : Term) (sets : List Notes) → AreEnds old f g s o → WritesEnds old mid f g → WritesMain mid new s p o sets → WritesStatement old new (linked f p g) sets
-linked_written old mid new f g s p o sets ends x y =
-    let ts = triples (names old) f old.next ++ triples (names old) g (old.next + nodes f) in
-    let at = old.next + (nodes f + nodes g) in
-    subst (λ (t : Term). Writes old new (nodes f + nodes g + set_nodes sets) (ts ++ main_triple (names old) t p (term_of (names old) g (old.next + nodes f)) (set_triples (names old) (link t p (term_of (names old) g (old.next + nodes f))) sets at))) ends.first
-    (subst (λ (t : Term). Writes old new (nodes f + nodes g + set_nodes sets) (ts ++ main_triple (names old) s p t (set_triples (names old) (link s p t) sets at))) ends.second (after_ends old mid new f g s p o sets x y))
+linked_written : (old mid new : Writer) (f g : Form) (l : Link) (sets : List Notes) → AreEnds old f g l.subject l.object → WritesEnds old mid f g → WritesMain mid new l sets → WritesStatement old new (linked f (name_iri l.predicate) g) sets
+linked_written old mid new f g l sets ends x y =
+    let name = names old in
+    let ts = triples name f old.next ++ triples name g (old.next + nodes f) in
+    let said = between_terms name (name_iri l.predicate) sets (old.next + (nodes f + nodes g)) in
+    let k = nodes f + nodes g + set_nodes sets in
+    subst (λ (t : Term). Writes old new k (ts ++ said t (term_of name g (old.next + nodes f)))) ends.first
+    (subst (λ (t : Term). Writes old new k (ts ++ said (end_term name l.subject) t)) ends.second (after_ends old mid new f g l sets x y))
 
-linked_back_written : (old mid new : Writer) (f g : Form) (s : Term) (p : List ℕ) (o : Term) (sets : List Notes) → AreEnds old f g o s → WritesEnds old mid f g → WritesMain mid new s p o sets → WritesStatement old new (linked_back f p g) sets
-linked_back_written old mid new f g s p o sets ends x y =
-    let ts = triples (names old) f old.next ++ triples (names old) g (old.next + nodes f) in
-    let at = old.next + (nodes f + nodes g) in
-    subst (λ (t : Term). Writes old new (nodes f + nodes g + set_nodes sets) (ts ++ main_triple (names old) (term_of (names old) g (old.next + nodes f)) p t (set_triples (names old) (link (term_of (names old) g (old.next + nodes f)) p t) sets at))) ends.first
-    (subst (λ (t : Term). Writes old new (nodes f + nodes g + set_nodes sets) (ts ++ main_triple (names old) t p o (set_triples (names old) (link t p o) sets at))) ends.second (after_ends old mid new f g s p o sets x y))
+linked_back_written : (old mid new : Writer) (f g : Form) (l : Link) (sets : List Notes) → AreEnds old f g l.object l.subject → WritesEnds old mid f g → WritesMain mid new l sets → WritesStatement old new (linked_back f (name_iri l.predicate) g) sets
+linked_back_written old mid new f g l sets ends x y =
+    let name = names old in
+    let ts = triples name f old.next ++ triples name g (old.next + nodes f) in
+    let said = between_terms name (name_iri l.predicate) sets (old.next + (nodes f + nodes g)) in
+    let k = nodes f + nodes g + set_nodes sets in
+    subst (λ (t : Term). Writes old new k (ts ++ said (term_of name g (old.next + nodes f)) t)) ends.first
+    (subst (λ (t : Term). Writes old new k (ts ++ said t (end_term name l.object))) ends.second (after_ends old mid new f g l sets x y))
 
-pub looped_written : (old mid new : Writer) (f : Form) (t : Term) (p : List ℕ) (sets : List Notes) → t ≡ term_of (names old) f old.next → WritesForm old mid f → WritesMain mid new t p t sets → WritesStatement old new (looped p f) sets
-looped_written old mid new f t p sets e x y =
-    let ts = triples (names old) f old.next in
+pub looped_written : (old mid new : Writer) (f : Form) (e : End) (p : Name) (l : Link) (sets : List Notes) → end_term (names old) e ≡ term_of (names old) f old.next → l ≡ link_at Subject e p e → WritesForm old mid f → WritesMain mid new l sets → WritesStatement old new (looped (name_iri p) f) sets
+looped_written old mid new f e p l sets is at_both x main =
+    let name = names old in
+    let ts = triples name f old.next in
     let at = old.next + nodes f in
-    subst (λ (u : Term). Writes old new (nodes f + set_nodes sets) (ts ++ main_triple (names old) u p u (set_triples (names old) (link u p u) sets at))) e
-    (followed old mid new (nodes f) (set_nodes sets) (nodes f + set_nodes sets) at ts (ts ++ main_triple (names old) t p t (set_triples (names old) (link t p t) sets at)) (λ (m : ℕ → List ℕ) (k : ℕ). main_triple m t p t (set_triples m (link t p t) sets k)) x y refl refl refl)
+    let k = nodes f + set_nodes sets in
+    let y = subst (λ (m : Link). WritesMain mid new m sets) at_both main in
+    subst (λ (u : Term). Writes old new k (ts ++ between_terms name (name_iri p) sets at u u)) is
+    (followed old mid new (nodes f) (set_nodes sets) k at ts _ (λ (m : ℕ → List ℕ) (j : ℕ). between_terms m (name_iri p) sets j (end_term m e) (end_term m e)) x y.writes refl refl refl)
 
 -- the same by where the first end stands
+by_place : (old mid new : Writer) (place : Place) (f g : Form) (near far : End) (p : Name) (sets : List Notes) → is_end place ≡ true → AreEnds old f g near far → WritesEnds old mid f g → WritesMain mid new (link_at place near p far) sets → WritesStatement old new (between place f (name_iri p) g) sets
+by_place old mid new Subject f g near far p sets e ends x y = linked_written old mid new f g (link_at Subject near p far) sets ends x y
+by_place old mid new Object f g near far p sets e ends x y = linked_back_written old mid new f g (link_at Object near p far) sets ends x y
+by_place old mid new Predicate f g near far p sets e ends x y = absurd (cc)
+by_place old mid new (At w) f g near far p sets e ends x y = absurd (cc)
 
-pub forth_between : (old mid new : Writer) (place : Place) (f g : Form) (s : Term) (p : List ℕ) (o : Term) (sets : List Notes) → place ≡ Subject → AreEnds old f g s o → WritesEnds old mid f g → WritesMain mid new s p o sets → WritesStatement old new (between place f p g) sets
-forth_between old mid new place f g s p o sets e ends x y = subst (λ (q : Place). WritesStatement old new (between q f p g) sets) (sym e) (linked_written old mid new f g s p o sets ends x y)
+pub at_place : (old mid new : Writer) (place : Place) (f g : Form) (near far : End) (p : Name) (l : Link) (sets : List Notes) → is_end place ≡ true → AreEnds old f g near far → WritesEnds old mid f g → l ≡ link_at place near p far → WritesMain mid new l sets → WritesStatement old new (between place f (name_iri p) g) sets
+at_place old mid new place f g near far p l sets e ends x is y = by_place old mid new place f g near far p sets e ends x (subst (λ (m : Link). WritesMain mid new m sets) is y)
 
-pub back_between : (old mid new : Writer) (place : Place) (f g : Form) (s : Term) (p : List ℕ) (o : Term) (sets : List Notes) → place ≡ Object → AreEnds old f g o s → WritesEnds old mid f g → WritesMain mid new s p o sets → WritesStatement old new (between place f p g) sets
-back_between old mid new place f g s p o sets e ends x y = subst (λ (q : Place). WritesStatement old new (between q f p g) sets) (sym e) (linked_back_written old mid new f g s p o sets ends x y)
+pub at_no_place : (w : Writer) (place : Place) (f g : Form) (p : List ℕ) (sets : List Notes) → is_end place ≡ false → WritesStatement w w (between place f p g) sets
+at_no_place w Subject f g p sets e = absurd (cc)
+at_no_place w Object f g p sets e = absurd (cc)
+at_no_place w Predicate f g p sets e = writes_nothing w
+at_no_place w (At x) f g p sets e = writes_nothing w

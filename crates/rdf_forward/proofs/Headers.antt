@@ -12,14 +12,14 @@ use Rattle.rdf_graph.specs.declared.term.Term.TheVariants.{Iri}
 use Rattle.rdf_meaning.specs.declared.word.Word.TheVariants as word
 use Rattle.rdf_meaning.specs.Words.{word_iri}
 use Rattle.rdf_meaning.specs.Nodes.{type_iri}
-use Rattle.rdf_forward.specs.declared.notes.Holder.{Holder}
+use Rattle.rdf_forward.specs.declared.ends.Holder.{Holder}
 use Rattle.rdf_forward.specs.declared.writer.Writer.{Writer}
 use Rattle.rdf_mapping.specs.Forms.{link}
 use Rattle.rdf_mapping.specs.Notes.{Notes, annotation_in, note_nodes, note_triples}
 use Rattle.rdf_mapping.specs.Graphs.{head_triples, header_nodes, header_term, import_triples, notes_from, version_of, version_triples}
-use Rattle.rdf_forward.specs.NoteWalks.{WritesNotes, holder_term, notes_among, notes_at}
+use Rattle.rdf_forward.specs.NoteWalks.{WritesNotes, notes_among, notes_at}
 use Rattle.rdf_forward.specs.HeaderWalks.{WritesBelow, WritesHeader}
-use Rattle.rdf_forward.specs.Walks.{Writes, names}
+use Rattle.rdf_forward.specs.Walks.{Writes, holder_term, names}
 use Rattle.rdf_forward.proofs.Cells.{writes_nothing}
 use Rattle.rdf_forward.proofs.Writing.{followed}
 

@@ -1,18 +1,15 @@
 -- What stands at parts, and what it says.
-use Rattle.std.proofs.Common.{◌≡◌, ◌≤◌, ◌<◌, ℕ, false, List, [], ◌∷◌, length, refl, sym, ap, ◌∙◌, subst, arith}
+use Rattle.std.proofs.Common.{◌≡◌, ◌≤◌, ◌<◌, ℕ, false, Option, Some, None, List, [], ◌∷◌, length, refl, sym, ap, ◌∙◌, subst, arith}
 use Rattle.owl_tree.specs.declared.tag.Tag.{Tag}
 use Rattle.owl_tree.specs.Trees.{Tree}
-use Rattle.rdf_graph.specs.declared.term.Term.{Term}
-use Rattle.rdf_graph.specs.declared.term.Term.TheVariants.{Iri, Blank, Literal}
 use Rattle.rdf_meaning.specs.declared.row.Part.{Part}
 use Rattle.rdf_meaning.specs.declared.row.Site.TheVariants as site
 use Rattle.rdf_meaning.specs.Rows.{axiom_rows}
 use Rattle.rdf_counts.proofs.ArenaLaws.{rows_seen}
 use Rattle.rdf_forward.specs.declared.writer.Writer.{Writer}
-use Rattle.rdf_mapping.specs.Forms.{Form, made, plain, term_of, twice}
-use Rattle.rdf_mapping.specs.Drawing.{Kid, Placed, Statement, by_kids, by_predicate, by_triple, is_pair, placed, placed_by, row_for, singles, stated_by, tags_of, unsaid}
+use Rattle.rdf_mapping.specs.Drawing.{Kid, Placed, Statement, by_kids, by_triple, is_pair, linked, placed, placed_by, row_for, singles, stated_by, tags_of, unsaid}
 use Rattle.rdf_mapping.specs.Notes.{Notes}
-use Rattle.rdf_forward.specs.AxiomWalks.{WritesStatement}
+use Rattle.rdf_forward.specs.AxiomWalks.{IsPredicate, WritesStatement, said_by}
 use Rattle.rdf_mapping.specs.Arenas.{kids_at, tags_at}
 use Rattle.rdf_forward.specs.Walks.{TakesNone}
 use Rattle.rdf_forward.proofs.Cells.{writes_nothing}
@@ -38,18 +35,18 @@ as_unsaid w st sets e = subst (λ (s : Statement). WritesStatement w w s sets) (
 pub as_said : (old new : Writer) (st su : Statement) (sets : List Notes) → st ≡ su → WritesStatement old new su sets → WritesStatement old new st sets
 as_said old new st su sets e x = subst (λ (s : Statement). WritesStatement old new s sets) (sym e) x
 
--- a form whose term is no IRI is no predicate
-no_predicate : (name : ℕ → List ℕ) (f s o : Form) (n : ℕ) (t : Term) → ((iri : List ℕ) → t ≡ Iri iri → ⊥) → t ≡ term_of name f n → by_predicate f s o ≡ unsaid
-no_predicate name (plain (Iri i)) s o n t not e = absurd (not i e)
-no_predicate name (plain (Blank i)) s o n t not e = refl
-no_predicate name (plain (Literal i)) s o n t not e = refl
-no_predicate name (made arcs) s o n t not e = refl
-no_predicate name (twice f) s o n t not e = refl
+-- what three parts say, of which the first is the predicate
+said_of_three : (p q r : Placed) (ps qs rs ss : List Placed) (iri : Option (List ℕ)) → ps ≡ p ∷ qs → qs ≡ q ∷ rs → rs ≡ r ∷ ss → ss ≡ [] → IsPredicate p.form iri → by_triple site.OtherLink ps ≡ said_by iri q.form r.form
+said_of_three p q r ps qs rs ss iri e f g h is =
+    ap (by_triple site.OtherLink) (then_is p ps qs (q ∷ r ∷ []) e (then_is q qs rs (r ∷ []) f (then_is r rs ss [] g h))) ∙ is.said q.form r.form
 
-pub not_said : (w : Writer) (name : ℕ → List ℕ) (p q r : Placed) (ps qs rs ss : List Placed) (sets : List Notes) (n : ℕ) (t : Term) → ps ≡ p ∷ qs → qs ≡ q ∷ rs → rs ≡ r ∷ ss → ss ≡ [] → ((iri : List ℕ) → t ≡ Iri iri → ⊥) → t ≡ term_of name p.form n → WritesStatement w w (by_triple site.OtherLink ps) sets
-not_said w name p q r ps qs rs ss sets n t e f g h not is =
-    as_unsaid w (by_triple site.OtherLink ps) sets
-    (ap (by_triple site.OtherLink) (then_is p ps qs (q ∷ r ∷ []) e (then_is q qs rs (r ∷ []) f (then_is r rs ss [] g h))) ∙ no_predicate name p.form q.form r.form n t not is)
+pub not_said : (w : Writer) (p q r : Placed) (ps qs rs ss : List Placed) (iri : Option (List ℕ)) (sets : List Notes) → ps ≡ p ∷ qs → qs ≡ q ∷ rs → rs ≡ r ∷ ss → ss ≡ [] → IsPredicate p.form iri → iri ≡ None → WritesStatement w w (by_triple site.OtherLink ps) sets
+not_said w p q r ps qs rs ss iri sets e f g h is none =
+    as_unsaid w (by_triple site.OtherLink ps) sets (said_of_three p q r ps qs rs ss iri e f g h is ∙ ap (λ (i : Option (List ℕ)). said_by i q.form r.form) none)
+
+pub well_said : (old new : Writer) (p q r : Placed) (ps qs rs ss : List Placed) (iri : Option (List ℕ)) (i : List ℕ) (sets : List Notes) → ps ≡ p ∷ qs → qs ≡ q ∷ rs → rs ≡ r ∷ ss → ss ≡ [] → IsPredicate p.form iri → iri ≡ Some i → WritesStatement old new (linked q.form i r.form) sets → WritesStatement old new (by_triple site.OtherLink ps) sets
+well_said old new p q r ps qs rs ss iri i sets e f g h is some x =
+    as_said old new (by_triple site.OtherLink ps) (linked q.form i r.form) sets (said_of_three p q r ps qs rs ss iri e f g h is ∙ ap (λ (j : Option (List ℕ)). said_by j q.form r.form) some) x
 
 -- an axiom by its kids
 

@@ -2,20 +2,12 @@
 use Rattle.std.specs.Prelude.{◌≡◌, ℕ, Bool, true, false, List, [], ◌∷◌}
 use Rattle.owl_arena.specs.Held.{tree_at, trees_at}
 use Rattle.owl_tree.specs.Trees.{Tree}
-use Rattle.rdf_graph.specs.declared.term.Term.{Term}
-use Rattle.rdf_graph.specs.declared.term.Term.TheVariants.{Iri}
-use Rattle.rdf_forward.specs.declared.notes.Holder.{Holder}
-use Rattle.rdf_forward.specs.declared.notes.Holder.TheVariants as holder
+use Rattle.rdf_forward.specs.declared.ends.Holder.{Holder}
 use Rattle.rdf_forward.specs.declared.notes.Annotation.{Annotation}
 use Rattle.rdf_forward.specs.declared.writer.Writer.{Writer}
-use Rattle.rdf_mapping.specs.Forms.{blank}
 use Rattle.rdf_mapping.specs.Drawing.{atom_term}
 use Rattle.rdf_mapping.specs.Notes.{Notes, annotation_in, no_notes, note, note_nodes, note_triples, notes_of}
-use Rattle.rdf_forward.specs.Walks.{Writes, names}
-
-abbrev pub holder_term : (ℕ → List ℕ) → Holder → Term
-holder_term name (holder.Node n) = blank name n
-holder_term name (holder.Named iri) = Iri iri.now
+use Rattle.rdf_forward.specs.Walks.{Writes, holder_term, names}
 
 abbrev pub notes_among : List Tree → Notes
 notes_among [] = no_notes

@@ -7,17 +7,24 @@ use Rattle.rdf_graph.specs.declared.term.Term.{Term}
 use Rattle.rdf_graph.specs.declared.term.Term.TheVariants.{Iri, Blank, Literal}
 use Rattle.rdf_graph.specs.declared.triple.Triple.{Triple}
 use Rattle.rdf_meaning.specs.Words.{word_iri}
-use Rattle.rdf_meaning.specs.Nodes.{nil_iri}
+use Rattle.rdf_meaning.specs.Nodes.{nil_iri, type_iri}
 use Rattle.rdf_meaning.specs.Denotation.{true_literal}
 use Rattle.rdf_meaning.specs.declared.row.Part.{Part}
 use Rattle.rdf_mapping.specs.Arenas.{forms_at, kids_at}
 use Rattle.rdf_forward.specs.declared.drawn.Drawn.{Drawn}
 use Rattle.rdf_forward.specs.declared.drawn.Drawn.TheVariants as drawn
 use Rattle.rdf_forward.specs.declared.drawn.Next.{Next}
+use Rattle.rdf_forward.specs.declared.ends.End.{End}
+use Rattle.rdf_forward.specs.declared.ends.End.TheVariants as ends
+use Rattle.rdf_forward.specs.declared.ends.Holder.{Holder}
+use Rattle.rdf_forward.specs.declared.ends.Holder.TheVariants as holder
+use Rattle.rdf_forward.specs.declared.ends.Link.{Link}
+use Rattle.rdf_forward.specs.declared.ends.Name.{Name}
+use Rattle.rdf_forward.specs.declared.ends.Name.TheVariants as name
 use Rattle.rdf_forward.specs.declared.writer.Writer.{Writer}
 use Rattle.blank_labels.specs.LabelNumbers.{names_beside}
 use Rattle.rdf_mapping.specs.Forms.{Form, Arcs, plain, arc_nodes, arc_triples, first_iri, link, list_form, nodes, rest_iri, triples}
-use Rattle.rdf_mapping.specs.Drawing.{Kid, Placed, form_of, listed, placed, placed_at, placed_by}
+use Rattle.rdf_mapping.specs.Drawing.{Kid, Placed, arc_iri, atom_term, form_of, listed, placed, placed_at, placed_by}
 
 abbrev pub drawn_form : List Tree → Drawn → Form
 drawn_form trees (drawn.Kid id) = form_of (tree_at trees id)
@@ -49,6 +56,26 @@ pub record IsNext (trees : List Tree) (above : ℕ) (parts : List Part) (ids : L
   pub drawn : IsDrawnBelow above next.drawn
   pub below : AllByRecursion (λ id. id < above) next.kids.now
   pub fewer : length next.parts.now < length parts
+
+abbrev pub name_iri : Name → List ℕ
+name_iri name.Type = type_iri
+name_iri (name.Word w) = word_iri w
+name_iri (name.Arc w) = arc_iri w
+name_iri (name.Given iri) = iri.now
+
+abbrev pub end_term : (ℕ → List ℕ) → End → Term
+end_term name (ends.Named iri) = Iri (name_iri iri)
+end_term name (ends.Leaf atom) = atom_term atom.now
+end_term name (ends.Node n) = Blank (name n)
+end_term name ends.Nil = Iri nil_iri
+end_term name ends.True = Literal true_literal
+
+abbrev pub holder_term : (ℕ → List ℕ) → Holder → Term
+holder_term name (holder.Node n) = Blank (name n)
+holder_term name (holder.Named iri) = Iri iri.now
+
+abbrev pub link_triple : (ℕ → List ℕ) → Link → Triple
+link_triple name l = link (end_term name l.subject) (name_iri l.predicate) (end_term name l.object)
 
 abbrev pub names : Writer → ℕ → List ℕ
 names w n = names_beside w.labels n

@@ -7,16 +7,13 @@ ghost use Rattle.rdf_meaning.specs.declared.word.Word.TheVariants as word_of;
 ghost use Rattle.rdf_meaning.specs.Nodes.{type_iri};
 ghost use Rattle.rdf_meaning.specs.Words.{word_iri};
 ghost use Rattle.rdf_mapping.specs.Graphs.{import_triples, version_triples};
-ghost use Rattle.rdf_forward.specs.NoteWalks.{holder_term};
 ghost use Rattle.rdf_forward.specs.HeaderWalks.{WritesBelow, WritesHeader};
-ghost use Rattle.rdf_forward.specs.Walks.{Writes, WritesLink, names};
+ghost use Rattle.rdf_forward.specs.Walks.{Writes, WritesLink, holder_term, names};
 
-use crate::notes::Holder;
+use crate::ends::{End, Holder, Name};
 use crate::writer::Writer;
 use owl_characters::NoMemory;
 use owl_doc::Doc;
-use rdf_graph::Term;
-use rdf_mapping::{type_iri, word_iri};
 use rdf_meaning::Word;
 use rdf_terms::Iri;
 
@@ -52,10 +49,8 @@ impl Writer {
             (holder_term (names self.old) holder.now) type_iri
             (held.Iri (word_iri word_of.Ontology))) }
     {
-        let subject = self.holder_term(holder)?;
-        let class = Term::Iri(word_iri(self.alloc, Word::Ontology)?);
-        let predicate = type_iri(self.alloc)?;
-        self.add(subject, predicate, class)
+        let class = End::Named(Name::Word(Word::Ontology));
+        self.link(holder, &Name::Type, &class)
     }
 
     /// Adds the triple of a word that leads from the holder to the IRI.
@@ -63,10 +58,8 @@ impl Writer {
         ensures { OnOk result (WritesLink self.old self.new
             (holder_term (names self.old) holder.now) (word_iri word) (held.Iri iri.now)) }
     {
-        let subject = self.holder_term(holder)?;
-        let object = Term::Iri(iri.copy(self.alloc)?);
-        let predicate = word_iri(self.alloc, word)?;
-        self.add(subject, predicate, object)
+        let object = End::Named(Name::Given(iri));
+        self.link(holder, &Name::Word(word), &object)
     }
 
     /// Adds the triple of the version, where there is one.

@@ -3,8 +3,10 @@
 #![tactic(auto)]
 
 mod axiom;
+mod below;
 mod bounds;
 mod drawn;
+mod ends;
 mod expression;
 mod graph;
 mod groups;

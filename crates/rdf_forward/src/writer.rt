@@ -5,16 +5,19 @@ ghost use Rattle.owl_arena.specs.Held.{tree_at};
 ghost use Rattle.rdf_graph.specs.Terms.{IsSubject};
 ghost use Rattle.rdf_mapping.specs.Forms.{first_iri, rest_iri, term_of};
 ghost use Rattle.rdf_mapping.specs.Drawing.{arc_iri, atom_term, form_of};
-ghost use Rattle.rdf_forward.specs.Walks.{IsDrawnBelow, Writes, WritesLink, drawn_form, list_term};
-ghost use Rattle.rdf_forward.specs.Walks.{names, node_term, rest_term, second_cell};
+ghost use Rattle.rdf_forward.specs.AxiomWalks.{main_triples};
+ghost use Rattle.rdf_forward.specs.Walks.{IsDrawnBelow, Writes, WritesLink, drawn_form, end_term};
+ghost use Rattle.rdf_forward.specs.Walks.{holder_term, name_iri, names, node_term, rest_term};
+ghost use Rattle.rdf_forward.specs.Walks.{second_cell};
 
 use crate::drawn::Drawn;
+use crate::ends::{End, Holder, Link, Name, drawn_end, rest_end, tree_end};
 use blank_labels::FreshLabels;
 use owl_arena::{Arena, ExprId};
 use owl_characters::NoMemory;
 use owl_tree::Atom;
 use rdf_graph::{Gather, Term, Triple};
-use rdf_mapping::{arc_iri, nil, number_literal, true_literal, word_iri};
+use rdf_mapping::{arc_iri, nil, number_literal, true_literal, type_iri, word_iri};
 use rdf_meaning::Word;
 use rdf_terms::Iri;
 use std::alloc::Global;
@@ -40,36 +43,26 @@ impl Writer {
     }
 
     /// The blank node with this number.
-    pub fn blank(&self, number: u64) -> Result<Term, NoMemory>
+    fn blank(&self, number: u64) -> Result<Term, NoMemory>
         ensures { IfOk result (λ term. term ≡ node_term self.now number) }
     {
         Ok(Term::Blank(self.labels.label(self.alloc, number)?))
     }
 
-    /// Adds a triple.
-    pub fn add(&mut self, subject: Term, predicate: Iri, object: Term) -> Result<(), NoMemory>
-        requires { IsSubject subject }
-        ensures { OnOk result (WritesLink self.old self.new subject predicate object) }
+    /// The IRI of a name.
+    fn name_iri(&self, name: &Name) -> Result<Iri, NoMemory>
+        ensures { IfOk result (λ iri. iri ≡ name_iri name.now) }
     {
-        let triple = Triple {
-            subject,
-            predicate,
-            object,
-        };
-        self.gather.add(triple)
-    }
-
-    /// Adds a triple of the blank node with this number.
-    pub fn link(&mut self, node: u64, predicate: Iri, object: Term) -> Result<(), NoMemory>
-        ensures { OnOk result (WritesLink self.old self.new (node_term self.old node)
-            predicate object) }
-    {
-        let subject = self.blank(node)?;
-        self.add(subject, predicate, object)
+        match *name {
+            Name::Type => type_iri(self.alloc),
+            Name::Word(word) => word_iri(self.alloc, word),
+            Name::Arc(word) => arc_iri(self.alloc, word),
+            Name::Given(iri) => iri.copy(self.alloc),
+        }
     }
 
     /// The term that a leaf is.
-    pub fn atom_term(&self, atom: &Atom) -> Result<Term, NoMemory>
+    fn atom_term(&self, atom: &Atom) -> Result<Term, NoMemory>
         ensures { IfOk result (λ term. term ≡ atom_term atom.now) }
     {
         match atom {
@@ -80,44 +73,64 @@ impl Writer {
         }
     }
 
-    /// The term of a tree whose nodes have the numbers from this one on.
-    pub fn tree_term(&self, arena: &Arena, id: ExprId, number: u64) -> Result<Term, NoMemory>
-        requires { id < length arena.now.trees }
-        ensures { IfOk result (λ term. term
-            ≡ term_of (names self.now) (form_of (tree_at arena.now.trees id)) number) }
+    /// The term of an end.
+    pub fn term(&self, end: &End) -> Result<Term, NoMemory>
+        ensures { IfOk result (λ term. term ≡ end_term (names self.now) end.now) }
     {
-        match arena.atom(id) {
-            Some(atom) => self.atom_term(atom),
-            None => self.blank(number),
+        match end {
+            End::Named(name) => Ok(Term::Iri(self.name_iri(name)?)),
+            End::Leaf(atom) => self.atom_term(atom),
+            End::Node(number) => self.blank(*number),
+            End::Nil => nil(self.alloc),
+            End::True => Ok(Term::Literal(true_literal(self.alloc)?)),
         }
     }
 
-    /// The term of a list of such trees that is written next.
-    fn list_term(&self, ids: &[ExprId]) -> Result<Term, NoMemory>
-        ensures { IfOk result (λ term. term ≡ list_term (names self.now) ids.now self.now.next) }
+    /// The term that annotations belong to.
+    fn holder_term(&self, holder: &Holder) -> Result<Term, NoMemory>
+        ensures { IfOk result (λ term. term ≡ holder_term (names self.now) holder.now) }
     {
-        match ids {
-            [] => nil(self.alloc),
-            [_, ..] => self.blank(self.next),
+        match *holder {
+            Holder::Node(number) => self.blank(number),
+            Holder::Named(iri) => Ok(Term::Iri(iri.copy(self.alloc)?)),
         }
     }
 
-    /// The term of what is written next.
-    pub fn drawn_term(&self, arena: &Arena, drawn: &Drawn) -> Result<Term, NoMemory>
-        requires { IsDrawnBelow (length arena.now.trees) drawn.now }
-        ensures { IfOk result (λ term. term
-            ≡ term_of (names self.now) (drawn_form arena.now.trees drawn.now) self.now.next) }
+    /// Adds the triple of a subject.
+    fn add(&mut self, subject: Term, predicate: &Name, object: &End) -> Result<(), NoMemory>
+        requires { IsSubject subject }
+        ensures { OnOk result (WritesLink self.old self.new subject (name_iri predicate.now)
+            (end_term (names self.old) object.now)) }
     {
-        match drawn {
-            Drawn::Kid(id) => self.tree_term(arena, *id, self.next),
-            Drawn::Trees(_, ids) => self.list_term(ids),
-            Drawn::Keys(objects, others) => match *objects {
-                [] => self.list_term(others),
-                [_, ..] => self.list_term(objects),
-            },
-            Drawn::Class(word) => Ok(Term::Iri(word_iri(self.alloc, *word)?)),
-            Drawn::True => Ok(Term::Literal(true_literal(self.alloc)?)),
+        let predicate = self.name_iri(predicate)?;
+        let object = self.term(object)?;
+        self.gather.add(Triple {
+            subject,
+            predicate,
+            object,
+        })
+    }
+
+    /// Adds the triple of a holder.
+    pub fn link(&mut self, holder: &Holder, predicate: &Name, object: &End) -> Result<(), NoMemory>
+        ensures { OnOk result (WritesLink self.old self.new
+            (holder_term (names self.old) holder.now) (name_iri predicate.now)
+            (end_term (names self.old) object.now)) }
+    {
+        let subject = self.holder_term(holder)?;
+        self.add(subject, predicate, object)
+    }
+
+    /// Adds the triple, unless its subject is a literal.
+    pub fn add_main(&mut self, link: &Link) -> Result<(), NoMemory>
+        ensures { OnOk result (Writes self.old self.new 0
+            (main_triples (names self.old) link.now [])) }
+    {
+        let subject = self.term(&link.subject)?;
+        if let Term::Literal(_) = subject {
+            return Ok(());
         }
+        self.add(subject, &link.predicate, &link.object)
     }
 
     /// Adds the triple of a node that leads to what stands at a part.
@@ -132,9 +145,8 @@ impl Writer {
         ensures { OnOk result (WritesLink self.old self.new (node_term self.old node) (arc_iri word)
             (term_of (names self.old) (drawn_form arena.now.trees drawn.now) self.old.next)) }
     {
-        let object = self.drawn_term(arena, drawn)?;
-        let predicate = arc_iri(self.alloc, word)?;
-        self.link(node, predicate, object)
+        let object = drawn_end(arena, drawn, self.next);
+        self.link(&Holder::Node(node), &Name::Arc(word), &object)
     }
 
     /// Adds the triple of a facet that leads to its value.
@@ -149,9 +161,8 @@ impl Writer {
         ensures { OnOk result (WritesLink self.old self.new (node_term self.old node) facet.now
             (term_of (names self.old) (form_of (tree_at arena.now.trees value)) self.old.next)) }
     {
-        let object = self.tree_term(arena, value, self.next)?;
-        let predicate = facet.copy(self.alloc)?;
-        self.link(node, predicate, object)
+        let object = tree_end(arena, value, self.next);
+        self.link(&Holder::Node(node), &Name::Given(facet), &object)
     }
 
     /// Adds the triple of a cell that leads to its element.
@@ -166,9 +177,8 @@ impl Writer {
         ensures { OnOk result (WritesLink self.old self.new (node_term self.old cell) first_iri
             (term_of (names self.old) (form_of (tree_at arena.now.trees id)) number)) }
     {
-        let object = self.tree_term(arena, id, number)?;
-        let predicate = word_iri(self.alloc, Word::First)?;
-        self.link(cell, predicate, object)
+        let object = tree_end(arena, id, number);
+        self.link(&Holder::Node(cell), &Name::Word(Word::First), &object)
     }
 
     /// Adds the triple of a cell that leads to the next one, which is made next, or
@@ -177,13 +187,8 @@ impl Writer {
         ensures { OnOk result (WritesLink self.old self.new (node_term self.old cell) rest_iri
             (rest_term (names self.old) goes_on self.old.next)) }
     {
-        let object = if goes_on {
-            self.blank(self.next)?
-        } else {
-            nil(self.alloc)?
-        };
-        let predicate = word_iri(self.alloc, Word::Rest)?;
-        self.link(cell, predicate, object)
+        let object = rest_end(goes_on, self.next);
+        self.link(&Holder::Node(cell), &Name::Word(Word::Rest), &object)
     }
 
     /// Adds the second cell of a list that has its one element twice.

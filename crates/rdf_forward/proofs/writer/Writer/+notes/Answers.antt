@@ -4,7 +4,7 @@ use Rattle.std.proofs.lemmas.Result.{on_ok_weaker}
 use Rattle.owl_arena.proofs.HeldLaws.{below_later}
 use Rattle.rdf_mapping.specs.Notes.{no_notes}
 use Rattle.rdf_counts.proofs.ArenaLaws.{above_all, above_first, above_kids, above_rest, first_and, none_left}
-use Rattle.rdf_forward.specs.declared.notes.Holder.TheVariants as holder
+use Rattle.rdf_forward.specs.declared.ends.Holder.TheVariants as holder
 use Rattle.rdf_forward.proofs.Annotations.{NotesOn, note_alone, note_reified, notes_at_first, notes_by_kids, notes_end, notes_next, some_told, written_as}
 use Rattle.rdf_forward.proofs.writer.Writer.+notes.Goals as goal
 

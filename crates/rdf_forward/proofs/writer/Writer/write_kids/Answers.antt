@@ -11,10 +11,10 @@ use Rattle.rdf_forward.proofs.writer.Writer.write_kids.Goals.{then-kids-lt1, in-
 
 pub returns : goal.returns
 returns c =
-    let ks = kids_at c.args.arena.now.trees c.args.kids.now in
-    let e : by_kids c.args.tag ks ≡ stated_by (row_for axiom_rows c.args.tag (tags_at c.args.arena.now.trees c.args.kids.now)) ks = elim c.if-kids-lt1.branch [
+    let ks = kids_at c.args.below.now.arena.now.trees c.args.kids.now in
+    let e : by_kids c.args.tag ks ≡ stated_by (row_for axiom_rows c.args.tag (tags_at c.args.below.now.arena.now.trees c.args.kids.now)) ks = elim c.if-kids-lt1.branch [
       | then-kids-lt1 w ↦ no_kids_by_row _ _ _ (search rules)
       | in-len1+else-is_pair w ↦ one_kid_by_row _ _ _ w.in-len1.len_at_least w.in-len1.len_below (sym w.is_pair.ensures ∙ w.if-is_pair.false)
       | else-kids-lt1+else-kids-lt2 w ↦ more_kids_by_row _ _ _ (search rules)
     ] in
-    on_ok_weaker c.write_row.result (λ row. as_said c.args.self.now c.write_row.new.self _ _ (sets_at c.args.arena.now.trees c.args.axioms.now) e row) c.write_row.ensures
+    on_ok_weaker c.write_row.result (λ row. as_said c.args.self.now c.write_row.new.self _ _ (sets_at c.args.below.now.arena.now.trees c.args.below.now.axioms.now) e row) c.write_row.ensures
