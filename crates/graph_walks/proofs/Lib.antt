@@ -1,0 +1,11 @@
+pub mod EdgeLaws
+pub mod Entering
+pub mod FaultLaws
+pub mod Finding
+pub mod ForestLaws
+pub mod Joining
+pub mod MarkLaws
+pub mod Parting
+pub mod RingLaws
+pub mod WalkLaws
+pub mod WithoutLaws

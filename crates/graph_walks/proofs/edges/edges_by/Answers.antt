@@ -1,0 +1,24 @@
+use Rattle.std.proofs.Common.{◌≡◌, ◌≤◌, length, get_or, set, ap, ◌∙◌, arith}
+use Rattle.std.proofs.lemmas.List.{length-set}
+use Rattle.graph_walks.proofs.EdgeLaws.{begins_inside, one_more_pair}
+use Rattle.graph_walks.proofs.edges.edges_by.Goals as goal
+use Rattle.graph_walks.proofs.edges.edges_by.Goals.{in-Some+in_ok-push, in_default}
+
+pub pairs-preserved : goal.pairs-preserved
+pairs-preserved c =
+    let pairs = c.args.pairs.now in
+    let index = c.pairs.pair-index in
+    let old = c.pairs.edges.items in
+    elim c.match-get_mut.branch [
+      | in-Some+in_ok-push w ↦
+          let put : c.match-get_mut.edges.items ≡ set old (get_or pairs index (0, 0)).0 w.push.new.self = ap (λ v. v.items) w.edges-is in
+          record {
+            size = ap length put ∙ length-set old (get_or pairs index (0, 0)).0 w.push.new.self ∙ c.pairs.invariant.size;
+            edges = one_more_pair c.args.nodes pairs index old c.match-get_mut.edges.items w.in-Some.nexts.now w.push.new.self c.requires c.pairs-test.true c.pairs.invariant.size c.pairs.invariant.edges w.in-Some.ensures.item.1 w.in_ok-push.ensures.items put;
+          }
+      | in_default w ↦
+          let begins = begins_inside c.args.nodes pairs index c.requires c.pairs-test.true in
+          let past : length old ≤ (get_or pairs index (0, 0)).0 = w.in_default.ensures.item.3 in
+          let size = c.pairs.invariant.size in
+          absurd (omega arith)
+    ]

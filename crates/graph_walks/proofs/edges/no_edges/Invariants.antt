@@ -1,0 +1,10 @@
+use Rattle.std.proofs.Common.{◌≡◌, length}
+use Rattle.directed_graphs.specs.Cycles.{edges_of}
+use Rattle.graph_walks.proofs.EdgeLaws.{AreEmpty}
+use Rattle.graph_walks.proofs.edges.no_edges.Given as goal
+
+abbrev pub invariant-loop : goal.invariant-loop
+invariant-loop l = record {
+  size : length l.edges.items ≡ l.counter;
+  empty : AreEmpty (edges_of l.edges.items);
+}
