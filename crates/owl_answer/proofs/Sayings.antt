@@ -19,7 +19,7 @@ use Rattle.rdf_reverse.proofs.DeclaringLaws.{declares_stated}
 use Rattle.rdf_reverse.proofs.WithinLaws.{said_within}
 use Rattle.rdf_scans.specs.Outlines.{declarations as graph_declarations}
 use Rattle.rdf_states.proofs.NormalStatesLaws.{form_axioms_typed, form_notes_typed, form_says}
-use Rattle.rdf_sayable.specs.Parts.{of_axiom}
+use Rattle.owl_doc.specs.Parts.{of_axiom}
 use Rattle.rdf_sayable.specs.Sayable.{CanSayAll}
 use Rattle.owl_answer.specs.Outcome.{IsSuccess}
 use Rattle.owl_answer.specs.Typing.{DeclareSame, IsWellTyped}

@@ -9,9 +9,9 @@ use Rattle.owl_kind.specs.declared.kind.Kind.TheVariants.{Class, Datatype, Objec
 use Rattle.owl_kind.specs.Kinds.{Entity, HasClash, HasKind, IsFirstClash, SharesKinds}
 use Rattle.owl_list.proofs.AscendingLaws.{all_later}
 use Rattle.owl_tree.specs.Ontologies.{IsSameOntology, Ontology}
-use Rattle.rdf_sayable.specs.Parts.{Part, parts_of}
+use Rattle.owl_doc.specs.Parts.{Part, part_entities, parts_of}
 use Rattle.rdf_sayable.proofs.PartLaws.{first_at, first_once, no_first, same_parts}
-use Rattle.owl_answer.specs.Typing.{AllAreWellTyped, DeclareSame, IsFirstUntyped, IsUndeclaredIn, IsWellTyped, part_entities}
+use Rattle.owl_answer.specs.Typing.{AllAreWellTyped, DeclareSame, IsFirstUntyped, IsUndeclaredIn, IsWellTyped}
 
 undeclared_once : (kinds es : List Entity) (e f : Entity) → IsFirstUndeclared kinds es e → IsFirstUndeclared kinds es f → e ≡ f
 undeclared_once kinds es e f h k =

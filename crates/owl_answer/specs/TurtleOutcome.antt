@@ -9,7 +9,7 @@ use Rattle.owl_doc.specs.Entities.{declared_in}
 use Rattle.owl_writing.specs.Tables.{written_prefixes}
 use Rattle.rdf_graph.specs.Graphs.{most_triples}
 use Rattle.rdf_graph.specs.declared.triple.Triple.{Triple}
-use Rattle.rdf_sayable.specs.Parts.{Part}
+use Rattle.owl_doc.specs.Parts.{Part}
 use Rattle.rdf_sayable.specs.Reasons.{Objection}
 use Rattle.rdf_sayable.specs.Sayable.{CanSayAll, IsFirstUnsayable}
 use Rattle.rdf_normal.specs.NormalForms.{absorbed_count, normal_form}

@@ -2,18 +2,12 @@
 use Rattle.std.specs.Prelude.{◌↔◌, ℕ, List, Option, None, Some}
 use Rattle.std.specs.List.{AllByRecursion}
 use Rattle.owl_doc.specs.Documents.{Document}
-use Rattle.owl_doc.specs.Entities.{AreWellTyped, IsFirstUndeclared, IsHeldItem, entities, entities_of}
+use Rattle.owl_doc.specs.Entities.{AreWellTyped, IsFirstUndeclared, IsHeldItem}
 use Rattle.owl_kind.specs.declared.kind.Kind.{Kind}
 use Rattle.owl_kind.specs.Kinds.{Entity, IsDeclared}
 use Rattle.owl_tree.specs.Ontologies.{Ontology}
-use Rattle.owl_tree.specs.Trees.{kids_of}
-use Rattle.rdf_sayable.specs.Parts.{IsFirstWithout, Part, of_axiom, of_header, part_at, parts_of}
+use Rattle.owl_doc.specs.Parts.{IsFirstWithout, Part, part_at, part_entities, parts_of}
 use Rattle.owl_answer.specs.declared.typing.Untyped.{Untyped}
-
--- the entities of a part, from left to right
-abbrev pub part_entities : Part → List Entity
-part_entities (of_header annotations) = entities_of (kids_of annotations)
-part_entities (of_axiom t) = entities t
 
 -- each class, datatype and property in the part is declared or built in
 abbrev pub IsWellTyped : List Entity → Part → Type 0

@@ -7,7 +7,7 @@ ghost use Rattle.owl_answer.specs.Unreached.{UnreachedChangeNothing};
 ghost use Rattle.owl_kind.specs.Kinds.{Entity, IsFirstClash};
 ghost use Rattle.owl_documents.specs.Documents.{IsSame, Said};
 ghost use Rattle.owl_tree.specs.Ontologies.{IsSameOntology, Ontology};
-ghost use Rattle.rdf_sayable.specs.Parts.{Part};
+ghost use Rattle.owl_doc.specs.Parts.{Part};
 ghost use Rattle.owl_messages.specs.Outcome.{Outcome};
 
 /// A law: what becomes of documents that are read is the same, whatever a

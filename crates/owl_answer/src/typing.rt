@@ -3,8 +3,7 @@
 ghost use Rattle.std.specs.Prelude.{◌↔◌, IfOk, IfSome, IsNone, map};
 ghost use Rattle.owl_doc.specs.Documents.{ontology_of};
 ghost use Rattle.owl_doc.specs.Entities.{IsHeldItem};
-ghost use Rattle.owl_kind.specs.Kinds.{Entity};
-ghost use Rattle.rdf_sayable.specs.Parts.{of_axiom, part_at};
+ghost use Rattle.owl_doc.specs.Parts.{of_axiom, part_at};
 ghost use Rattle.owl_answer.specs.Answers.{IsTyping};
 ghost use Rattle.owl_answer.specs.Typing.{AllAreWellTyped, FindsUntyped, IsFirstUntyped, entity_found};
 

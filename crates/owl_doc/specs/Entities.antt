@@ -1,10 +1,10 @@
 -- The entities that trees and ontologies name, and those that they declare (Structural Specification, sections 5.8 and 5.8.1).
-use Rattle.std.specs.Prelude.{◌≡◌, ◌<◌, ◌↔◌, ◌⊎◌, ℕ, List, [], ◌∷◌, ◌++◌, Contains, Option, None, Some, length}
+use Rattle.std.specs.Prelude.{◌≡◌, ◌<◌, ◌↔◌, ◌⊎◌, ℕ, Bool, ◌&&◌, not, List, [], ◌∷◌, ◌++◌, Contains, Option, None, Some, length}
 use Rattle.std.specs.List.{AllByRecursion, cons_option, filter_map}
 use denote.Ref.{Bor}
 use Rattle.owl_kind.specs.declared.kind.Kind.{Kind}
 use Rattle.owl_kind.specs.declared.kind.Kind.TheVariants.{Class, Datatype, ObjectProperty, DataProperty, AnnotationProperty, Individual}
-use Rattle.owl_kind.specs.Kinds.{Entity, HasKind, IsDeclared}
+use Rattle.owl_kind.specs.Kinds.{Entity, HasKind, IsDeclared, is_built_in}
 use Rattle.owl_doc.specs.declared.item.Item.{Item}
 use Rattle.owl_doc.specs.declared.item.Item.TheVariants.{Header, Axiom}
 use Rattle.owl_doc.specs.Documents.{Document, ontology_of}
@@ -14,6 +14,7 @@ use Rattle.owl_tree.specs.declared.atom.Atom.TheVariants as atom
 use Rattle.owl_tree.specs.declared.tag.Tag.{Tag}
 use Rattle.owl_tree.specs.declared.tag.Tag.TheVariants as tag
 use Rattle.owl_tree.specs.Ontologies.{Ontology}
+use Rattle.rdf_terms.specs.Vocabulary.{is_reserved}
 use Rattle.owl_tree.specs.Trees.{Tree, Kids, leaf, node, no_kids, kid, kids_in, kids_of, tag_of}
 
 -- as what a leaf with this tag names an IRI, where an IRI has to be declared so
@@ -34,6 +35,10 @@ declared_kind t = kind_of t
 abbrev pub entity_of : Option Kind → Atom → Option Entity
 entity_of (Some kind) (atom.Iri iri) = Some (record { kind = kind; iri = iri })
 entity_of _ _ = None
+
+-- A reserved IRI (section 2.4) means what it is built in as, and nothing else.
+abbrev pub is_misused : Kind → List ℕ → Bool
+is_misused kind iri = is_reserved iri && not (is_built_in kind iri)
 
 -- the entities in a tree, from left to right
 abbrev mutual

@@ -4,6 +4,7 @@ pub mod Documents
 pub mod Closures
 pub mod Counts
 pub mod Entities
+pub mod Parts
 pub mod Rules
 pub mod Collections
 pub mod Kept

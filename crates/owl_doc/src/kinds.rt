@@ -2,11 +2,12 @@
 
 ghost use Rattle.std.specs.Prelude.{◌≡◌};
 ghost use Rattle.std.specs.Option.{option_map};
-ghost use Rattle.owl_doc.specs.Entities.{declared_kind, entity_of, entity_seen, kind_of};
+ghost use Rattle.owl_doc.specs.Entities.{declared_kind, entity_of, entity_seen, is_misused, kind_of};
 
 use owl_atom::Iri;
-use owl_kind::Kind;
+use owl_kind::{Kind, built_in};
 use owl_tree::{Atom, Tag};
+use rdf_terms::reserved;
 
 /// As what a leaf with this tag names an IRI, where an IRI has to be declared so
 /// (Structural Specification, section 5.8.1).
@@ -44,4 +45,12 @@ pub fn entity_of(kind: Option<Kind>, atom: &Atom) -> Option<(Kind, &Iri)>
         (Some(kind), Atom::Iri(iri)) => Some((kind, iri)),
         _ => None,
     }
+}
+
+/// Whether the IRI is reserved, and not built in as this kind (Structural
+/// Specification, section 2.4).
+pub fn is_misused(kind: Kind, iri: &Iri) -> bool
+    ensures { result ≡ is_misused kind iri.now }
+{
+    reserved(iri) && !built_in(kind, iri)
 }

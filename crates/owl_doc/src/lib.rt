@@ -24,5 +24,7 @@ pub use document::Doc;
 pub use fault::AddFault;
 pub use head::Head;
 pub use item::{Breach, Cant, Item, Why};
+pub use kinds::{declared_kind, entity_of, is_misused};
 pub use rule::Rule;
+pub use same::is_same_tree;
 pub use typing::undeclared;

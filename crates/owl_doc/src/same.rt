@@ -41,9 +41,9 @@ fn have_same_root(one: &Arena, id: ExprId, other: &Arena, other_id: ExprId) -> b
     one.tag(id) == other.tag(other_id) && one.atom(id) == other.atom(other_id)
 }
 
-/// Whether the trees are equal, each in its own arena.
+/// Whether the trees are equal, each in its own arena. Takes no memory.
 #[cycle(same)]
-fn is_same_tree(one: &Arena, id: ExprId, other: &Arena, other_id: ExprId) -> bool
+pub fn is_same_tree(one: &Arena, id: ExprId, other: &Arena, other_id: ExprId) -> bool
     requires id { id < length one.now.trees }
     requires other_id { other_id < length other.now.trees }
     ensures { IsTrue result ↔ (tree_at one.now.trees id ≡ tree_at other.now.trees other_id) }

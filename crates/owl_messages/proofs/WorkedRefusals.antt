@@ -9,7 +9,7 @@ use Rattle.owl_tree.specs.declared.tag.Tag.TheVariants as tag
 use Rattle.owl_tree.specs.Rows.{row_of}
 use Rattle.owl_tree.specs.Tags.{keyword_of, number_of}
 use Rattle.owl_tree.specs.Trees.{Tree, kids_of, leaf, node}
-use Rattle.rdf_sayable.specs.Parts.{of_axiom, of_header}
+use Rattle.owl_doc.specs.Parts.{of_axiom, of_header}
 use Rattle.rdf_sayable.specs.Reasons.{inverse_subject, reserved}
 use Rattle.rdf_graph.specs.declared.term.Term.TheVariants.{Iri, Blank, Literal}
 use Rattle.rdf_graph.specs.declared.triple.Triple.{Triple}

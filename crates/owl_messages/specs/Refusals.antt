@@ -9,7 +9,7 @@ use Rattle.owl_kind.specs.Kinds.{Entity}
 use Rattle.owl_tree.specs.declared.tag.Tag.{Tag}
 use Rattle.owl_tree.specs.declared.tag.Tag.TheVariants as tag
 use Rattle.owl_tree.specs.Tags.{keyword_of}
-use Rattle.rdf_sayable.specs.Parts.{Part, of_axiom, of_header}
+use Rattle.owl_doc.specs.Parts.{Part, of_axiom, of_header}
 use Rattle.rdf_sayable.specs.Reasons.{Objection, annotated_declaration, facet_name, inverse_assertion, inverse_subject, many_properties, reserved, two_inverses, undeclared_subject, unnamed_subject}
 use Rattle.owl_messages.specs.Outcome.{Outcome, noted_as, refused}
 

@@ -26,7 +26,7 @@ use Rattle.owl_tree.specs.Tags.{number_of}
 use Rattle.owl_tree.specs.Trees.{Tree, Kids, leaf, node, no_kids, kid, kids_in, list_of, tag_of}
 use Rattle.owl_list.specs.Ascending.{IsAscending}
 use Rattle.rdf_meaning.proofs.ListLaws.{one_at_least}
-use Rattle.rdf_sayable.specs.Parts.{leaves, leaves_of}
+use Rattle.owl_doc.specs.Parts.{leaves, leaves_of}
 use Rattle.rdf_sayable.specs.Sayable.{objection}
 use Rattle.rdf_normal.specs.NormalForms.{are_equals, inverted, only, turned_kids}
 use Rattle.rdf_mapping.specs.Drawing.{is_pair}

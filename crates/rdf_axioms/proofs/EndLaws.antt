@@ -28,7 +28,7 @@ use Rattle.rdf_meaning.specs.Nodes.{is_iri, is_word}
 use Rattle.rdf_meaning.specs.Rows.{Row, node_rows}
 use Rattle.rdf_meaning.proofs.WordLaws.{same_word}
 use Rattle.rdf_meaning.specs.Words.{word_iri}
-use Rattle.rdf_sayable.specs.Parts.{leaves}
+use Rattle.owl_doc.specs.Parts.{leaves}
 use Rattle.rdf_sayable.specs.Sayable.{AreSayable}
 use Rattle.rdf_mapping.specs.Drawing.{Kid, arcs_of, facet_arcs, form_of, kids_seen, node_form, placed, row_for, tags_of}
 use Rattle.rdf_mapping.specs.Forms.{Form, plain, made, Arcs, no_arcs, blank, term_of}

@@ -7,7 +7,7 @@ use Rattle.owl_kind.specs.Kinds.{Entity}
 use Rattle.owl_list.proofs.AscendingLaws.{all_from, all_in, all_later}
 use Rattle.owl_tree.specs.Ontologies.{IsAxiom, IsOntology, Ontology}
 use Rattle.owl_tree.specs.Shape.{IsShaped}
-use Rattle.rdf_sayable.specs.Parts.{leaves, ontology_leaves}
+use Rattle.owl_doc.specs.Parts.{leaves, ontology_leaves}
 use Rattle.rdf_sayable.proofs.PartLaws.{from_leaf}
 use Rattle.rdf_sayable.specs.Sayable.{CanSayAll}
 use Rattle.rdf_sayable.proofs.SayableLaws.{said_among, said_by_leaves}

@@ -8,7 +8,7 @@ use Rattle.std.proofs.lemmas.List.Elements.{Contains-append_left, Contains-appen
 use Rattle.std.proofs.lemmas.Option.{none-some, same_Some}
 use Rattle.std.proofs.lemmas.Slice.Eq.{bytes_eq-Decides}
 use Rattle.owl_characters.specs.Order.{text_eq}
-use Rattle.owl_doc.specs.Entities.{AreWellTyped, entities, entities_of}
+use Rattle.owl_doc.specs.Entities.{AreWellTyped, entities, entities_of, is_misused}
 use Rattle.owl_kind.specs.declared.kind.Kind.{Kind}
 use Rattle.owl_kind.specs.declared.kind.Kind.TheVariants as kind
 use Rattle.owl_kind.specs.Kinds.{Entity, HasKind, is_built_in}
@@ -25,9 +25,9 @@ use Rattle.rdf_meaning.specs.Denotation.{kind_of_entity}
 use Rattle.rdf_meaning.specs.Kinds.{may_be_declared}
 use Rattle.rdf_meaning.specs.Nodes.{is_facet}
 use Rattle.rdf_terms.specs.Vocabulary.{is_reserved, rdf, xsd}
-use Rattle.rdf_sayable.specs.Parts.{leaves, leaves_of}
+use Rattle.owl_doc.specs.Parts.{leaves, leaves_of}
 use Rattle.rdf_sayable.specs.Reasons.{reserved, facet_name}
-use Rattle.rdf_sayable.specs.Sayable.{AreSayable, atom_objection, entity_objection, facet_objection, iri_objection, is_facet_name, is_misused, objection}
+use Rattle.rdf_sayable.specs.Sayable.{AreSayable, atom_objection, entity_objection, facet_objection, iri_objection, is_facet_name, objection}
 use Rattle.rdf_mapping.specs.Graphs.{all_labels_in, labels_in}
 use Rattle.rdf_mapping.proofs.TreeDrawingLaws.{all_back, all_front}
 use Rattle.rdf_mapping.specs.Written.{HasFacetNames, HaveFacetNames}

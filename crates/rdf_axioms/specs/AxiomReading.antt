@@ -12,7 +12,7 @@ use Rattle.rdf_graph.specs.declared.term.Term.TheVariants.{Blank}
 use Rattle.rdf_graph.specs.declared.triple.Triple.{Triple}
 use Rattle.rdf_meaning.specs.Denotation.{of_node, of_triple}
 use Rattle.rdf_meaning.specs.Statements.{IsAxiomWith}
-use Rattle.rdf_sayable.specs.Parts.{leaves}
+use Rattle.owl_doc.specs.Parts.{leaves}
 use Rattle.rdf_sayable.specs.Sayable.{AreSayable}
 use Rattle.rdf_normal.specs.Tidied.{IsPlain}
 use Rattle.rdf_mapping.specs.Drawing.{Statement, linked, linked_back, looped, standing, unsaid, statement_of}

@@ -1,6 +1,6 @@
 //! The triples of an ontology's header.
 
-ghost use Rattle.std.specs.Prelude.{◌≡◌, ◌∷◌, ◌++◌, [], OnOk};
+ghost use Rattle.std.specs.Prelude.{◌≡◌, OnOk};
 ghost use Rattle.owl_doc.specs.Documents.{ontology_of};
 ghost use Rattle.rdf_graph.specs.declared.term.Term.TheVariants as held;
 ghost use Rattle.rdf_meaning.specs.declared.word.Word.TheVariants as word_of;

@@ -1,6 +1,6 @@
 //! The triples of annotations.
 
-ghost use Rattle.std.specs.Prelude.{◌≡◌, ◌<◌, ◌∷◌, [], IfOk, IfSome, IsNone, OnOk, length};
+ghost use Rattle.std.specs.Prelude.{◌≡◌, ◌<◌, [], IfOk, IfSome, IsNone, OnOk, length};
 ghost use Rattle.owl_arena.specs.Held.{AreHeld, tree_at};
 ghost use Rattle.rdf_meaning.specs.declared.word.Word.TheVariants as word_of;
 ghost use Rattle.rdf_mapping.specs.Forms.{link};

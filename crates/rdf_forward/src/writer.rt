@@ -1,6 +1,6 @@
 //! The triples of an ontology, as they are made.
 
-ghost use Rattle.std.specs.Prelude.{◌≡◌, ◌<◌, ◌∷◌, [], IfOk, OnOk, length};
+ghost use Rattle.std.specs.Prelude.{◌≡◌, ◌<◌, [], IfOk, OnOk, length};
 ghost use Rattle.owl_arena.specs.Held.{tree_at};
 ghost use Rattle.rdf_graph.specs.Terms.{IsSubject};
 ghost use Rattle.rdf_mapping.specs.Forms.{first_iri, rest_iri, term_of};

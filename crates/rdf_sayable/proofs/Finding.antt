@@ -6,7 +6,7 @@ use Rattle.std.proofs.lemmas.Option.{none-some}
 use Rattle.owl_arena.specs.Held.{Held}
 use Rattle.owl_doc.specs.declared.item.Cant.{Cant}
 use Rattle.owl_doc.specs.Documents.{Document, IsDocument, ontology_of}
-use Rattle.rdf_sayable.specs.Parts.{Part, leaves_at, leaves_in, of_header, part_at, parts_of}
+use Rattle.owl_doc.specs.Parts.{Part, leaves_at, leaves_in, of_header, part_at, parts_of}
 use Rattle.rdf_sayable.specs.Reasons.{Objection, why_seen}
 use Rattle.rdf_sayable.specs.Sayable.{CanSay, CanSayAll, FindsUnsayable, IsFirstUnsayable, first_objection}
 use Rattle.rdf_sayable.proofs.SayableLaws.{no_objection, not_all_said, sayable_none}

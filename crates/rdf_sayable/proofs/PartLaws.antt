@@ -15,7 +15,7 @@ use Rattle.owl_tree.specs.Order.{tree_cmp}
 use Rattle.owl_tree.specs.OrderLaws.{only_equal_trees_tie, trees_total}
 use Rattle.owl_tree.specs.Rows.{row_of, set_start}
 use Rattle.owl_tree.specs.Trees.{Tree, Kids, leaf, node, no_kids, kid, kids_of}
-use Rattle.rdf_sayable.specs.Parts.{IsFirstWithout, Leaf, Part, leaves, leaves_of, of_axiom, of_header, parts_of}
+use Rattle.owl_doc.specs.Parts.{IsFirstWithout, Leaf, Part, leaves, leaves_of, of_axiom, of_header, parts_of}
 
 -- the leaves of these trees, and of those behind them
 pub leaves_both : (ts us : List Tree) → leaves_of (kids_of (ts ++ us)) ≡ leaves_of (kids_of ts) ++ leaves_of (kids_of us)

@@ -9,7 +9,7 @@ use Rattle.owl_list.proofs.AscendingLaws.{all_before_map, all_from, all_in, all_
 use Rattle.owl_tree.specs.Equivalence.{IsEquivalent}
 use Rattle.owl_tree.specs.Ontologies.{IsSameOntology, Ontology, canonical_list}
 use Rattle.owl_tree.specs.Trees.{Tree, kids_of}
-use Rattle.rdf_sayable.specs.Parts.{Leaf, Part, leaves, leaves_in, leaves_of, of_axiom, ontology_leaves, parts_of}
+use Rattle.owl_doc.specs.Parts.{Leaf, Part, leaves, leaves_in, leaves_of, of_axiom, ontology_leaves, parts_of}
 use Rattle.rdf_sayable.proofs.PartLaws.{canonical_list_leaves, equivalent_leaves, first_once, from_leaf, leaf_in, leaves_both, no_first, same_parts}
 use Rattle.rdf_sayable.specs.Reasons.{Objection}
 use Rattle.rdf_sayable.specs.Sayable.{AreSayable, CanSay, CanSayAll, IsFirstAgainst, IsFirstUnsayable, first_objection, objection}

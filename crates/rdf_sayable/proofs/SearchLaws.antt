@@ -7,7 +7,7 @@ use Rattle.owl_doc.specs.Documents.{Document, IsDocument, ontology_of}
 use Rattle.owl_list.proofs.AscendingLaws.{all_pushed}
 use Rattle.owl_tree.specs.Ontologies.{Ontology}
 use Rattle.owl_tree.specs.Trees.{Tree}
-use Rattle.rdf_sayable.specs.Parts.{IsFirstWithout, Part, of_axiom, of_header, parts_of}
+use Rattle.owl_doc.specs.Parts.{IsFirstWithout, Part, of_axiom, of_header, parts_of}
 
 -- the axioms with these numbers
 abbrev pub axioms_at : List Tree → List ℕ → List Part

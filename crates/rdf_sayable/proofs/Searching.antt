@@ -8,7 +8,7 @@ use Rattle.owl_arena.specs.Held.{tree_at, trees_at}
 use Rattle.owl_tree.specs.declared.atom.Atom.{Atom}
 use Rattle.owl_tree.proofs.TreeLaws.{kids_of_list_of}
 use Rattle.owl_tree.specs.Trees.{Tree, leaf, node, atom_in, kids_in, kids_of, tag_of}
-use Rattle.rdf_sayable.specs.Parts.{Leaf, leaves, leaves_at, leaves_of}
+use Rattle.owl_doc.specs.Parts.{Leaf, leaves, leaves_at, leaves_of}
 use Rattle.rdf_sayable.proofs.PartLaws.{leaves_both}
 use Rattle.rdf_sayable.specs.Reasons.{Objection}
 use Rattle.rdf_sayable.specs.Sayable.{atom_objection, first_objection, objection}

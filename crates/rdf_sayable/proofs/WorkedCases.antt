@@ -9,7 +9,7 @@ use Rattle.owl_tree.specs.declared.tag.Tag.TheVariants as tag
 use Rattle.owl_tree.specs.Trees.{Tree, leaf, node, kids_of}
 use Rattle.rdf_terms.specs.Datatypes.{datatype_map, is_in_map, ordered_row}
 use Rattle.rdf_terms.specs.Vocabulary.{is_reserved, owl, rdf, rdfs, xsd}
-use Rattle.rdf_sayable.specs.Parts.{leaves}
+use Rattle.owl_doc.specs.Parts.{leaves}
 use Rattle.rdf_sayable.specs.Reasons.{facet_name, reserved}
 use Rattle.rdf_sayable.specs.Sayable.{first_objection, iri_objection}
 

@@ -1,26 +1,21 @@
 -- What can be said in RDF (Mapping to RDF Graphs, sections 2 and 3).
-use Rattle.std.specs.Prelude.{◌≡◌, ℕ, Bool, ◌&&◌, ◌||◌, if◌then◌else◌, not, nat_eq, List, [], ◌∷◌, Option, None, Some, codes}
+use Rattle.std.specs.Prelude.{◌≡◌, ℕ, Bool, ◌||◌, if◌then◌else◌, nat_eq, List, [], ◌∷◌, Option, None, Some, codes}
 use Rattle.std.specs.List.{AllByRecursion, starts_with}
 use Rattle.std.specs.Option.{option_or}
 use Rattle.owl_characters.specs.Order.{text_eq}
 use Rattle.owl_doc.specs.declared.item.Cant.{Cant}
 use Rattle.owl_doc.specs.Documents.{Document}
-use Rattle.owl_doc.specs.Entities.{IsHeldItem}
+use Rattle.owl_doc.specs.Entities.{IsHeldItem, is_misused}
 use Rattle.owl_kind.specs.declared.kind.Kind.{Kind}
 use Rattle.owl_kind.specs.declared.kind.Kind.TheVariants.{Class, Datatype, ObjectProperty, DataProperty, AnnotationProperty, Individual}
-use Rattle.owl_kind.specs.Kinds.{is_built_in}
 use Rattle.owl_tree.specs.declared.atom.Atom.{Atom}
 use Rattle.owl_tree.specs.declared.atom.Atom.TheVariants as atom
 use Rattle.owl_tree.specs.declared.tag.Tag.{Tag}
 use Rattle.owl_tree.specs.declared.tag.Tag.TheVariants as tag
 use Rattle.owl_tree.specs.Ontologies.{Ontology}
-use Rattle.rdf_terms.specs.Vocabulary.{is_reserved, rdf, xsd}
-use Rattle.rdf_sayable.specs.Parts.{IsFirstWithout, Leaf, Part, leaves_in, part_at, parts_of}
+use Rattle.rdf_terms.specs.Vocabulary.{rdf, xsd}
+use Rattle.owl_doc.specs.Parts.{IsFirstWithout, Leaf, Part, leaves_in, part_at, parts_of}
 use Rattle.rdf_sayable.specs.Reasons.{Objection, facet_name, reserved, why_seen}
-
--- A reserved IRI (Structural Specification, section 2.4) means what it is built in as, and nothing else.
-abbrev pub is_misused : Kind → List ℕ → Bool
-is_misused kind iri = is_reserved iri && not (is_built_in kind iri)
 
 -- By its predicate alone a triple is known to say a facet, so each facet has an IRI of XML Schema, or is rdf:langRange.
 abbrev pub is_facet_name : List ℕ → Bool

@@ -4,7 +4,7 @@ ghost use Rattle.std.specs.Prelude.{◌≡◌, ◌↔◌, Contains};
 ghost use Rattle.owl_tree.specs.Equivalence.{IsEquivalent};
 ghost use Rattle.owl_tree.specs.Ontologies.{IsSameOntology, Ontology};
 ghost use Rattle.owl_tree.specs.Trees.{Tree};
-ghost use Rattle.rdf_sayable.specs.Parts.{Leaf, Part, leaves_in, of_axiom, ontology_leaves};
+ghost use Rattle.owl_doc.specs.Parts.{Leaf, Part, leaves_in, of_axiom, ontology_leaves};
 ghost use Rattle.rdf_sayable.specs.Reasons.{Objection};
 ghost use Rattle.rdf_sayable.specs.Sayable.{AreSayable, CanSay, CanSayAll, IsFirstUnsayable};
 

@@ -6,12 +6,13 @@ ghost use Rattle.std.specs.Option.{option_map};
 ghost use Rattle.owl_characters.specs.Iri.{is_ascii};
 ghost use Rattle.owl_characters.specs.Order.{text_eq};
 ghost use Rattle.rdf_sayable.specs.Reasons.{why_seen};
-ghost use Rattle.rdf_sayable.specs.Sayable.{atom_objection, entity_objection, facet_objection, iri_objection, is_facet_name, is_misused};
+ghost use Rattle.owl_doc.specs.Entities.{is_misused};
+ghost use Rattle.rdf_sayable.specs.Sayable.{atom_objection, entity_objection, facet_objection, iri_objection, is_facet_name};
 
-use owl_doc::Why;
-use owl_kind::{Kind, built_in};
+use owl_doc::{Why, is_misused};
+use owl_kind::Kind;
 use owl_tree::{Atom, Tag};
-use rdf_terms::{Iri, XSD, rdf, reserved};
+use rdf_terms::{Iri, XSD, rdf};
 
 /// The facet of the ranges of languages (Structural Specification, section 4.3).
 const LANG_RANGE: &str = rdf!("langRange");
@@ -54,13 +55,6 @@ fn entity_objection<'a>(kind: Kind, iri: &'a Iri) -> Option<Why<'a>>
     } else {
         None
     }
-}
-
-/// Whether the IRI is reserved, and not built in as this kind.
-fn is_misused(kind: Kind, iri: &Iri) -> bool
-    ensures { result ≡ is_misused kind iri.now }
-{
-    reserved(iri) && !built_in(kind, iri)
 }
 
 /// What is to be said against the IRI of a facet: that no facet of RDF has it.

@@ -5,7 +5,7 @@ ghost use Rattle.std.specs.Option.{option_map};
 ghost use Rattle.owl_arena.specs.Held.{AreHeld, tree_at};
 ghost use Rattle.owl_doc.specs.Documents.{ontology_of};
 ghost use Rattle.owl_doc.specs.Entities.{IsHeldItem};
-ghost use Rattle.rdf_sayable.specs.Parts.{leaves, leaves_at, of_axiom, part_at};
+ghost use Rattle.owl_doc.specs.Parts.{leaves, leaves_at, of_axiom, part_at};
 ghost use Rattle.rdf_sayable.specs.Reasons.{why_seen};
 ghost use Rattle.rdf_sayable.specs.Sayable.{CanSayAll, FindsUnsayable, IsFirstUnsayable, first_objection};
 

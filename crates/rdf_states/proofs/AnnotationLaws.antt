@@ -5,7 +5,7 @@ use Rattle.std.specs.List.{list_all, list_any}
 use Rattle.std.proofs.lemmas.Bool.{and_from, and_parts, both_ways, cond-true}
 use Rattle.std.proofs.lemmas.List.Elements.{Contains-append_left, Contains-append_right}
 use Rattle.std.proofs.lemmas.Option.{none-some}
-use Rattle.owl_doc.specs.Entities.{AreWellTyped, entities, entities_of, kind_of}
+use Rattle.owl_doc.specs.Entities.{AreWellTyped, entities, entities_of, is_misused, kind_of}
 use Rattle.owl_kind.specs.declared.kind.Kind.TheVariants as kind
 use Rattle.owl_kind.specs.Kinds.{Entity, HasKind, is_built_in}
 use Rattle.owl_list.proofs.AscendingLaws.{from_map, in_head, in_tail}
@@ -28,9 +28,9 @@ use Rattle.rdf_meaning.specs.Denotation.{simple}
 use Rattle.rdf_meaning.specs.Kinds.{has_kind, may_be_declared}
 use Rattle.rdf_meaning.proofs.KindLaws.{has_kind_is}
 use Rattle.rdf_terms.specs.Vocabulary.{is_reserved}
-use Rattle.rdf_sayable.specs.Parts.{leaves, leaves_of}
+use Rattle.owl_doc.specs.Parts.{leaves, leaves_of}
 use Rattle.rdf_sayable.specs.Reasons.{Objection, reserved}
-use Rattle.rdf_sayable.specs.Sayable.{AreSayable, iri_objection, is_misused, objection}
+use Rattle.rdf_sayable.specs.Sayable.{AreSayable, iri_objection, objection}
 use Rattle.rdf_normal.proofs.NeedlessLaws.{any_if, both_true, from_filter, not_true, says_more_if}
 use Rattle.rdf_normal.specs.NormalForms.{is_annotated, is_needless, needed, needed_in, says_more, tidied, tidieds}
 use Rattle.rdf_normal.specs.OneTriple.{is_one_triple}

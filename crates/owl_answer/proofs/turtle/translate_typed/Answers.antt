@@ -1,7 +1,7 @@
 use Rattle.std.proofs.Common.{refl}
 use Rattle.std.proofs.lemmas.Result.{IfOk-weaker}
 use Rattle.owl_documents.specs.Documents.{said_of}
-use Rattle.rdf_sayable.specs.Parts.{part_at}
+use Rattle.owl_doc.specs.Parts.{part_at}
 use Rattle.rdf_sayable.specs.Reasons.{why_seen}
 use Rattle.owl_messages.specs.declared.answer.Answer.{Answer}
 use Rattle.owl_answer.proofs.Turtles.{ready_told, unsaid_told}

@@ -1,5 +1,5 @@
 use Rattle.std.proofs.Common.{refl}
-use Rattle.rdf_sayable.specs.Parts.{part_at}
+use Rattle.owl_doc.specs.Parts.{part_at}
 use Rattle.owl_answer.specs.Typing.{entity_found}
 use Rattle.owl_answer.specs.TurtleOutcome.{clashes, untyped}
 use Rattle.owl_answer.proofs.typing.typing_refusal.Goals as goal

@@ -2,7 +2,7 @@ use Rattle.std.proofs.Common.{◌∙◌, ◌<◌, List, arith, ap, length, sym}
 use Rattle.owl_arena.specs.Held.{tree_at}
 use Rattle.owl_list.proofs.AscendingLaws.{all_in, all_later}
 use Rattle.owl_tree.specs.Trees.{Tree, kids_of}
-use Rattle.rdf_sayable.specs.Parts.{leaves_of}
+use Rattle.owl_doc.specs.Parts.{leaves_of}
 use Rattle.rdf_sayable.specs.Reasons.{why_seen}
 use Rattle.rdf_sayable.specs.Sayable.{first_objection}
 use Rattle.rdf_sayable.proofs.Searching.{above_each, above_within, node_objection, one_more_said, said_first}

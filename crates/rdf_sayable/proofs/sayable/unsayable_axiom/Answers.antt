@@ -1,7 +1,7 @@
 use Rattle.std.proofs.Common.{◌∙◌, ◌<◌, ℕ, List, Contains, ap, length, subst, sym}
 use Rattle.owl_arena.specs.Held.{Held, tree_at}
 use Rattle.owl_list.proofs.AscendingLaws.{all_in}
-use Rattle.rdf_sayable.specs.Parts.{IsFirstWithout, leaves, of_axiom}
+use Rattle.owl_doc.specs.Parts.{IsFirstWithout, leaves, of_axiom}
 use Rattle.rdf_sayable.specs.Reasons.{why_seen}
 use Rattle.rdf_sayable.specs.Sayable.{CanSay, first_objection}
 use Rattle.rdf_sayable.proofs.SayableLaws.{no_objection}

@@ -5,6 +5,8 @@ use Rattle.owl_arena.specs.Held.{tree_at, trees_at}
 use Rattle.owl_doc.specs.declared.item.Item.{Item}
 use Rattle.owl_doc.specs.declared.item.Item.TheVariants.{Header, Axiom}
 use Rattle.owl_doc.specs.Documents.{Document, ontology_of}
+use Rattle.owl_doc.specs.Entities.{entities, entities_of}
+use Rattle.owl_kind.specs.Kinds.{Entity}
 use Rattle.owl_tree.specs.declared.atom.Atom.{Atom}
 use Rattle.owl_tree.specs.declared.tag.Tag.{Tag}
 use Rattle.owl_tree.specs.Ontologies.{Ontology, canonical_list}
@@ -37,6 +39,11 @@ pub data Part : Type 0 where
 abbrev pub leaves_in : Part → List Leaf
 leaves_in (of_header annotations) = leaves_of (kids_of annotations)
 leaves_in (of_axiom t) = leaves t
+
+-- the entities of a part, from left to right
+abbrev pub part_entities : Part → List Entity
+part_entities (of_header annotations) = entities_of (kids_of annotations)
+part_entities (of_axiom t) = entities t
 
 -- the header, and then the axioms in canonical order
 abbrev pub parts_of : Ontology → List Part
