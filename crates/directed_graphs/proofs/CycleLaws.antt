@@ -1,34 +1,21 @@
 -- Laws of ways, and of orders.
-use Rattle.std.proofs.Common.{◌≡◌, ◌<◌, inl, inr, ℕ, List, [], ◌∷◌, length, subst, sym, ◌∙◌, arith}
+use Rattle.std.proofs.Common.{◌<◌, inl, inr, ℕ, List, [], ◌∷◌, length, subst, sym, ◌∙◌, arith}
 use Rattle.std.specs.Prelude.{Contains}
 use Rattle.std.specs.List.{range_with_len}
-use Rattle.std.proofs.lemmas.Bool.Decides.{leb_tells}
-use Rattle.std.specs.declared.vec.Vec.{Vec}
-use Rattle.std.proofs.lemmas.List.{get_or_past, length-map}
 use Rattle.std.proofs.lemmas.List.FromFn.{get_or-range_with_len, length-range_with_len}
 use Rattle.std.proofs.lemmas.List.Sorted.{Contains-permutation}
 use Rattle.owl_list.proofs.AscendingLaws.{in_none, in_cases, in_head, in_tail}
-use Rattle.directed_graphs.specs.Cycles.{IsOnCycle, IsOrder, Leads, StandBehind, edges_of, one_more, one_step, successors}
+use Rattle.directed_graphs.specs.Cycles.{IsOnCycle, IsOrder, Leads, StandBehind, one_more, one_step, successors}
+pub use Rattle.graph_walks.proofs.EdgeLaws.{begins_within, graph_size}
 
 -- a number below so many is among them
 pub in_range : (count node : ℕ) → node < count → Contains (range_with_len 0 count) node
 in_range count node h = (node, subst (λ n. node < n) (sym (length-range_with_len 0 count)) h, get_or-range_with_len 0 count node node h ∙ omega arith)
 
-pub graph_size : {Z : Type 0} (edges : List (Vec ℕ Z)) → length (edges_of edges) ≡ length edges
-graph_size {Z} edges = length-map edges (λ (nodes : Vec ℕ Z). nodes.items)
-
 module _ (edges : List (List ℕ)) where
-  -- what has an edge is a node
-  pub begins_within : (from next : ℕ) → Contains (successors edges from) next → from < length edges
-  begins_within from next h =
-      elim (leb_tells (length edges) from) as (λ _. from < length edges) [
-        | inl past ↦ absurd (in_none next (subst (λ nodes. Contains nodes next) (get_or_past edges from [] past.1) h))
-        | inr before ↦ before.1
-      ]
-
   pub leads_within : (from to : ℕ) → Leads edges from to → from < length edges
-  leads_within from to (one_step _ _ h) = begins_within from to h
-  leads_within from to (one_more _ next _ h more) = begins_within from next h
+  leads_within from to (one_step _ _ h) = begins_within edges from to h
+  leads_within from to (one_more _ next _ h more) = begins_within edges from next h
 
   pub leads_further : (from next to : ℕ) → Leads edges from next → Contains (successors edges next) to → Leads edges from to
   leads_further from next to (one_step _ _ h) last = one_more from next to h (one_step next to last)

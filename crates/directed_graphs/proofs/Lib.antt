@@ -1,4 +1,3 @@
 pub mod CycleLaws
-pub mod Finding
 pub mod Ranking
 pub mod Reaching

@@ -1,18 +1,10 @@
--- Directed graphs, their cycles, and orders of their nodes. A graph is the list of the successors of each node; its nodes are the numbers
--- below the length of that list. An edge may lead to another number, from which none goes on.
-use Rattle.std.specs.Prelude.{◌<◌, ℕ, List, [], ◌∷◌, length, map, Contains, slice_index_or}
+-- Directed graphs, their cycles, and orders of their nodes.
+use Rattle.std.specs.Prelude.{◌<◌, ℕ, List, [], ◌∷◌, length, Contains}
 use Rattle.std.specs.List.{range_with_len}
 use Rattle.std.specs.List.Sorted.{IsPermutation}
-use Rattle.std.specs.declared.vec.Vec.{Vec}
+pub use Rattle.graph_walks.specs.Edges.{edges_of, successors}
 use Rattle.directed_graphs.specs.declared.order.Order.{Order}
 use Rattle.directed_graphs.specs.declared.order.Order.TheVariants.{Of, Cycle}
-
-abbrev pub edges_of : {Z : Type 0} → List (Vec ℕ Z) → List (List ℕ)
-edges_of = map (λ nodes. nodes.items)
-
--- the nodes to which the edges of a node lead
-abbrev pub successors : List (List ℕ) → ℕ → List ℕ
-successors edges node = slice_index_or edges node []
 
 -- from the one to the other leads a way of one edge or more
 pub data Leads (edges : List (List ℕ)) : ℕ → ℕ → Type 0 where

@@ -1,3 +1,3 @@
 pub mod Cycles
 pub mod Ranks
-pub mod Searches
+pub mod Reach

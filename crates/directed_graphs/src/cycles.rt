@@ -4,7 +4,8 @@ ghost use Rattle.std.specs.Prelude.{◌↔◌, IfOk, IsTrue, MatchOption};
 ghost use Rattle.directed_graphs.specs.Cycles.{HasNoCycle, IsFirstOnCycle, IsOnCycle, edges_of};
 
 use crate::ranks::{goes_down, none_goes_up};
-use crate::reach::found_from;
+use crate::reach::reach_marks;
+use graph_walks::has_mark;
 use owl_characters::NoMemory;
 use std::alloc::{AllocError, Global};
 
@@ -34,6 +35,6 @@ pub fn first_on_cycle(
 fn is_on_cycle(alloc: Global, edges: &[Vec<usize>], node: usize) -> Result<bool, AllocError>
     ensures { IfOk result (λ answer. IsTrue answer ↔ IsOnCycle (edges_of edges.now) node) }
 {
-    let found = found_from(alloc, edges, node)?;
-    Ok(found.has(node))
+    let marks = reach_marks(alloc, edges, node)?;
+    Ok(has_mark(&marks, node))
 }

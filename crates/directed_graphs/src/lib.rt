@@ -3,15 +3,11 @@
 //! the least node on a cycle.
 #![tactic(auto)]
 
-mod components;
 mod cycles;
-mod edges;
-mod found;
 mod laws;
 mod order;
 mod ranks;
 mod reach;
 
-pub use components::component_ranks;
 pub use laws::ordered_nodes_are_on_no_cycle;
 pub use order::{Order, order_nodes};

@@ -3,10 +3,10 @@
 ghost use Rattle.std.specs.Prelude.{IfOk};
 ghost use Rattle.directed_graphs.specs.Cycles.{HasNoCycle, IsAnswer, IsOrder, edges_of};
 
-use crate::components::component_ranks;
 use crate::cycles::first_on_cycle;
 use crate::ranks::{all_go_down, nodes_by_rank};
 use crate::reach::reach_counts;
+use graph_walks::component_ranks;
 use owl_characters::NoMemory;
 use std::alloc::Global;
 

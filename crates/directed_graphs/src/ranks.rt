@@ -5,7 +5,7 @@ ghost use Rattle.std.specs.List.{range_with_len};
 ghost use Rattle.directed_graphs.specs.Cycles.{edges_of};
 ghost use Rattle.directed_graphs.specs.Ranks.{AllGoDown, AreByRank, GoesDown, NeverGoesUp, NoneGoesUp, rank_in};
 
-use crate::edges::successors;
+use graph_walks::successors;
 use std::alloc::{AllocError, Global};
 
 /// Whether all edges lead to lower ranks.

@@ -1,11 +1,12 @@
 //! The nodes to which ways lead from a node.
 
 ghost use Rattle.std.specs.Prelude.{◌≡◌, IfOk, length};
-ghost use Rattle.directed_graphs.specs.Cycles.{edges_of};
-ghost use Rattle.directed_graphs.specs.Searches.{AreMarked, AreReachCounts, HoldsReached};
+ghost use Rattle.std.specs.List.{count_by};
+ghost use Rattle.directed_graphs.specs.Cycles.{Leads, edges_of};
+ghost use Rattle.directed_graphs.specs.Reach.{AreReachCounts};
+ghost use Rattle.graph_walks.specs.Marks.{MarkNumbers};
 
-use crate::edges::successors;
-use crate::found::Found;
+use graph_walks::{reached_along, successors};
 use std::alloc::{AllocError, Global};
 
 /// For each node the number of nodes to which ways lead from it. The time grows
@@ -16,26 +17,27 @@ pub fn reach_counts(alloc: Global, edges: &[Vec<usize>]) -> Result<Vec<usize>, A
 {
     let mut counts = Vec::new(alloc);
     for node in 0..edges.len() {
-        let found = found_from(alloc, edges, node)?;
-        counts.push(found.count())?;
+        let marks = reach_marks(alloc, edges, node)?;
+        counts.push(count(&marks))?;
     }
     Ok(counts)
 }
 
-/// The nodes to which ways lead from this one, found in breadth.
-pub fn found_from(alloc: Global, edges: &[Vec<usize>], node: usize) -> Result<Found, AllocError>
-    ensures marked { IfOk result AreMarked }
-    ensures graph { IfOk result (λ found. length found.marks.items ≡ length edges.now) }
-    ensures found { IfOk result (λ found.
-        HoldsReached (edges_of edges.now) node found.nodes.items) }
+/// For each node whether a way leads to it from this one.
+pub fn reach_marks(
+    alloc: Global,
+    edges: &[Vec<usize>],
+    node: usize,
+) -> Result<Vec<bool>, AllocError>
+    ensures { IfOk result (λ marks.
+        MarkNumbers (length edges.now) (Leads (edges_of edges.now) node) marks.items) }
 {
-    let mut found = Found::none(alloc, edges.len())?;
-    found.find_all(successors(edges, node))?;
-    for place in 0..edges.len() {
-        match found.node_at(place) {
-            Some(from) => found.find_all(successors(edges, from))?,
-            None => return Ok(found),
-        }
-    }
-    Ok(found)
+    reached_along(alloc, edges, successors(edges, node))
+}
+
+/// How many marks are true.
+fn count(marks: &[bool]) -> usize
+    ensures { result ≡ count_by (λ mark. mark) marks.now }
+{
+    marks.iter().filter(|mark| **mark).count()
 }

@@ -1,15 +1,70 @@
--- Edges that are made pair by pair.
-use Rattle.std.proofs.Common.{◌≡◌, ◌<◌, ◌+◌, ◌-◌, ◌++◌, inl, inr, ℕ, zero, suc, List, [], ◌∷◌, length, get_or, set, take, refl, sym, ap, ◌∙◌, subst}
+-- Laws of edges, and edges that are made pair by pair.
+use Rattle.std.proofs.Common.{◌≡◌, ◌<◌, ◌+◌, ◌-◌, ◌++◌, inl, inr, ℕ, zero, suc, List, [], ◌∷◌, length, get_or, set, map, take, refl, sym, ap, ◌∙◌, subst, arith}
 use Rattle.std.specs.Prelude.{◌↔◌, Contains}
 use Rattle.std.specs.declared.vec.Vec.{Vec}
 use Rattle.std.proofs.lemmas.Bool.{cases_eq, cases_lt}
-use Rattle.std.proofs.lemmas.List.{get_or-append_right, get_or-map, get_or-set_other, get_or-set_same, get_or_append_left, length-set, map-append, map-set, take_more}
-use Rattle.std.proofs.lemmas.List.Elements.{Contains-append_left, Contains-get_or, Contains-push, Contains-push_cases}
-use Rattle.owl_list.proofs.AscendingLaws.{in_none}
-use Rattle.directed_graphs.specs.Cycles.{edges_of, successors}
-use Rattle.directed_graphs.proofs.CycleLaws.{graph_size}
-use Rattle.graph_walks.specs.Edges.{AreEdges}
+use Rattle.std.proofs.lemmas.List.{get_or-append_right, get_or-map, get_or-set_other, get_or-set_same, get_or_append_left, get_or_past, length-map, map-append, map-set, take_more}
+use Rattle.std.proofs.lemmas.List.Elements.{Contains-append_cases, Contains-append_left, Contains-append_right, Contains-get_or, Contains-push, Contains-push_cases}
+use Rattle.owl_list.proofs.AscendingLaws.{from_map, in_map, in_none}
+use Rattle.graph_walks.specs.Edges.{AreEdges, edges_of, successors}
 use Rattle.graph_walks.specs.Walks.{AreWithin}
+
+pub graph_size : {Z : Type 0} (edges : List (Vec ℕ Z)) → length (edges_of edges) ≡ length edges
+graph_size {Z} edges = length-map edges (λ (nodes : Vec ℕ Z). nodes.items)
+
+-- what has an edge is a node
+pub begins_within : (edges : List (List ℕ)) (from next : ℕ) → Contains (successors edges from) next → from < length edges
+begins_within edges from next h =
+    elim (cases_lt from (length edges)) as (λ _. from < length edges) [
+      | inl before ↦ before
+      | inr past ↦ absurd (in_none next (subst (λ (nodes : List ℕ). Contains nodes next) (get_or_past edges from [] past) h))
+    ]
+
+abbrev own : List ℕ → List (ℕ × ℕ)
+own nexts = map (λ (y : ℕ). (0, y)) nexts
+
+abbrev behind : ℕ × ℕ → ℕ × ℕ
+behind pair = (suc pair.0, pair.1)
+
+-- the pairs that lead along the edges
+pub pairs_of : List (List ℕ) → List (ℕ × ℕ)
+pairs_of [] = []
+pairs_of (nexts ∷ edges) = own nexts ++ map behind (pairs_of edges)
+
+abbrev later : List (List ℕ) → List (ℕ × ℕ)
+later edges = map behind (pairs_of edges)
+
+-- for each node those to which they lead
+pub pairs_tell : (edges : List (List ℕ)) → AreEdges (pairs_of edges) edges
+unfolding pairs_of
+pairs_tell [] x y = (
+  λ m. absurd (in_none y m),
+  λ m. absurd (in_none {X = ℕ × ℕ} (x, y) m),
+)
+pairs_tell (nexts ∷ edges) zero y = (
+  λ m. Contains-append_left (own nexts) (later edges) (0, y) (in_map (λ (z : ℕ). (0, z)) nexts y m),
+  λ m. elim (Contains-append_cases (own nexts) (later edges) (0, y) m) as (λ _. Contains nexts y) [
+    | inl n ↦
+        let v = from_map (λ (z : ℕ). (0, z)) nexts (0, y) n in
+        subst (λ (z : ℕ). Contains nexts z) (ap (λ (p : ℕ × ℕ). p.1) v.value) v.inside
+    | inr n ↦
+        let v = from_map behind (pairs_of edges) (0, y) n in
+        absurd (let e = ap (λ (p : ℕ × ℕ). p.0) v.value in cc)
+  ],
+)
+pairs_tell (nexts ∷ edges) (suc x) y = (
+  λ m. Contains-append_right (own nexts) (later edges) (suc x, y) (in_map behind (pairs_of edges) (x, y) ((pairs_tell edges x y).0 m)),
+  λ m. elim (Contains-append_cases (own nexts) (later edges) (suc x, y) m) as (λ _. Contains (successors edges x) y) [
+    | inl n ↦
+        let v = from_map (λ (z : ℕ). (0, z)) nexts (suc x, y) n in
+        absurd (let e = ap (λ (p : ℕ × ℕ). p.0) v.value in cc)
+    | inr n ↦
+        let v = from_map behind (pairs_of edges) (suc x, y) n in
+        let from : v.element.0 ≡ x = (let e : suc v.element.0 ≡ suc x = ap (λ (p : ℕ × ℕ). p.0) v.value in omega arith) in
+        let to : v.element.1 ≡ y = ap (λ (p : ℕ × ℕ). p.1) v.value in
+        (pairs_tell edges x y).1 (subst (λ (z : ℕ). Contains (pairs_of edges) (x, z)) to (subst (λ (z : ℕ). Contains (pairs_of edges) (z, v.element.1)) from v.inside))
+  ],
+)
 
 one_empty : (k : ℕ) → get_or {A = List ℕ} ([] ∷ []) k [] ≡ []
 one_empty zero = refl
@@ -35,42 +90,28 @@ one_more_empty {Z} old new last empty grown none =
     subst (λ (edges : List (List ℕ)). successors edges x ≡ []) (sym same) (empty_more (edges_of old) x (empty x))
 
 pub empty_edges : (edges : List (List ℕ)) → AreEmpty edges → AreEdges [] edges
-empty_edges edges empty = record {
-  within = λ x y m. absurd (in_none {X = ℕ × ℕ} (x, y) m);
-  told = λ x y. (
-    λ m. absurd (in_none y (subst (λ (nexts : List ℕ). Contains nexts y) (empty x) m)),
-    λ m. absurd (in_none {X = ℕ × ℕ} (x, y) m),
-  );
-}
+empty_edges edges empty =
+    λ x y. (
+      λ m. absurd (in_none y (subst (λ (nexts : List ℕ). Contains nexts y) (empty x) m)),
+      λ m. absurd (in_none {X = ℕ × ℕ} (x, y) m),
+    )
 
 -- the edges with one more
 abbrev grown : List (List ℕ) → ℕ → ℕ → List (List ℕ)
 grown edges from to = set edges from (successors edges from ++ to ∷ [])
 
-module _ (pairs : List (ℕ × ℕ)) (edges : List (List ℕ)) (from to : ℕ) (h : AreEdges pairs edges) (begins : from < length edges) (ends : to < length edges) where
-  within_more : AreWithin (length (grown edges from to)) (pairs ++ (from, to) ∷ [])
-  within_more =
-      λ x y m.
-      let size : length edges ≡ length (grown edges from to) = sym (length-set edges from (successors edges from ++ to ∷ [])) in
-      elim (Contains-push_cases pairs (from, to) (x, y) m) as (λ _. (x < length (grown edges from to)) × (y < length (grown edges from to))) [
-        | inl n ↦ (subst (λ k. x < k) size (h.within x y n).0, subst (λ k. y < k) size (h.within x y n).1)
-        | inr e ↦ (
-          subst (λ k. x < k) size (subst (λ k. k < length edges) (ap (λ (p : ℕ × ℕ). p.0) e) begins),
-          subst (λ k. y < k) size (subst (λ k. k < length edges) (ap (λ (p : ℕ × ℕ). p.1) e) ends),
-        )
-      ]
-
+module _ (pairs : List (ℕ × ℕ)) (edges : List (List ℕ)) (from to : ℕ) (h : AreEdges pairs edges) (begins : from < length edges) where
   -- at the node that it leads from
   told_here : (y : ℕ) → Contains (successors (grown edges from to) from) y ↔ Contains (pairs ++ (from, to) ∷ []) (from, y)
   told_here y =
       let now : successors (grown edges from to) from ≡ successors edges from ++ to ∷ [] =
       get_or-set_same edges from (successors edges from ++ to ∷ []) [] begins in (
         λ m. elim (Contains-push_cases (successors edges from) to y (subst (λ (nexts : List ℕ). Contains nexts y) now m)) as (λ _. Contains (pairs ++ (from, to) ∷ []) (from, y)) [
-          | inl n ↦ Contains-append_left pairs ((from, to) ∷ []) (from, y) ((h.told from y).0 n)
+          | inl n ↦ Contains-append_left pairs ((from, to) ∷ []) (from, y) ((h from y).0 n)
           | inr e ↦ subst (λ (z : ℕ). Contains (pairs ++ (from, to) ∷ []) (from, z)) e (Contains-push pairs (from, to))
         ],
         λ m. subst (λ (nexts : List ℕ). Contains nexts y) (sym now) (elim (Contains-push_cases pairs (from, to) (from, y) m) as (λ _. Contains (successors edges from ++ to ∷ []) y) [
-          | inl n ↦ Contains-append_left (successors edges from) (to ∷ []) y ((h.told from y).1 n)
+          | inl n ↦ Contains-append_left (successors edges from) (to ∷ []) y ((h from y).1 n)
           | inr e ↦ subst (λ (z : ℕ). Contains (successors edges from ++ to ∷ []) z) (ap (λ (p : ℕ × ℕ). p.1) e) (Contains-push (successors edges from) to)
         ]),
       )
@@ -80,21 +121,19 @@ module _ (pairs : List (ℕ × ℕ)) (edges : List (List ℕ)) (from to : ℕ) (
   told_else x y differs =
       let now : successors (grown edges from to) x ≡ successors edges x =
       get_or-set_other edges from x (successors edges from ++ to ∷ []) [] differs in (
-        λ m. Contains-append_left pairs ((from, to) ∷ []) (x, y) ((h.told x y).0 (subst (λ (nexts : List ℕ). Contains nexts y) now m)),
+        λ m. Contains-append_left pairs ((from, to) ∷ []) (x, y) ((h x y).0 (subst (λ (nexts : List ℕ). Contains nexts y) now m)),
         λ m. subst (λ (nexts : List ℕ). Contains nexts y) (sym now) (elim (Contains-push_cases pairs (from, to) (x, y) m) as (λ _. Contains (successors edges x) y) [
-          | inl n ↦ (h.told x y).1 n
+          | inl n ↦ (h x y).1 n
           | inr e ↦ absurd (differs (sym (ap (λ (p : ℕ × ℕ). p.0) e)))
         ]),
       )
 
   one_more_edge : AreEdges (pairs ++ (from, to) ∷ []) (grown edges from to)
-  one_more_edge = record {
-    within = within_more;
-    told = λ x y. elim (cases_eq x from) as (λ _. Contains (successors (grown edges from to) x) y ↔ Contains (pairs ++ (from, to) ∷ []) (x, y)) [
-      | inl e ↦ subst (λ (z : ℕ). Contains (successors (grown edges from to) z) y ↔ Contains (pairs ++ (from, to) ∷ []) (z, y)) (sym e) (told_here y)
-      | inr differs ↦ told_else x y differs
-    ];
-  }
+  one_more_edge =
+      λ x y. elim (cases_eq x from) as (λ _. Contains (successors (grown edges from to) x) y ↔ Contains (pairs ++ (from, to) ∷ []) (x, y)) [
+        | inl e ↦ subst (λ (z : ℕ). Contains (successors (grown edges from to) z) y ↔ Contains (pairs ++ (from, to) ∷ []) (z, y)) (sym e) (told_here y)
+        | inr differs ↦ told_else x y differs
+      ]
 
 abbrev nexts_of : {Z : Type 0} → Vec ℕ Z → List ℕ
 nexts_of nodes = nodes.items
@@ -119,5 +158,5 @@ one_more_pair {Z} nodes pairs index old new was now within inside size edges rea
     ap (edges_of {Z = Z}) put ∙ map-set (nexts_of {Z = Z}) old pair.0 now
     ∙ ap (λ (xs : List ℕ). set (edges_of old) pair.0 xs) (pushed ∙ ap (λ (xs : List ℕ). xs ++ pair.1 ∷ []) (sym nexts)) in
     let more : AreEdges (take index pairs ++ pair ∷ []) (edges_of new) =
-    subst (AreEdges (take index pairs ++ pair ∷ [])) (sym moved) (one_more_edge (take index pairs) (edges_of old) pair.0 pair.1 edges (subst (λ k. pair.0 < k) many ends.0) (subst (λ k. pair.1 < k) many ends.1)) in
+    subst (AreEdges (take index pairs ++ pair ∷ [])) (sym moved) (one_more_edge (take index pairs) (edges_of old) pair.0 pair.1 edges (subst (λ k. pair.0 < k) many ends.0)) in
     subst (λ (some : List (ℕ × ℕ)). AreEdges some (edges_of new)) (sym (take_more pairs index (0, 0) inside)) more

@@ -1,5 +1,5 @@
 -- Cycles and faults by numbers of parts, and faults by searches.
-use Rattle.std.proofs.Common.{◌≡◌, ◌↔◌, ◌++◌, ℕ, true, false, List, [], ◌∷◌, length, get_or, map, sym, ◌∙◌}
+use Rattle.std.proofs.Common.{◌≡◌, ◌<◌, ◌↔◌, ◌++◌, ℕ, true, false, List, [], ◌∷◌, length, get_or, map, sym, ◌∙◌}
 use Rattle.std.specs.Prelude.{Contains}
 use Rattle.std.proofs.lemmas.Bool.{false≢true}
 use Rattle.std.proofs.lemmas.List.Elements.{Contains-append_left, Contains-append_right, Contains-get_or}
@@ -10,7 +10,7 @@ use Rattle.graph_walks.specs.Searches.{HoldsReached}
 use Rattle.graph_walks.specs.Walks.{AreWithin, Walks}
 use Rattle.graph_walks.proofs.MarkLaws.{marks_by}
 use Rattle.graph_walks.proofs.Parting.{level_tells}
-use Rattle.graph_walks.proofs.WalkLaws.{from_one, one_step, to_one, walk_among, walk_on}
+use Rattle.graph_walks.proofs.WalkLaws.{from_one, one_step, to_one, walk_among, walk_keeps, walk_on}
 
 -- a pair is on a cycle exactly where its nodes have one number
 pub cycle_marks : (nodes : ℕ) (pairs : List (ℕ × ℕ)) (numbers : List ℕ) → AreWithin nodes pairs → AreParts nodes pairs numbers → MarkEach (λ (place : ℕ) (pair : ℕ × ℕ). Walks pairs pair.1 pair.0) pairs (map (is_level numbers) pairs)
@@ -25,12 +25,13 @@ cycle_marks nodes pairs numbers within parts =
     ))
 
 -- three searches, each from what the one before found
-pub fault_by_searches : (leads below : List (ℕ × ℕ)) (x y : ℕ) (above led under : List ℕ) → HoldsReached below (y ∷ []) above → HoldsReached leads above led → HoldsReached below led under → Contains under x ↔ IsFault leads below x y
-fault_by_searches leads below x y above led under first second third = (
+pub fault_by_searches : (nodes : ℕ) (leads below : List (ℕ × ℕ)) (x y : ℕ) (above led under : List ℕ) → AreWithin nodes leads → AreWithin nodes below → Contains below (x, y) →
+    HoldsReached nodes below (y ∷ []) above → HoldsReached nodes leads above led → HoldsReached nodes below led under → Contains under x ↔ IsFault leads below x y
+fault_by_searches nodes leads below x y above led under leads_within below_within step first second third = (
   λ m.
-      let last = (third x).0 m in
-      let across = (second last.start).0 last.among in
-      let up = (first across.start).0 across.among in
+      let last = third.reached x m in
+      let across = second.reached last.start last.among in
+      let up = first.reached across.start across.among in
       record {
         upper = across.start;
         lower = last.start;
@@ -39,9 +40,12 @@ fault_by_searches leads below x y above led under first second third = (
         under = last.way;
       },
   λ fault.
-      let up : Contains above fault.upper = (first fault.upper).1 (to_one below y fault.upper fault.above) in
-      let across : Contains led fault.lower = (second fault.lower).1 (record { start = fault.upper; among = up; way = fault.led }) in
-      (third x).1 (record { start = fault.lower; among = across; way = fault.under }),
+      let ends = below_within x y step in
+      let high : fault.upper < nodes = walk_keeps below (λ z. z < nodes) (λ z w s h. (below_within z w s).1) y fault.upper fault.above ends.1 in
+      let low : fault.lower < nodes = walk_keeps leads (λ z. z < nodes) (λ z w s h. (leads_within z w s).1) fault.upper fault.lower fault.led high in
+      let up : Contains above fault.upper = first.all fault.upper high (to_one below y fault.upper fault.above) in
+      let across : Contains led fault.lower = second.all fault.lower low (record { start = fault.upper; among = up; way = fault.led }) in
+      third.all x ends.0 (record { start = fault.lower; among = across; way = fault.under }),
 )
 
 module _ (leads below : List (ℕ × ℕ)) (lead_edges below_edges : List (List ℕ)) (numbers : List ℕ) (ways : AreWays leads below lead_edges below_edges numbers) (x y : ℕ) (step : Contains below (x, y)) where
@@ -56,7 +60,7 @@ module _ (leads below : List (ℕ × ℕ)) (lead_edges below_edges : List (List 
 
   fault_is_level : IsFault leads below x y → is_level numbers (x, y) ≡ true
   fault_is_level fault =
-      let ends = ways.under.within x y step in
+      let ends = ways.below_within x y step in
       (level_tells (length below_edges) (leads ++ below) numbers ways.parts x y ends.0 ends.1).1
       (one_step (leads ++ below) x y (Contains-append_right leads below (x, y) step), walks_back fault)
 

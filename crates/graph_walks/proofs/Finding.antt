@@ -6,12 +6,12 @@ use Rattle.std.proofs.lemmas.List.{get_or_append_left, get_or_default, get_or-se
 use Rattle.std.proofs.lemmas.Bool.{cases_eq, cases_lt}
 use Rattle.std.proofs.lemmas.List.Elements.{Contains-append_left, Contains-append_right, Contains-append_cases, Contains-push, Contains-push_cases}
 use Rattle.owl_list.proofs.AscendingLaws.{in_none, in_cases}
-use Rattle.directed_graphs.specs.Cycles.{successors}
-use Rattle.graph_walks.specs.Edges.{AreEdges}
+use Rattle.graph_walks.specs.Edges.{AreEdges, successors}
 use Rattle.graph_walks.specs.Marks.{MarkNumbers}
 use Rattle.graph_walks.specs.Searches.{Finds, HoldsReached, IsTold}
-use Rattle.graph_walks.specs.Walks.{AreNodes, IsReached, here, onward}
+use Rattle.graph_walks.specs.Walks.{IsReached, here, onward}
 use Rattle.graph_walks.specs.declared.found.Found.{Found}
+use Rattle.graph_walks.proofs.EdgeLaws.{begins_within}
 use Rattle.graph_walks.proofs.WalkLaws.{walk_keeps}
 
 pub finds_none : (found : Found) → IsTold found → Finds [] found found
@@ -138,7 +138,7 @@ module _ (edges : List (List ℕ)) (starts : List ℕ) where
           | inl n ↦ h.reached pairs are other n
           | inr n ↦
               let before = h.reached pairs are node there in
-              let step : Contains pairs (node, other) = (are.told node other).0 (subst (λ xs. Contains xs other) all (finds.among other n)) in
+              let step : Contains pairs (node, other) = (are node other).0 (subst (λ xs. Contains xs other) all (finds.among other n)) in
               record { start = before.start; among = before.among; way = onward before.start node other before.way step }
         ]
 
@@ -153,14 +153,17 @@ module _ (edges : List (List ℕ)) (starts : List ℕ) where
 
   -- the search ends where all that were found are followed
   module _ (found : Found) (count : ℕ) (h : AreFollowed edges starts found count) where
-    pub all_followed : length found.nodes.items ≤ count → (pairs : List (ℕ × ℕ)) → AreEdges pairs edges → AreNodes (length edges) starts → HoldsReached pairs starts found.nodes.items
-    all_followed end pairs are nodes =
-        λ node.
-        let follow : (x y : ℕ) → Contains pairs (x, y) → Contains found.nodes.items x → Contains found.nodes.items y = λ x y step m.
-        h.further m.0 (omega arith) y (subst (λ (z : ℕ). Contains (successors edges z) y) (sym (get_or_default found.nodes.items m.0 0 x m.1 ∙ m.2)) ((are.told x y).1 step)) (are.within x y step).1 in (
-          h.reached pairs are node,
-          λ r. walk_keeps pairs (Contains found.nodes.items) follow r.start node r.way (h.first r.start r.among (nodes r.start r.among)),
-        )
+    pub all_followed : length found.nodes.items ≤ count → (pairs : List (ℕ × ℕ)) → AreEdges pairs edges → HoldsReached (length edges) pairs starts found.nodes.items
+    all_followed end pairs are =
+        let IsFound : ℕ → Type 0 = λ x. x < length edges → Contains found.nodes.items x in
+        let follow : (x y : ℕ) → Contains pairs (x, y) → IsFound x → IsFound y = λ x y step before within.
+        let next = (are x y).1 step in
+        let m = before (begins_within edges x y next) in
+        h.further m.0 (omega arith) y (subst (λ (z : ℕ). Contains (successors edges z) y) (sym (get_or_default found.nodes.items m.0 0 x m.1 ∙ m.2)) next) within in
+        record {
+          reached = h.reached pairs are;
+          all = λ node within r. walk_keeps pairs IsFound follow r.start node r.way (h.first r.start r.among) within;
+        }
 
     pub none_left : slice_get found.nodes.items count ≡ None → length found.nodes.items ≤ count
     none_left none =
@@ -170,11 +173,11 @@ module _ (edges : List (List ℕ)) (starts : List ℕ) where
         ]
 
 -- the marks of what was found
-pub found_marks : (nodes : ℕ) (pairs : List (ℕ × ℕ)) (starts : List ℕ) (found : Found) → IsTold found → length found.marks.items ≡ nodes → HoldsReached pairs starts found.nodes.items → MarkNumbers nodes (IsReached pairs starts) found.marks.items
+pub found_marks : (nodes : ℕ) (pairs : List (ℕ × ℕ)) (starts : List ℕ) (found : Found) → IsTold found → length found.marks.items ≡ nodes → HoldsReached nodes pairs starts found.nodes.items → MarkNumbers nodes (IsReached pairs starts) found.marks.items
 found_marks nodes pairs starts found told graph holds = record {
   size = graph;
   told = λ node within. (
-    λ mark. (holds node).0 ((told node).0 mark),
-    λ r. (told node).1 ((holds node).1 r),
+    λ mark. holds.reached node ((told node).0 mark),
+    λ r. (told node).1 (holds.all node within r),
   );
 }

@@ -4,7 +4,7 @@ use Rattle.std.specs.Prelude.{Some, slice_get}
 use Rattle.std.proofs.lemmas.Bool.{cases_lt}
 use Rattle.std.proofs.lemmas.List.{get_or-map, get_or_append_left, get_or_push, length-append, length-map}
 use Rattle.std.proofs.lemmas.Option.{get_or_from_slice_get, same_Some, slice_get-get_or, slice_get_within}
-use Rattle.graph_walks.specs.Marks.{MarkEach}
+use Rattle.graph_walks.specs.Marks.{MarkEach, MarkNumbers}
 
 -- what is so in each place of a list, and of one more element, is so of the list with it behind
 pub pushed_at : {X : Type 0} (IsSo : ℕ → X → Type 0) (d : X) (xs : List X) (x : X) → ((k : ℕ) → k < length xs → IsSo k (get_or xs k d)) → IsSo (length xs) x → (k : ℕ) → k < length (xs ++ x ∷ []) → IsSo k (get_or (xs ++ x ∷ []) k d)
@@ -39,3 +39,13 @@ marks_by IsSo test d xs told =
       λ h. (told k within).0 (sym reads ∙ h),
       λ h. reads ∙ (told k within).1 h,
     ))
+
+-- marks of what is so mark what is so just then
+pub same_marks : (count : ℕ) (These Those : ℕ → Type 0) (marks : List Bool) → ((k : ℕ) → These k ↔ Those k) → MarkNumbers count These marks → MarkNumbers count Those marks
+same_marks count These Those marks same each = record {
+  size = each.size;
+  told = λ k within. (
+    λ h. (same k).0 ((each.told k within).0 h),
+    λ h. (each.told k within).1 ((same k).1 h),
+  );
+}

@@ -1,13 +1,12 @@
 -- Parts by numbers.
-use Rattle.std.proofs.Common.{◌≡◌, ◌<◌, ◌≤◌, ◌↔◌, inl, inr, ℕ, Bool, true, false, List, [], ◌∷◌, ◌+◌, length, get_or, refl, sym, ap, ◌∙◌, subst, arith}
+use Rattle.std.proofs.Common.{◌≡◌, ◌<◌, ◌≤◌, ◌↔◌, inl, inr, ℕ, Bool, true, false, List, [], ◌∷◌, length, get_or, refl, sym, ap, ◌∙◌, subst, arith}
 use Rattle.std.specs.Prelude.{Contains, slice_index}
 use Rattle.std.proofs.lemmas.Bool.{cases_lt, cases_order, eq-eqb, eqb-true}
 use Rattle.std.specs.List.{filter, range_with_len}
-use Rattle.std.proofs.lemmas.List.FromFn.{get_or-range_with_len, length-range_with_len}
 use Rattle.owl_list.proofs.FilterLaws.{IsKept, from_filter}
 use Rattle.graph_walks.specs.Marks.{MarkNumbers}
 use Rattle.graph_walks.specs.Parts.{AllReached, AreApart, AreBoth, AreJoined, AreParts, IsFirstOfBoth, IsLeast, NoneGoesUp, is_head, is_level, level}
-use Rattle.graph_walks.specs.Walks.{AreNodes, AreWithin, IsReached, Walks, backwards, here, onward}
+use Rattle.graph_walks.specs.Walks.{AreWithin, IsReached, Walks, backwards, here, onward}
 use Rattle.graph_walks.proofs.WalkLaws.{from_backwards, from_one, to_backwards, to_one, walk_among, walk_back, walk_on}
 
 -- two nodes have one number exactly where they are joined
@@ -72,14 +71,6 @@ all_by_marks nodes pairs starts marks told all =
 module _ (nodes : ℕ) (numbers heads these : List ℕ) (is : these ≡ filter (is_head numbers heads) (range_with_len 0 nodes)) where
   kept_head : (x : ℕ) → Contains these x → IsKept (is_head numbers heads) (range_with_len 0 nodes) x
   kept_head x m = from_filter (is_head numbers heads) (range_with_len 0 nodes) x (subst (λ (xs : List ℕ). Contains xs x) is m)
-
-  pub heads_within : AreNodes nodes these
-  heads_within =
-      λ x m.
-      let inside = (kept_head x m).inside in
-      let within : inside.0 < nodes = subst (λ n. inside.0 < n) (length-range_with_len 0 nodes) inside.1 in
-      let reads : x ≡ 0 + inside.0 = sym inside.2 ∙ get_or-range_with_len 0 nodes inside.0 x within in
-      omega arith
 
   pub heads_apart : AreApart numbers these
   heads_apart =

@@ -3,7 +3,7 @@ use Rattle.std.proofs.Common.{◌≡◌, ◌<◌, ◌⊎◌, inl, inr, ℕ, List
 use Rattle.std.specs.Prelude.{Contains}
 use Rattle.std.proofs.lemmas.List.Elements.{Contains-append_cases, Contains-append_left, Contains-append_right}
 use Rattle.owl_list.proofs.AscendingLaws.{from_map, in_cases, in_head, in_map, in_none}
-use Rattle.graph_walks.specs.Walks.{AreNodes, AreWithin, IsReached, Walks, backwards, both_ways, here, onward}
+use Rattle.graph_walks.specs.Walks.{AreWithin, IsReached, Walks, backwards, both_ways, here, onward}
 
 module _ {P : Type 0} (pairs : List (P × P)) where
   pub one_step : (x y : P) → Contains pairs (x, y) → Walks pairs x y
@@ -83,11 +83,6 @@ both_among some all among x y m = elim (from_both some x y m) [
   | inr n ↦ both_turned all y x (among y x n)
 ]
 
--- what is reached from nodes by pairs of nodes is a node
-pub reached_within : (nodes : ℕ) (pairs : List (ℕ × ℕ)) (starts : List ℕ) → AreWithin nodes pairs → AreNodes nodes starts → (x : ℕ) → IsReached pairs starts x → x < nodes
-reached_within nodes pairs starts within are x r =
-    walk_keeps pairs (λ y. y < nodes) (λ y z step h. (within y z step).1) r.start x r.way (are r.start r.among)
-
 pub backwards_within : (nodes : ℕ) (pairs : List (ℕ × ℕ)) → AreWithin nodes pairs → AreWithin nodes (backwards pairs)
 backwards_within nodes pairs within =
     λ x y m.
@@ -120,10 +115,3 @@ from_one {P} pairs start x r = elim (in_cases start [] r.start r.among) [
 
 pub to_one : {P : Type 0} (pairs : List (P × P)) (start x : P) → Walks pairs start x → IsReached pairs (start ∷ []) x
 to_one pairs start x way = record { start = start; among = in_head start []; way = way }
-
-pub one_node : (nodes node : ℕ) → node < nodes → AreNodes nodes (node ∷ [])
-one_node nodes node inside =
-    λ x m. elim (in_cases node [] x m) as (λ _. x < nodes) [
-      | inl e ↦ subst (λ k. k < nodes) e inside
-      | inr n ↦ absurd (in_none x n)
-    ]

@@ -16,6 +16,7 @@ pub record Finds (nexts : List ℕ) (old new : Found) : Type 0 where
   pub among : (node : ℕ) → Contains more node → Contains nexts node
   pub all : (node : ℕ) → Contains nexts node → node < length new.marks.items → Contains new.nodes.items node
 
--- the nodes to which walks lead from some of these
-abbrev pub HoldsReached : List (ℕ × ℕ) → List ℕ → List ℕ → Type 0
-HoldsReached pairs starts nodes = (node : ℕ) → Contains nodes node ↔ IsReached pairs starts node
+-- of so many nodes those to which walks lead from some of these
+pub record HoldsReached (count : ℕ) (pairs : List (ℕ × ℕ)) (starts nodes : List ℕ) : Type 0 where
+  pub reached : (node : ℕ) → Contains nodes node → IsReached pairs starts node
+  pub all : (node : ℕ) → node < count → IsReached pairs starts node → Contains nodes node

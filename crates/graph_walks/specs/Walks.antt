@@ -12,11 +12,7 @@ pub record IsReached {P : Type 0} (pairs : List (P × P)) (starts : List P) (x :
   pub among : Contains starts start
   pub way : Walks pairs start x
 
--- these are nodes of a graph with so many
-abbrev pub AreNodes : ℕ → List ℕ → Type 0
-AreNodes nodes these = (x : ℕ) → Contains these x → x < nodes
-
--- these are pairs of such nodes
+-- these are pairs of nodes of a graph with so many
 abbrev pub AreWithin : ℕ → List (ℕ × ℕ) → Type 0
 AreWithin nodes pairs = (x y : ℕ) → Contains pairs (x, y) → (x < nodes) × (y < nodes)
 

@@ -1,8 +1,7 @@
-//! The edges of a graph that is given by pairs.
+//! The edges of a graph.
 
 ghost use Rattle.std.specs.Prelude.{◌≡◌, IfOk, [], length};
-ghost use Rattle.directed_graphs.specs.Cycles.{edges_of, successors};
-ghost use Rattle.graph_walks.specs.Edges.{AreEdges};
+ghost use Rattle.graph_walks.specs.Edges.{AreEdges, edges_of, successors};
 ghost use Rattle.graph_walks.specs.Walks.{AreWithin};
 
 use std::alloc::{AllocError, Global};

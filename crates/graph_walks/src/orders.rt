@@ -1,7 +1,7 @@
 //! Faults of an order.
 
 ghost use Rattle.std.specs.Prelude.{◌≡◌, ◌↔◌, ◌<◌, ◌++◌, ℕ, Contains, IfOk, IsTrue, List, length};
-ghost use Rattle.directed_graphs.specs.Cycles.{edges_of};
+ghost use Rattle.graph_walks.specs.Edges.{edges_of};
 ghost use Rattle.graph_walks.specs.Faults.{AreWays, IsFault};
 ghost use Rattle.graph_walks.specs.Marks.{MarkEach};
 ghost use Rattle.graph_walks.specs.Parts.{AreParts};

@@ -2,14 +2,14 @@
 
 ghost use Rattle.std.specs.Prelude.{◌≡◌, IfOk, IsTrue};
 ghost use Rattle.graph_walks.specs.Parts.{AllReached, AreParts};
-ghost use Rattle.graph_walks.specs.Walks.{AreNodes, AreWithin, backwards};
+ghost use Rattle.graph_walks.specs.Walks.{AreWithin, backwards};
 
+use crate::components::component_ranks;
 use crate::edges::edges_by;
 use crate::least::least_joined;
 use crate::levels::{level_pairs, none_goes_up};
 use crate::roots::{all_reached, roots};
 use crate::ways::backwards;
-use directed_graphs::component_ranks;
 use owl_characters::NoMemory;
 use std::alloc::{AllocError, Global};
 
@@ -73,8 +73,7 @@ fn are_joined(
     pairs: &[(usize, usize)],
     roots: &[usize],
 ) -> Result<bool, AllocError>
-    requires pairs { AreWithin nodes pairs.now }
-    requires roots { AreNodes nodes roots.now }
+    requires { AreWithin nodes pairs.now }
     ensures forth { IfOk result (λ answer. IsTrue answer → AllReached nodes pairs.now roots.now) }
     ensures back { IfOk result (λ answer.
         IsTrue answer → AllReached nodes (backwards pairs.now) roots.now) }

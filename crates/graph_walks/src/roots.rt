@@ -3,7 +3,7 @@
 ghost use Rattle.std.specs.Prelude.{◌≡◌, IfOk, IsTrue};
 ghost use Rattle.std.specs.List.{filter, range_with_len};
 ghost use Rattle.graph_walks.specs.Parts.{AllReached, AreApart, is_head};
-ghost use Rattle.graph_walks.specs.Walks.{AreNodes, AreWithin};
+ghost use Rattle.graph_walks.specs.Walks.{AreWithin};
 
 use crate::marks::{all_marked, number_at};
 use crate::reach::reached;
@@ -11,8 +11,7 @@ use std::alloc::{AllocError, Global};
 
 /// Of the nodes with one number one.
 pub fn roots(alloc: Global, nodes: usize, numbers: &[usize]) -> Result<Vec<usize>, AllocError>
-    ensures within { IfOk result (λ roots. AreNodes nodes roots.items) }
-    ensures apart { IfOk result (λ roots. AreApart numbers.now roots.items) }
+    ensures { IfOk result (λ roots. AreApart numbers.now roots.items) }
 {
     let heads = heads(alloc, numbers)?;
     Ok(heading(alloc, nodes, numbers, &heads)?)
@@ -52,8 +51,7 @@ pub fn all_reached(
     pairs: &[(usize, usize)],
     starts: &[usize],
 ) -> Result<bool, AllocError>
-    requires pairs { AreWithin nodes pairs.now }
-    requires starts { AreNodes nodes starts.now }
+    requires { AreWithin nodes pairs.now }
     ensures { IfOk result (λ answer. IsTrue answer → AllReached nodes pairs.now starts.now) }
 {
     let marks = reached(alloc, nodes, pairs, starts)?;

@@ -1,6 +1,6 @@
 use Rattle.std.proofs.Common.{◌≡◌, length}
 use Rattle.directed_graphs.specs.Cycles.{edges_of}
-use Rattle.directed_graphs.specs.Searches.{AreReachCounts}
+use Rattle.directed_graphs.specs.Reach.{AreReachCounts}
 use Rattle.directed_graphs.proofs.reach.reach_counts.Given as goal
 
 abbrev pub invariant-loop-node : goal.invariant-loop-node

@@ -1,5 +1,6 @@
-use Rattle.std.proofs.Common.{◌≡◌, ◌≤◌, length, get_or, set, ap, ◌∙◌, arith}
-use Rattle.std.proofs.lemmas.List.{length-set}
+use Rattle.std.proofs.Common.{◌≡◌, ◌≤◌, List, ℕ, length, get_or, set, ap, ◌∙◌, subst, arith}
+use Rattle.std.proofs.lemmas.List.{length-set, take_all}
+use Rattle.graph_walks.specs.Edges.{AreEdges, edges_of}
 use Rattle.graph_walks.proofs.EdgeLaws.{begins_inside, one_more_pair}
 use Rattle.graph_walks.proofs.edges.edges_by.Goals as goal
 use Rattle.graph_walks.proofs.edges.edges_by.Goals.{in-Some+in_ok-push, in_default}
@@ -22,3 +23,9 @@ pairs-preserved c =
           let size = c.pairs.invariant.size in
           absurd (omega arith)
     ]
+
+pub returns-clause-edges : goal.returns-clause-edges
+returns-clause-edges c =
+    let edges = edges_of c.pairs.edges.items in
+    let end : length c.args.pairs.now ≤ c.pairs.pair-index = (let past = c.pairs-test.false in omega arith) in
+    subst (λ (pairs : List (ℕ × ℕ)). AreEdges pairs edges) (take_all c.pairs.pair-index c.args.pairs.now end) c.pairs.invariant.edges

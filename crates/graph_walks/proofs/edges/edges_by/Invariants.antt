@@ -1,5 +1,5 @@
 use Rattle.std.proofs.Common.{◌≡◌, length, take}
-use Rattle.directed_graphs.specs.Cycles.{edges_of}
+use Rattle.graph_walks.specs.Edges.{edges_of}
 use Rattle.graph_walks.specs.Edges.{AreEdges}
 use Rattle.graph_walks.proofs.edges.edges_by.Given as goal
 

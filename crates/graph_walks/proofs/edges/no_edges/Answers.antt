@@ -1,5 +1,5 @@
 use Rattle.std.proofs.Common.{rules}
-use Rattle.directed_graphs.specs.Cycles.{edges_of}
+use Rattle.graph_walks.specs.Edges.{edges_of}
 use Rattle.graph_walks.proofs.EdgeLaws.{empty_edges, one_more_empty}
 use Rattle.graph_walks.proofs.edges.no_edges.Goals as goal
 

@@ -1,5 +1,5 @@
 use Rattle.std.proofs.Common.{◌≡◌, length}
-use Rattle.directed_graphs.specs.Cycles.{edges_of}
+use Rattle.graph_walks.specs.Edges.{edges_of}
 use Rattle.graph_walks.proofs.EdgeLaws.{AreEmpty}
 use Rattle.graph_walks.proofs.edges.no_edges.Given as goal
 

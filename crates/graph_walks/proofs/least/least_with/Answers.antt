@@ -2,18 +2,12 @@ use Rattle.std.proofs.Common.{◌∙◌, List, [], ◌∷◌, ℕ, Bool, subst, 
 use Rattle.graph_walks.specs.Marks.{MarkNumbers}
 use Rattle.graph_walks.specs.Walks.{AreWithin, IsReached, backwards}
 use Rattle.graph_walks.proofs.Parting.{least_by_marks}
-use Rattle.graph_walks.proofs.WalkLaws.{backwards_within, one_node}
+use Rattle.graph_walks.proofs.WalkLaws.{backwards_within}
 use Rattle.graph_walks.proofs.least.least_with.Goals as goal
 
-pub reached-requires-clause-starts : goal.reached-requires-clause-starts
-reached-requires-clause-starts c = one_node c.args.nodes c.args.node c.requires.node
-
-pub reached-requires-2-clause-pairs : goal.reached-requires-2-clause-pairs
-reached-requires-2-clause-pairs c =
+pub reached-requires-2 : goal.reached-requires-2
+reached-requires-2 c =
     subst (λ (pairs : List (ℕ × ℕ)). AreWithin c.args.nodes pairs) (sym (c.deref.ensures.value ∙ c.in_ok-turned.ensures)) (backwards_within c.args.nodes c.args.pairs.now c.requires.pairs)
-
-pub reached-requires-2-clause-starts : goal.reached-requires-2-clause-starts
-reached-requires-2-clause-starts c = one_node c.args.nodes c.args.node c.requires.node
 
 pub returns : goal.returns
 returns c =

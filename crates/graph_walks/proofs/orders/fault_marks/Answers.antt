@@ -1,8 +1,8 @@
 use Rattle.std.proofs.Common.{◌≡◌, ◌∙◌, ◌++◌, length, ap, subst, sym}
-use Rattle.directed_graphs.specs.Cycles.{edges_of}
-use Rattle.directed_graphs.proofs.CycleLaws.{graph_size}
-use Rattle.graph_walks.specs.Edges.{AreEdges}
+use Rattle.graph_walks.specs.Edges.{AreEdges, edges_of}
 use Rattle.graph_walks.specs.Parts.{AreParts}
+use Rattle.graph_walks.specs.Walks.{AreWithin}
+use Rattle.graph_walks.proofs.EdgeLaws.{graph_size}
 use Rattle.graph_walks.proofs.orders.fault_marks.Goals as goal
 
 pub returns : goal.returns
@@ -18,5 +18,7 @@ returns c =
       led = subst (λ lists. AreEdges leads (edges_of lists)) (sym c.deref.ensures.value) c.in_ok-lead_edges.ensures.edges;
       under = subst (λ lists. AreEdges below (edges_of lists)) (sym c.deref-2.ensures.value) c.in_ok-below_edges.ensures.edges;
       same = lead_size ∙ sym below_size;
+      leads_within = subst (λ n. AreWithin n leads) (sym below_size) c.requires.leads;
+      below_within = subst (λ n. AreWithin n below) (sym below_size) c.requires.below;
       parts = subst (λ n. AreParts n (leads ++ below) c.args.numbers.now) (sym below_size) c.requires.numbers;
     })

@@ -1,5 +1,5 @@
 use Rattle.std.proofs.Common.{◌≡◌, false, rules}
-use Rattle.directed_graphs.specs.Cycles.{edges_of}
+use Rattle.graph_walks.specs.Edges.{edges_of}
 use Rattle.graph_walks.specs.Parts.{is_level}
 use Rattle.graph_walks.proofs.FaultLaws.{no_fault}
 use Rattle.graph_walks.proofs.orders.is_fault.Goals as goal

@@ -1,7 +1,7 @@
-use Rattle.std.proofs.Common.{◌∙◌, ◌<◌, ◌≤◌, length, subst, sym, arith, rules}
-use Rattle.directed_graphs.specs.Cycles.{edges_of}
-use Rattle.directed_graphs.proofs.CycleLaws.{graph_size}
-use Rattle.graph_walks.specs.Walks.{AreNodes}
+use Rattle.std.proofs.Common.{◌∙◌, ◌≤◌, length, subst, sym, arith, rules}
+use Rattle.graph_walks.specs.Edges.{edges_of}
+use Rattle.graph_walks.specs.Searches.{HoldsReached}
+use Rattle.graph_walks.proofs.EdgeLaws.{graph_size}
 use Rattle.graph_walks.proofs.Finding.{all_followed, none_followed, none_left, one_followed}
 use Rattle.graph_walks.proofs.reach.found_from.Goals as goal
 use Rattle.graph_walks.proofs.reach.found_from.Goals.{else-loop-place-test, then-loop-place-test+in-None}
@@ -18,11 +18,10 @@ loop-place-preserved c =
 
 pub returns-clause-found : goal.returns-clause-found
 returns-clause-found c =
-    λ pairs are nodes.
+    λ pairs are.
     let edges = edges_of c.args.edges.now in
     let found = c.loop-place.found in
     let place = c.loop-place.place in
-    let within : AreNodes (length edges) c.args.starts.now = λ x m. subst (λ n. x < n) (sym (graph_size c.args.edges.now)) (nodes x m) in
     let end : length found.nodes.items ≤ place = elim c.loop-place-test.branch [
       | else-loop-place-test w ↦
           let size = found.nodes.ok.0 in
@@ -32,4 +31,4 @@ returns-clause-found c =
           omega arith
       | then-loop-place-test+in-None w ↦ none_left edges c.args.starts.now found place c.loop-place.invariant (search rules)
     ] in
-    all_followed edges c.args.starts.now found place c.loop-place.invariant end pairs are within
+    subst (λ n. HoldsReached n pairs c.args.starts.now found.nodes.items) (graph_size c.args.edges.now) (all_followed edges c.args.starts.now found place c.loop-place.invariant end pairs are)

@@ -1,4 +1,4 @@
-use Rattle.directed_graphs.specs.Cycles.{edges_of}
+use Rattle.graph_walks.specs.Edges.{edges_of}
 use Rattle.graph_walks.proofs.Finding.{AreFollowed}
 use Rattle.graph_walks.proofs.reach.found_from.Given as goal
 

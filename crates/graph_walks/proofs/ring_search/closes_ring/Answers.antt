@@ -3,7 +3,7 @@ use Rattle.std.proofs.lemmas.List.Elements.{Contains-get_or}
 use Rattle.graph_walks.specs.Marks.{MarkNumbers}
 use Rattle.graph_walks.specs.Rings.{link_at, without}
 use Rattle.graph_walks.specs.Walks.{AreWithin, IsReached, both_ways}
-use Rattle.graph_walks.proofs.WalkLaws.{among_within, both_within, from_one, one_node, to_one}
+use Rattle.graph_walks.proofs.WalkLaws.{among_within, both_within, from_one, to_one}
 use Rattle.graph_walks.proofs.WithoutLaws.{among_without}
 use Rattle.graph_walks.proofs.ring_search.closes_ring.Goals as goal
 
@@ -15,13 +15,10 @@ ends_within nodes links place within inside =
 ways_within : (nodes : ℕ) (links : List (ℕ × ℕ)) (place : ℕ) → AreWithin nodes links → AreWithin nodes (both_ways (without place links))
 ways_within nodes links place within = both_within nodes (without place links) (among_within nodes (without place links) links (among_without links place) within)
 
-pub reached-requires-clause-pairs : goal.reached-requires-clause-pairs
-reached-requires-clause-pairs c =
+pub reached-requires : goal.reached-requires
+reached-requires c =
     let same : c.deref-2.result.now ≡ both_ways (without c.args.place c.args.links.now) = c.deref-2.ensures.value ∙ c.in_ok-ways.ensures ∙ ap (both_ways {P = ℕ}) (c.deref.ensures.value ∙ c.in_ok-others.ensures) in
     subst (λ (pairs : List (ℕ × ℕ)). AreWithin c.args.nodes pairs) (sym same) (ways_within c.args.nodes c.args.links.now c.args.place c.requires.links)
-
-pub reached-requires-clause-starts : goal.reached-requires-clause-starts
-reached-requires-clause-starts c = one_node c.args.nodes (link_at c.args.links.now c.args.place).0 (ends_within c.args.nodes c.args.links.now c.args.place c.requires.links c.requires.place).0
 
 pub returns : goal.returns
 returns c =

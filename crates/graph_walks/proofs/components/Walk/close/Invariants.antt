@@ -1,4 +1,4 @@
-use Rattle.directed_graphs.proofs.components.Walk.close.Given as goal
+use Rattle.graph_walks.proofs.components.Walk.close.Given as goal
 
 abbrev pub decreases-loop-member : goal.decreases-loop-member
 decreases-loop-member l = goal.left-loop-member l
