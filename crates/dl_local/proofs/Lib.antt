@@ -1,0 +1,5 @@
+pub mod OneLaws
+pub mod ByNumbers
+pub mod CountedLaws
+pub mod OwnLaws
+pub mod PartLaws
