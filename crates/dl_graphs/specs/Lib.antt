@@ -1,0 +1,4 @@
+pub mod Groups
+pub mod Links
+pub mod Ranges
+pub mod Uses
