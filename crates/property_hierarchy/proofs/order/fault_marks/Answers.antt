@@ -1,0 +1,26 @@
+use Rattle.std.proofs.Common.{ap, ◌∙◌}
+use Rattle.std.specs.List.{flat_map}
+use Rattle.std.proofs.lemmas.Result.{IfOk-weaker}
+use Rattle.dl_rules.specs.Properties.{leads}
+use Rattle.owl_arena.specs.Held.{trees_at}
+use Rattle.property_hierarchy.specs.Listed.{node_pairs}
+use Rattle.property_hierarchy.specs.Numbers.{below_at}
+use Rattle.property_hierarchy.proofs.Reaching.{faults_for, within_for}
+use Rattle.property_hierarchy.proofs.order.fault_marks.Goals as goal
+
+pub faults-requires-clause-leads : goal.faults-requires-clause-leads
+faults-requires-clause-leads c =
+    within_for c.args.arena.now.trees c.distinct.result (leads (trees_at c.args.arena.now.trees c.args.axioms.now)) c.deref-2.result.now c.distinct.ensures.trees
+    (c.deref-2.ensures.value ∙ (c.in_ok-leads.ensures ∙ ap node_pairs (c.deref.ensures.value ∙ c.in_ok-steps.ensures)))
+
+pub faults-requires-clause-below : goal.faults-requires-clause-below
+faults-requires-clause-below c =
+    within_for c.args.arena.now.trees c.distinct.result (flat_map below_at (trees_at c.args.arena.now.trees c.args.axioms.now)) c.deref-3.result.now c.distinct.ensures.trees
+    (c.deref-3.ensures.value ∙ (c.in_ok-below.ensures ∙ ap node_pairs c.requires.below))
+
+pub returns : goal.returns
+returns c =
+    IfOk-weaker c.faults.result _ _
+    (λ marks h. faults_for c.deref-2.result.now _ c.deref-3.result.now _ marks.items
+    (c.deref-2.ensures.value ∙ (c.in_ok-leads.ensures ∙ ap node_pairs (c.deref.ensures.value ∙ c.in_ok-steps.ensures)))
+    (c.deref-3.ensures.value ∙ c.in_ok-below.ensures) h) c.faults.ensures
