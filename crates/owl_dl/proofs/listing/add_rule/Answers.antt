@@ -1,0 +1,25 @@
+use Rattle.std.proofs.Common.{List, take, sym, subst}
+use Rattle.dl_rules.specs.declared.rule.DlRule.{DlRule}
+use Rattle.dl_rules.specs.Rules.{BreaksAt}
+use Rattle.owl_breaches.specs.Sites.{Site, sites_from}
+use Rattle.owl_breaches.proofs.ThoseLaws.{adds_both, adds_none}
+use Rattle.owl_dl.specs.Adding.{AddsSites, sites_at}
+use Rattle.owl_dl.specs.Facts.{closure_in}
+use Rattle.owl_dl.specs.Listing.{Tells}
+use Rattle.owl_dl.proofs.AddingLaws.{ontologies_more}
+use Rattle.owl_dl.proofs.listing.add_rule.Goals as goal
+
+pub places-init : goal.places-init
+places-init c = adds_none _ _ c.args.found.now.items
+
+pub places-preserved : goal.places-preserved
+places-preserved c =
+    let facts = c.args.facts.now in
+    let os = (closure_in facts).all in
+    let old = c.args.found.now.items in
+    let new = c.add_document.new.found.items in
+    let place = c.places.place in
+    let before = sites_from c.args.rule 0 (take place os) in
+    let here = sites_at (closure_in facts) c.args.rule place in
+    subst (λ (these : List (Site DlRule)). AddsSites facts these old new) (sym (ontologies_more c.args.rule place os))
+    (adds_both (BreaksAt (closure_in facts)) (Tells facts.closure.now.documents) before here old c.places.found.items new c.places.invariant c.in_ok-add_document.ensures)

@@ -1,0 +1,9 @@
+use Rattle.std.proofs.Common.{◌≡◌, length}
+use Rattle.owl_dl.proofs.Marking.{AreMarksBefore}
+use Rattle.owl_dl.proofs.marks.marks_by_number.Given as goal
+
+abbrev pub invariant-places : goal.invariant-places
+invariant-places l = record {
+  size : length l.by_number.items ≡ l.count;
+  told : AreMarksBefore l.place l.axioms l.marks l.by_number.items;
+}

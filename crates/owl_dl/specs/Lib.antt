@@ -1,0 +1,4 @@
+pub mod Listing
+pub mod Facts
+pub mod Marks
+pub mod Adding
