@@ -1,0 +1,405 @@
+#!/usr/bin/env python3
+"""Compares owl with a second reading of the rules of OWL 2 DL, on random closures.
+
+profiles.py [COUNT [SEED [PROGRAM]]]: so many closures, 500 if left out, each of one to
+three documents, made for what the rules look at, and behind a few that have each literal,
+facet and built-in name. The program, bin/owl if left out, has to end with the status, the
+output and the line of the second reading.
+
+profiles.py --cases FOLDER COUNT SEED writes single documents into FOLDER, and into
+FOLDER.expected what has to be told of each: a line for each breach, and their number.
+profiles.py --compare FOLDER OUTPUT compares what was told, each behind a line `== NAME`.
+"""
+
+import itertools
+import os
+import random
+import re
+import shutil
+import subprocess
+import sys
+import tempfile
+
+import second_rules
+from mapping import AXIOMS, CLASSES, KINDS, RANGES, RESERVED, Maker
+from second_mapping import NAMES_BUILT_IN, Document
+
+TOP = os.path.dirname(os.path.dirname(os.path.abspath(__file__)))
+
+# Axioms that go together. A kind that stands more often is made more often.
+
+PROPERTIES = "EquivalentObjectProperties InverseObjectProperties SymmetricObjectProperty TransitiveObjectProperty ReflexiveObjectProperty".split()
+PROPERTIES += ["SubObjectPropertyOf"] * 4
+HIERARCHY = PROPERTIES + ["SubObjectPropertyOf"] * 9 + ["FunctionalObjectProperty", "AsymmetricObjectProperty", "DisjointObjectProperties"]
+ASKING = """FunctionalObjectProperty InverseFunctionalObjectProperty IrreflexiveObjectProperty AsymmetricObjectProperty
+    DisjointObjectProperties SubClassOf ObjectPropertyDomain TransitiveObjectProperty SubObjectPropertyOf HasKey""".split()
+DATATYPES = "DatatypeDefinition DatatypeDefinition DataPropertyRange DataPropertyAssertion SubClassOf Declaration AnnotationAssertion".split()
+DATA = """SubDataPropertyOf EquivalentDataProperties DisjointDataProperties DataPropertyDomain FunctionalDataProperty HasKey SubClassOf
+    SubClassOf DataPropertyAssertion NegativeDataPropertyAssertion DataPropertyRange ClassAssertion""".split()
+WALKS = ["ObjectPropertyAssertion"]
+INDIVIDUALS = "ClassAssertion SameIndividual DifferentIndividuals NegativeObjectPropertyAssertion".split() + WALKS * 4
+EXPRESSIONS = """SubClassOf ClassAssertion ObjectPropertyRange DataPropertyDomain DataPropertyRange DataPropertyAssertion
+    EquivalentClasses DisjointUnion""".split()
+NOTES = "Declaration AnnotationAssertion SubAnnotationPropertyOf AnnotationPropertyDomain AnnotationPropertyRange".split()
+THEMES = [PROPERTIES, ASKING, DATATYPES, DATATYPES, DATATYPES, DATA, DATA, INDIVIDUALS, WALKS, EXPRESSIONS, NOTES, AXIOMS]
+
+# Class expressions that some documents have alone
+
+NESTS = "ObjectIntersectionOf ObjectComplementOf ObjectSomeValuesFrom "
+SHAPES = "DataSomeValuesFrom DataAllValuesFrom DataHasValue DataMinCardinality DataMaxCardinality DataExactCardinality"
+SHAPES = [SHAPES, SHAPES + " ObjectUnionOf", NESTS + "ObjectHasSelf ObjectMinCardinality ObjectMaxCardinality ObjectExactCardinality"]
+SHAPES = [it.split() for it in [*SHAPES, NESTS + "ObjectOneOf ObjectHasValue"]] + [CLASSES]
+
+# Names by the letter of the second writer: what a document may declare, and what is built in
+
+OWN = {"c": [":A", ":B"], "p": [":p", ":q", ":r", ":s", ":t"], "q": [":d", ":e"], "a": [":n"], "i": [":i", ":j"], "d": [":T", ":U", ":V"]}
+BUILT_IN = {
+    "c": ["owl:Thing", "owl:Nothing"],
+    "p": ["owl:topObjectProperty", "owl:bottomObjectProperty"],
+    "q": ["owl:bottomDataProperty"],
+    "a": ["rdfs:label", "owl:versionInfo"],
+    "i": [],
+    "d": ["xsd:integer", "xsd:string", "rdfs:Literal", "owl:real", "rdf:PlainLiteral", "rdf:XMLLiteral", "xsd:boolean", "xsd:anyURI"],
+    "f": ["xsd:minInclusive", "xsd:maxExclusive", "xsd:pattern", "xsd:length", "rdf:langRange", "xsd:totalDigits", ":f"],
+    "r": [":i", ":A", ":o", "owl:Class"],
+}
+MISPLACED = {
+    "c": [RESERVED["c"], "xsd:integer", "rdfs:Literal", "owl:topObjectProperty", "rdf:List"],
+    "p": [RESERVED["p"], "owl:topDataProperty", "rdfs:label", "owl:Thing"],
+    "q": [RESERVED["q"], "owl:topObjectProperty", "xsd:d"],
+    "a": [RESERVED["a"], "owl:topDataProperty", "rdfs:range"],
+    "i": [RESERVED["i"], "owl:Thing", "xsd:integer", "rdf:nil"],
+    "d": ["rdf:langString", "xsd:date", "owl:Thing", "rdfs:Datatype", "xsd:"],
+}
+SAME_NAMES = {"C": "c", "D": "d", "P": "p", "s": "r", "h": "p", "v": "r"}
+CLASHES = [("DataProperty", ":p"), ("AnnotationProperty", ":p"), ("AnnotationProperty", ":d"), ("ObjectProperty", ":n"), ("Datatype", ":A")]
+CLASHES += [("Class", ":T"), ("DataProperty", "rdfs:label"), ("Class", "xsd:integer"), ("ObjectProperty", "owl:topDataProperty")]
+CLASHES += [("DataProperty", "owl:topDataProperty"), ("Class", "owl:Thing"), ("ObjectProperty", "owl:topObjectProperty"), ("Datatype", "xsd:int")]
+CLASHES += [("Datatype", "owl:Thing"), ("NamedIndividual", ":A"), ("Class", ":p"), ("Datatype", ":d"), ("AnnotationProperty", ":i")]
+
+# Lexical forms by the local names of their datatypes
+
+RIGHT = {
+    "integer": "1 +0 -00 123456789012345678901234567890",
+    "nonNegativeInteger": "-0 7",
+    "nonPositiveInteger": "+0 -7",
+    "positiveInteger": "1",
+    "negativeInteger": "-1",
+    "long": "9223372036854775807 -9223372036854775808",
+    "int": "2147483647 -2147483648",
+    "short": "32767 -32768",
+    "byte": "+007 127 -128",
+    "unsignedLong": "18446744073709551615 -0",
+    "unsignedInt": "4294967295",
+    "unsignedShort": "0000000000000000000065535",
+    "unsignedByte": "255 +0",
+    "decimal": "1 1. -.5 +00.10",
+    "boolean": "0 1 true false",
+    "double": "a",
+    "dateTime": "a",
+    "anyURI": "a",
+}
+WRONG = {
+    "integer": "a 1.0 + - 1e1 0x1 --1 \u0663 1\u00a0",
+    "nonNegativeInteger": "-1",
+    "nonPositiveInteger": "1",
+    "positiveInteger": "0 -0",
+    "negativeInteger": "0 -0",
+    "long": "9223372036854775808 -9223372036854775809",
+    "int": "2147483648 -2147483649",
+    "short": "32768 -32769",
+    "byte": "128 -129",
+    "unsignedLong": "18446744073709551616 -1",
+    "unsignedInt": "4294967296",
+    "unsignedShort": "65536 123456789012345678901234567890",
+    "unsignedByte": "256 -1",
+    "decimal": ". - +. 1.2.3 1e1 1,5",
+    "boolean": "TRUE 00 yes",
+}
+
+
+def literals_of(forms):
+    return [f'"{form}"^^xsd:{name}' for name, row in forms.items() for form in row.split(" ")]
+
+
+RIGHT_FORMS = ['"a"', '"a"@en', '"x@de"^^rdf:PlainLiteral', '"a"^^rdf:XMLLiteral', '"q"^^owl:rational', '"l\\"\n"', *literals_of(RIGHT)]
+WRONG_FORMS = ['""^^xsd:integer', '" 1"^^xsd:integer', '"1\n"^^xsd:integer', '""^^xsd:decimal', '"true "^^xsd:boolean', *literals_of(WRONG)]
+WRONG_TYPES = [f'"1"^^{name}' for name in ("xsd:date", ":T", ":U", "rdfs:Literal", "owl:Thing", ":undeclared")]
+FITTING = ["xsd:integer xsd:minInclusive", "xsd:string xsd:length", "rdf:PlainLiteral rdf:langRange"]
+FITTING += ["owl:real xsd:maxExclusive", "xsd:anyURI xsd:pattern", "xsd:hexBinary xsd:maxLength"]
+
+HEADERS = ["", ":o", ":o", ":o :v", "s:o", "owl:o", ":o rdf:v", "xsd:o rdfs:v"]
+HEADERS += ["<http://www.w3.org/2002/07/owl>", ":o <http://www.w3.org/2001/XMLSchema#>"]
+PREFIXES = "Prefix(:=<http://e/>) Prefix(s:=<http://e/s/>)"
+
+
+def seldom(*rates):
+    """A rate that is 0 for most documents."""
+    return random.choice([0, 0, 0, *rates])
+
+
+class RulesMaker(Maker):
+    """Makes axioms of one theme over a few names, for documents of which some break a rule here and there."""
+
+    def __init__(self, labels="xyzwuv"):
+        self.labels = random.sample(labels, random.randint(2, len(labels)))
+        self.own = {sort: random.sample(names, random.randint(1, len(names))) for sort, names in OWN.items()}
+        if random.random() < 0.25:
+            self.own["d"] = []
+        self.built_in, self.wrong, self.tops = random.choice([0, 0.1, 0.3]), seldom(0.15), random.choice([0, 0.3])
+        self.anonymous, self.double, self.forgotten = random.choice([0, 0, 0.3, 0.8, 0.8]), random.choice([0, 0.4]), seldom(0.2)
+        self.literals = random.sample(RIGHT_FORMS, 3) + random.sample(WRONG_FORMS, random.choice([0, 2, 5]))
+        self.literals += random.sample(WRONG_TYPES, seldom(1))
+        self.deep, self.chained, self.shapes = random.choice([0.2, 0.5, 1]), random.choice([0.2, 0.8]), random.choice(SHAPES)
+        self.noted, self.ranked, self.blemished = random.choice([0.1, 0.1, 0.6]), random.choice([True, True, False]), None
+        self.themes = random.sample(THEMES, random.choice([1, 1, 2, 3]))
+        if random.random() < self.anonymous:
+            self.themes.append(random.choice([WALKS, INDIVIDUALS]))
+        if random.random() < 0.3:
+            self.themes, self.own["p"], self.deep, self.wrong = [HIERARCHY] * 4, OWN["p"], 0.2, 0
+        self.clashes = seldom(1, 2)
+        if random.random() < 0.25:
+            self.calm()
+
+    def calm(self):
+        """From now on little is made that breaks a rule by itself."""
+        self.built_in = self.wrong = self.tops = self.anonymous = self.double = self.forgotten = self.clashes = 0
+        self.literals = RIGHT_FORMS
+
+    def name(self, sort):
+        sort = SAME_NAMES.get(sort, sort)
+        if random.random() < self.wrong and sort in MISPLACED:
+            return random.choice(MISPLACED[sort])
+        if sort == "q" and random.random() < self.tops:
+            return "owl:topDataProperty"
+        own, built_in = self.own.get(sort, []), BUILT_IN.get(sort, [])
+        return random.choice(built_in if built_in and (not own or random.random() < self.built_in) else own)
+
+    def part(self, sort, depth):
+        if sort == "e":
+            kind = random.choice("cdpqai")
+            return f"{KINDS[kind]}({random.choice(self.own[kind] or ['xsd:int'])})"
+        if sort in "is" and random.random() < self.anonymous:
+            return f"_:{random.choice(self.labels)}"
+        if sort == "v" and random.random() < 0.7:
+            return random.choice(RIGHT_FORMS + WRONG_FORMS + WRONG_TYPES + ["_:x", "_:y"] * 8)
+        if sort in "is" or sort in "chpd" and random.random() > self.deep:
+            return self.name(sort)
+        if sort in "cd" and depth < 4 and random.random() < 0.6:
+            return self.construct(self.shapes if sort == "c" else [*RANGES, "DatatypeRestriction", "DatatypeRestriction"], depth)
+        return super().part(sort, depth)
+
+    def parts(self, name, depth):
+        if name == "DatatypeRestriction" and random.random() < 0.7:
+            return [random.choice(FITTING), random.choice(self.literals)]
+        if name == "DatatypeDefinition" and self.own["d"] and random.random() < 0.9:
+            return [random.choice(self.own["d"]), self.part("d", depth)]
+        if name in ("DataSomeValuesFrom", "DataAllValuesFrom") and random.random() > self.double:
+            return [self.name("q"), self.part("d", depth)]
+        if name == "SubObjectPropertyOf" and random.random() < self.chained:
+            return self.chain()
+        if name == "SubObjectPropertyOf" and self.ranked and random.random() < 0.8:
+            return [self.property(it) for it in sorted(random.choices(self.own["p"], k=2))]
+        if name == "SubDataPropertyOf" and random.random() < 0.2:
+            return [self.name("q"), "owl:topDataProperty"]
+        return super().parts(name, depth)
+
+    def annotations(self, depth=0):
+        return super().annotations(depth) if random.random() < self.noted else []
+
+    def property(self, name):
+        return f"ObjectInverseOf({name})" if random.random() < self.deep / 2 else name
+
+    def chain(self):
+        """A chain that often begins or ends with its super property, of names below it where they are ranked."""
+        above = max(self.name("p"), self.name("p")) if self.ranked else self.name("p")
+        below = [it for it in self.own["p"] if self.ranked and it < above] or self.own["p"] + [self.name("p")]
+        above = self.property(above)
+        chain = [self.property(random.choice(below)) for _ in range(random.choice([2, 2, 3, 4]))]
+        for place in 0, -1:
+            if random.random() < 0.25:
+                chain[place] = above
+        return [f"ObjectPropertyChain({' '.join(chain)})", above]
+
+    def of_themes(self):
+        axioms = []
+        for self.kinds in self.themes:
+            for _ in range(random.choice([1, 1, 2])):
+                axioms += self.axioms()
+        return axioms
+
+    def definitions(self, text):
+        """One for each datatype of a text, for the most part: of those behind it, so that there is no cycle."""
+        own = [it for it in self.own["d"] if it in text]
+        for place, name in enumerate(own):
+            parts = f"{name} {random.choice(own[place + 1 :] + BUILT_IN['d'])})"
+            if random.random() > self.forgotten:
+                yield "DatatypeDefinition(" + parts
+            if random.random() < 0.1:
+                yield f"DatatypeDefinition({self.annotation()} " + parts
+        if random.random() < 0.1:
+            yield f"DatatypeDefinition({random.choice(MISPLACED['d'] + BUILT_IN['d'])} xsd:int)"
+
+    def declarations(self, text):
+        """Those of the names in a text, for the most part."""
+        own = [(KINDS[sort], name) for sort, names in self.own.items() for name in names if re.search(name + r"\b", text)]
+        entities = [it for it in own if random.random() > self.forgotten]
+        entities += random.sample(CLASHES, self.clashes)
+        return [f"Declaration({' '.join([*self.rare_annotations(), f'{kind}({name})'])})" for kind, name in entities]
+
+    def header(self):
+        return random.choice(HEADERS[: random.choice([5, 5, len(HEADERS)])])
+
+
+def spread(items, count):
+    """Items over so many documents, most of them in the first."""
+    places = [random.randrange(count) if random.random() < 0.5 else 0 for _ in items]
+    return [[it for it, at in zip(items, places) if at == place] for place in range(count)]
+
+
+def closure(most=3):
+    """Names and texts of documents, the main one first, whose imports are all there."""
+    count = random.randint(1, most)
+    makers = [RulesMaker()] + [RulesMaker("xyz") for _ in range(count - 1)]
+    for maker in makers[1:]:
+        vars(maker).update({key: it for key, it in vars(makers[0]).items() if key not in ("labels", "themes")})
+    axioms = [maker.of_themes() for maker in makers]
+    definitions = [*makers[0].definitions(str(axioms))]
+    common = spread(definitions + makers[0].declarations(str(axioms + definitions)), count)
+    for place, maker in enumerate(makers):
+        header = maker.header() if place == 0 else f":m{place}{random.choice(['', '', ' :v', ' rdf:v'])}"
+        imports = [f"Import(:m{other})" for other in range(1, count) if random.random() < 0.8]
+        items = common[place] + axioms[place]
+        random.shuffle(items)
+        items = [header, *imports, *maker.rare_annotations(), *items]
+        yield f"{'mik'[place]}.ofn", f"{PREFIXES} Ontology({' '.join(items)})"
+
+
+NAMING = {
+    "c": "SubClassOf({} :A)",
+    "d": "DataPropertyRange(:d {})",
+    "p": "ObjectPropertyDomain({} :A)",
+    "q": "DataPropertyDomain({} :A)",
+    "a": "SubAnnotationPropertyOf({} :n)",
+    "i": "ClassAssertion(:A {})",
+}
+
+
+def table():
+    """An axiom for each literal, for each datatype with each facet, and for each name that is built in, as each kind."""
+    for it in RIGHT_FORMS + WRONG_FORMS + WRONG_TYPES:
+        yield f"DataPropertyAssertion(:d :i {it})"
+    datatypes, facets = (" ".join(row[column] for row in second_rules.ROWS).split() for column in (0, 1))
+    for datatype in datatypes + MISPLACED["d"] + ["rdfs:Literal", ":T"]:
+        yield f"DataPropertyRange(:d {datatype})"
+        for facet in sorted({*facets, *BUILT_IN["f"]}):
+            yield f'DataPropertyRange(:d DatatypeRestriction({datatype} {facet} "1"))'
+    for name in sorted({it for names in [*NAMES_BUILT_IN.values(), *map(" ".join, MISPLACED.values())] for it in names.split()}):
+        yield from (axiom.format(name) for axiom in NAMING.values())
+
+
+def table_documents(size=40):
+    """The table in pieces, each a closure of one document."""
+    axioms = [*table()]
+    declared = "Declaration(Class(:A)) Declaration(DataProperty(:d)) Declaration(AnnotationProperty(:n)) Declaration(Datatype(:T))"
+    for start in range(0, len(axioms), size):
+        yield [("m.ofn", f"{PREFIXES} Ontology({declared} DatatypeDefinition(:T xsd:int) {' '.join(axioms[start : start + size])})")]
+
+
+class Tally:
+    """How many closures broke each rule, and how many lines told so."""
+
+    def __init__(self):
+        self.closures, self.broken, self.lines = 0, dict.fromkeys(second_rules.RULES, 0), 0
+
+    def add(self, found):
+        self.closures += 1
+        self.lines += len(found)
+        for number in {number for number, *_ in found}:
+            self.broken[number] += 1
+
+    def text(self):
+        rules = [f"  DL-{number}: broken by {count}, kept by {self.closures - count}" for number, count in self.broken.items()]
+        return "\n".join([f"{self.closures} closures, {self.lines} breaches", *rules])
+
+
+def write(folder, name, text):
+    with open(os.path.join(folder, name), "wb") as file:
+        file.write(text.encode())
+
+
+def contents(folder, name):
+    with open(os.path.join(folder, name), encoding="utf-8", newline="") as file:
+        return file.read()
+
+
+def wanted(given):
+    """The breaches, and the status, output and line that the program has to give."""
+    found = second_rules.breaches([Document(*it) for it in given])
+    verdict, line = ("no\n", f"no; breaches {len(found)}") if found else ("yes\n", "yes")
+    return found, (int(bool(found)), verdict + second_rules.lines_of(found), f"profile dl: {line}\n")
+
+
+def agrees(program, given, tally):
+    found, expected = wanted(given)
+    tally.add(found)
+    folder = tempfile.mkdtemp(prefix="profiles.")
+    for name, text in given:
+        write(folder, name, text)
+    words = [program, "check", "--profile", "dl", *(name for name, _ in given)]
+    done = subprocess.run(words, capture_output=True, cwd=folder)
+    told = done.returncode, done.stdout.decode(), done.stderr.decode()
+    if told == expected:
+        shutil.rmtree(folder)
+        return True
+    print(f"in {folder}: {' '.join(words)}\n  wanted: {expected}\n  owl:    {told}")
+    return False
+
+
+def compare_program(count=500, seed=1, program=os.path.join(TOP, "bin", "owl")):
+    random.seed(int(seed))
+    tally = Tally()
+    closures = itertools.chain(table_documents(), (list(closure()) for _ in range(int(count))))
+    right = all(agrees(os.path.abspath(program), it, tally) for it in closures)
+    print(tally.text())
+    print("all answered in one way" if right else "the last was answered in two ways")
+    return not right
+
+
+def write_cases(folder, count, seed):
+    random.seed(int(seed))
+    tally = Tally()
+    for each in folder, folder + ".expected":
+        os.makedirs(each)
+    closures = itertools.chain(table_documents(), (closure(1) for _ in range(int(count))))
+    for number, [(name, text)] in enumerate(closures):
+        found = second_rules.breaches([Document(name, text)])
+        tally.add(found)
+        write(folder, f"c{number:04}", text)
+        write(folder + ".expected", f"c{number:04}", second_rules.lines_of(found) + f"breaches {len(found)}\n")
+    print(tally.text())
+    return 0
+
+
+def compare_cases(folder, output):
+    told = {}
+    for part in ("\n" + contents("", output)).split("\n== ")[1:]:
+        name, _, text = part.partition("\n")
+        told[name] = text.rstrip("\n")
+    names, wrong = sorted(os.listdir(folder)), 0
+    for name in filter(told.get, names):
+        expected = contents(folder + ".expected", name).rstrip("\n")
+        if told[name] != expected:
+            wrong += 1
+            print(f"{name}: {contents(folder, name)}\n  wanted:\n{expected}\n  told:\n{told[name]}")
+    print(f"{len(told)} of {len(names)} cases told, {wrong} answered in two ways")
+    return wrong > 0 or len(told) < len(names)
+
+
+def main(words):
+    modes = {"--cases": write_cases, "--compare": compare_cases}
+    return modes[words[0]](*words[1:]) if words[:1] and words[0] in modes else compare_program(*words)
+
+
+if __name__ == "__main__":
+    sys.exit(main(sys.argv[1:]))
