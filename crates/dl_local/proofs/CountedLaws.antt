@@ -20,7 +20,7 @@ use Rattle.dl_local.specs.declared.faults.Local.{Local}
 use Rattle.dl_local.specs.declared.faults.Local.TheVariants.{Undeclared, Misnamed}
 use Rattle.dl_local.specs.declared.faults.LocalFaults.{LocalFaults}
 use Rattle.dl_local.specs.Faults.{AreFaultsBelow, AreFaultsOf, AreOwnFaults, HasFault, IsAtFault, counted, counts, faults_of, has, no_faults}
-use Rattle.dl_local.proofs.OneLaws.{never, one_of_flat, one_of_more, one_of_none, one_of_single, through, told_any, told_as, told_either, turned}
+use Rattle.owl_breaches.proofs.OneLaws.{never, one_of_flat, one_of_more, one_of_none, one_of_single, through, told_any, told_as, told_either, turned}
 
 pub subtrees_are : (ks : Kids) → subtrees_of ks ≡ flat_map subtrees (list_of ks)
 subtrees_are no_kids = refl

@@ -1,4 +1,3 @@
-pub mod OneLaws
 pub mod ByNumbers
 pub mod CountedLaws
 pub mod OwnLaws

@@ -24,7 +24,7 @@ use Rattle.dl_rules.specs.Properties.{IsSimple, Property, asks_simple, propertie
 use Rattle.dl_local.specs.declared.faults.Local.TheVariants.{Undeclared, Misnamed, Datatype, Form, Range, TopData, NotSimple, Anonymous}
 use Rattle.dl_local.specs.Faults.{AreCompositeMarks, AreOwnFaults}
 use Rattle.dl_local.proofs.ByNumbers.{any_map}
-use Rattle.dl_local.proofs.OneLaws.{never, one_of_filtered, one_of_none, through, told_any, told_as}
+use Rattle.owl_breaches.proofs.OneLaws.{never, one_of_filtered, one_of_none, through, told_any, told_as}
 
 -- kinds that have to be declared, and those whose IRIs may not be reserved
 pub guarded_other : (t : Tag) → (t ≡ tag.Datatype → ⊥) → guarded_kind t ≡ declared_kind t

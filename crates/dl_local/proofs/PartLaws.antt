@@ -24,7 +24,7 @@ use Rattle.dl_local.specs.declared.faults.LocalFaults.{LocalFaults}
 use Rattle.dl_local.specs.Faults.{AreLocalFaults, HasFault, IsAtFault, faults_of, has}
 use Rattle.dl_local.specs.LocalRules.{is_local, test_of}
 use Rattle.dl_local.proofs.CountedLaws.{some_told, subtrees_are}
-use Rattle.dl_local.proofs.OneLaws.{one_of_flat, one_of_none, through, told_as}
+use Rattle.owl_breaches.proofs.OneLaws.{one_of_flat, one_of_none, through, told_as}
 
 -- where the top data property may not stand
 pub barred_other : (t : Tag) (ts : List Tree) → (t ≡ tag.Declaration → ⊥) → (t ≡ tag.SubDataPropertyOf → ⊥) → barred_over t ts ≡ ts

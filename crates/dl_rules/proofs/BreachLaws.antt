@@ -21,7 +21,7 @@ use Rattle.dl_rules.specs.Rules.{AreDlBreaches, Breaks, BreaksAt, IsAxiomWith, I
 use Rattle.dl_rules.proofs.DatatypeOrders.{datatype_orders}
 use Rattle.dl_rules.proofs.HierarchyOrders.{hierarchy_orders}
 use Rattle.dl_rules.proofs.LinkForests.{link_forests}
-use Rattle.dl_rules.proofs.SiteLaws.{from_sites, in_sites}
+use Rattle.owl_breaches.proofs.SiteLaws.{from_sites, in_sites}
 
 abbrev axiom_or : Tree → Part → Tree
 axiom_or t (of_header annotations) = t

@@ -9,5 +9,4 @@ pub mod NumberLaws
 pub mod NumberedForests
 pub mod PlaceLaws
 pub mod PropertyLaws
-pub mod SiteLaws
 pub mod WorkedCases

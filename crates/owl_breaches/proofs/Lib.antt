@@ -1,2 +1,4 @@
 pub mod MakingLaws
+pub mod OneLaws
+pub mod SiteLaws
 pub mod ThoseLaws

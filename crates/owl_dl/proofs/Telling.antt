@@ -10,6 +10,7 @@ use Rattle.dl_rules.specs.Properties.{chain_of}
 use Rattle.dl_rules.specs.Rules.{Breaks, HasReservedName}
 use Rattle.owl_breaches.specs.Sites.{Ontologies, axiom_closure}
 use Rattle.owl_breaches.specs.Those.{HoldsOfSome}
+use Rattle.owl_breaches.proofs.OneLaws.{never}
 use Rattle.owl_doc.specs.Entities.{declaration}
 use Rattle.owl_doc.specs.Parts.{of_axiom, of_header}
 use Rattle.owl_kind.specs.Kinds.{Entity, SharesKinds}
@@ -41,9 +42,6 @@ module _ (c : Ontologies) (o : Ontology) (t : Tree) (r : Bool) where
   unfolding Breaks
   by_order h = h
 
-never : (P : Type 0) → (P → ⊥) → IsTrue false ↔ P
-never P none = (λ h. absurd (let e : false ≡ true = h in cc), λ p. absurd (none p))
-
 no_axiom : (c : Ontologies) (o : Ontology) (t : Tree) → Breaks c OntologyIri o (of_axiom t) → ⊥
 unfolding Breaks
 no_axiom c o t h = h.0
@@ -52,7 +50,7 @@ no_axiom c o t h = h.0
 pub none_of_header : (c : Ontologies) (o : Ontology) (t : Tree) (rule : DlRule) → (rule ≡ Forest) ⊎ (rule ≡ OntologyIri) → (rule ≡ Forest → ⊥) → IsTrue false ↔ Breaks c rule o (of_axiom t)
 none_of_header c o t rule (inl e) other = absurd (other e)
 none_of_header c o t rule (inr e) other =
-    subst (λ (r : DlRule). IsTrue false ↔ Breaks c r o (of_axiom t)) (sym e) (never (Breaks c OntologyIri o (of_axiom t)) (no_axiom c o t))
+    subst (λ (r : DlRule). IsTrue false ↔ Breaks c r o (of_axiom t)) (sym e) (never (no_axiom c o t))
 
 pub local_rule : (rule : DlRule) → (rule ≡ Clash → ⊥) → (rule ≡ DatatypeOrder → ⊥) → (rule ≡ Hierarchy → ⊥) → (rule ≡ Forest → ⊥) → (rule ≡ OntologyIri → ⊥) → is_local rule ≡ true
 unfolding test_of
@@ -73,7 +71,7 @@ module _ (c : Ontologies) (o : Ontology) (ns : List Tree) where
       )
 
   quiet : (r : Bool) → r ≡ false → (P : Type 0) → (P → ⊥) → IsTrue r ↔ P
-  quiet r e P none = subst (λ (b : Bool). IsTrue b ↔ P) (sym e) (never P none)
+  quiet r e P none = subst (λ (b : Bool). IsTrue b ↔ P) (sym e) (never none)
 
   -- a header breaks no rule but by its annotations, or by its name
   pub by_notes : (rule : DlRule) (r : Bool) → (is_local rule ≡ true → IsTrue r ↔ Breaks c rule o (of_header ns)) → (is_local rule ≡ false → r ≡ false) → (rule ≡ OntologyIri → ⊥) → IsTrue r ↔ Breaks c rule o (of_header ns)

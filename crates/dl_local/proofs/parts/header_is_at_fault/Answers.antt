@@ -2,7 +2,7 @@ use Rattle.std.proofs.Common.{true, ◌≡◌, ◌↔◌, sym, subst}
 use Rattle.owl_arena.specs.Held.{trees_at}
 use Rattle.owl_doc.specs.Parts.{of_header}
 use Rattle.dl_rules.specs.Rules.{Breaks}
-use Rattle.dl_local.proofs.OneLaws.{never}
+use Rattle.owl_breaches.proofs.OneLaws.{never}
 use Rattle.dl_local.proofs.PartLaws.{header_keeps, names_told, typing_told}
 use Rattle.dl_local.proofs.parts.header_is_at_fault.Goals as goal
 
