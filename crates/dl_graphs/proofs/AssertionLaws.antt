@@ -19,8 +19,9 @@ use Rattle.owl_tree.specs.Trees.{Tree, leaf, node, no_kids, kid, kids_in, kids_o
 use Rattle.owl_tree.proofs.TreeLaws.{kids_of_list_of}
 use Rattle.dl_graphs.specs.declared.links.LinkIds.{LinkIds}
 use Rattle.dl_graphs.specs.Links.{IsLinkIf}
-use Rattle.dl_graphs.proofs.LeafLaws.{anonymous_leaf, holds_no_label}
-use Rattle.dl_graphs.proofs.TagLaws.{tags_differ}
+use Rattle.dl_graphs.proofs.LabelLaws.{holds_no_label}
+use Rattle.owl_tree.proofs.LeafLaws.{anonymous_leaf}
+use Rattle.owl_tree.proofs.TagLaws.{tags_differ}
 use Rattle.dl_graphs.proofs.LinkLaws.{link_there, property_shaped}
 
 other_links_none : (t : Tag) (ts : List Tree) → (t ≡ tag.ObjectPropertyAssertion → ⊥) → link_over t ts ≡ None

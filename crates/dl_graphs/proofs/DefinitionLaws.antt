@@ -22,7 +22,7 @@ use Rattle.owl_arena.proofs.HeldLaws.{entry_at}
 use Rattle.owl_tree.specs.declared.row.AtomSort.TheVariants as sort
 use Rattle.dl_graphs.specs.declared.definitions.DefinitionIds.{DefinitionIds}
 use Rattle.dl_graphs.specs.Uses.{IsDefinitionIf, datatype_leaf}
-use Rattle.dl_graphs.proofs.LeafLaws.{iri_leaf}
+use Rattle.owl_tree.proofs.LeafLaws.{iri_leaf}
 
 -- a leaf that names a datatype is known by it
 leaf_naming : (t : Tag) (a : Atom) (iri : List ℕ) → datatype_over t (iri_in (leaf t a)) ≡ Some iri → leaf t a ≡ datatype_leaf iri

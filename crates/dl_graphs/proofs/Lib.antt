@@ -1,10 +1,9 @@
 pub mod AssertionLaws
 pub mod DefinitionLaws
 pub mod GroupLaws
-pub mod LeafLaws
+pub mod LabelLaws
 pub mod LinkLaws
 pub mod ListLaws
 pub mod RangeLaws
 pub mod RingAssertionLaws
-pub mod TagLaws
 pub mod UseLaws

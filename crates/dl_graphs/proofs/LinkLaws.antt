@@ -30,7 +30,7 @@ use Rattle.dl_graphs.specs.declared.links.Links.{Links}
 use Rattle.dl_graphs.specs.Links.{AddsLink, AreLinks, ArePlaced, IsAdded, IsHeldLink, IsLinkIf, IsListing, IsPlaced, label_leaf, ends_at, link_ids, property_tree}
 use Rattle.dl_graphs.proofs.ListLaws.{hold_again, hold_more, option_back, stands_in, stands_once, stays_at}
 use Rattle.dl_graphs.proofs.UseLaws.{front_and_next}
-use Rattle.dl_graphs.proofs.LeafLaws.{iri_leaf}
+use Rattle.owl_tree.proofs.LeafLaws.{iri_leaf}
 
 -- Properties as trees.
 

@@ -23,9 +23,9 @@ use Rattle.owl_list.proofs.AscendingLaws.{all_in, from_map, in_map}
 use Rattle.owl_list.proofs.FilterLaws.{from_filter, in_filter}
 use Rattle.owl_tree.specs.Trees.{Tree}
 use Rattle.dl_rules.specs.Assertions.{ClosesRing, Link, ends, link_eq, link_of}
-use Rattle.dl_rules.specs.Numbers.{numbered}
+use Rattle.graph_walks.specs.Numbers.{numbered}
 use Rattle.dl_rules.specs.Properties.{Property, property_eq}
-use Rattle.dl_rules.proofs.NumberLaws.{AreListed, numbered_within, rings_of_things}
+use Rattle.graph_walks.proofs.NumberLaws.{AreListed, numbered_within, rings_of_things}
 use Rattle.dl_rules.proofs.PlaceLaws.{places_apart}
 use Rattle.dl_graphs.specs.Links.{ArePlaced, IsHeldLink, IsLabel, IsPlaced, StandOnce, label_leaf, label_place, mark_at}
 use Rattle.dl_graphs.proofs.GroupLaws.{cons_marks, marks_none}

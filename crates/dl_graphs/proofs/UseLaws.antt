@@ -7,9 +7,9 @@ use Rattle.std.proofs.lemmas.Simd.{map-map}
 use Rattle.graph_walks.specs.Marks.{MarkEach}
 use Rattle.graph_walks.specs.Walks.{AreWithin, Walks}
 use Rattle.dl_rules.specs.Definitions.{Definition, IsCyclic, datatype_in, definition_of, definitions, used_by, uses, uses_of}
-use Rattle.dl_rules.specs.Numbers.{numbered}
+use Rattle.graph_walks.specs.Numbers.{numbered}
 use Rattle.dl_rules.specs.Places.{place_of}
-use Rattle.dl_rules.proofs.NumberLaws.{AreListed, cycles_of_things, numbered_within}
+use Rattle.graph_walks.proofs.NumberLaws.{AreListed, cycles_of_things, numbered_within}
 use Rattle.dl_rules.proofs.PlaceLaws.{place_is, places_apart}
 use Rattle.owl_arena.specs.Held.{tree_at, trees_at}
 use Rattle.owl_arena.specs.Shared.{HaveOneNumber}

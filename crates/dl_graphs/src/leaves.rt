@@ -3,11 +3,11 @@
 ghost use Rattle.std.specs.Prelude.{◌≡◌, ◌<◌, length};
 ghost use Rattle.std.specs.Option.{option_map};
 ghost use Rattle.dl_rules.specs.Definitions.{datatype_in};
-ghost use Rattle.dl_rules.specs.Logical.{iri_in};
 ghost use Rattle.dl_rules.specs.Local.{literal_in};
 ghost use Rattle.owl_arena.specs.Held.{tree_at};
 ghost use Rattle.dl_graphs.specs.Ranges.{datatype_of, used_in};
 
+use dl_rules::iri_at;
 use owl_arena::{Arena, ExprId};
 use owl_tree::{Atom, Tag};
 use rdf_terms::Iri;
@@ -21,17 +21,6 @@ pub fn datatype_at<'a>(arena: &'a Arena, id: ExprId) -> Option<&'a Iri>
         iri_at(arena, id)
     } else {
         None
-    }
-}
-
-/// The IRI that the leaf holds, if it holds one.
-fn iri_at<'a>(arena: &'a Arena, id: ExprId) -> Option<&'a Iri>
-    requires { id < length arena.now.trees }
-    ensures { option_map (λ iri. iri.now) result ≡ iri_in (tree_at arena.now.trees id) }
-{
-    match arena.atom(id) {
-        Some(Atom::Iri(iri)) => Some(iri),
-        _ => None,
     }
 }
 

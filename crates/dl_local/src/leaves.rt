@@ -5,12 +5,11 @@ ghost use Rattle.dl_local.specs.Faults.{AreOwnFaults};
 ghost use Rattle.dl_rules.specs.Local.{HasMisusedDatatype, HasWrongForm, IsMisnamed, IsTopData, IsUndeclared, guarded_kind, top_data_property};
 ghost use Rattle.owl_breaches.specs.Sites.{Ontologies, axiom_closure};
 ghost use Rattle.owl_characters.specs.Order.{text_eq};
-ghost use Rattle.owl_doc.specs.Entities.{kind_of};
 ghost use Rattle.owl_tree.specs.declared.tag.Tag.{Tag};
 ghost use Rattle.owl_tree.specs.Trees.{leaf};
 
 use crate::faults::LocalFaults;
-use owl_doc::{declared_kind, entity_of, is_misused};
+use owl_doc::{declared_kind, entity_of, is_misused, kind_of};
 use owl_kind::{Kind, Kinds};
 use owl_tree::{Atom, Tag};
 use rdf_terms::{Iri, lexical_ok, owl};
@@ -42,17 +41,6 @@ fn is_undeclared(tag: Tag, atom: &Atom, kinds: &Kinds) -> bool
     match entity_of(kind_of(tag), atom) {
         Some((kind, iri)) => !kinds.has(kind, iri),
         None => false,
-    }
-}
-
-/// As what a leaf with this tag names an IRI, where an IRI has to be declared so.
-#[tactic(auto, unfolding(owl_doc::specs::Entities::kind_of), using(owl_doc::proofs::Declaring::no_individual))]
-fn kind_of(tag: Tag) -> Option<Kind>
-    ensures { result ≡ kind_of tag }
-{
-    match tag {
-        Tag::NamedIndividual => None,
-        other => declared_kind(other),
     }
 }
 

@@ -14,9 +14,10 @@ ghost use Rattle.owl_tree.specs.Rows.{is_tag};
 ghost use Rattle.owl_tree.specs.Trees.{atom_in, tag_of};
 
 use crate::faults::LocalFaults;
+use dl_rules::iri_at;
 use graph_walks::has_mark;
 use owl_arena::{Arena, ExprId};
-use owl_tree::{Atom, Tag};
+use owl_tree::Tag;
 use rdf_terms::{Iri, facet_ok};
 
 /// The faults of a node itself, where the properties that are not simple are marked by
@@ -112,17 +113,6 @@ fn facet_at(arena: &Arena, pair: ExprId) -> Option<&Iri>
     match arena.kids(pair) {
         [facet, ..] => iri_at(arena, *facet),
         [] => None,
-    }
-}
-
-/// The IRI that the tree holds, where it is a leaf with an IRI.
-fn iri_at(arena: &Arena, id: ExprId) -> Option<&Iri>
-    requires { id < length arena.now.trees }
-    ensures { option_map (λ iri. iri.now) result ≡ iri_in (tree_at arena.now.trees id) }
-{
-    match arena.atom(id) {
-        Some(Atom::Iri(iri)) => Some(iri),
-        _ => None,
     }
 }
 

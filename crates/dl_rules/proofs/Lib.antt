@@ -2,10 +2,8 @@ pub mod BreachLaws
 pub mod ChainForms
 pub mod Closing
 pub mod DatatypeOrders
-pub mod EachOnce
 pub mod HierarchyOrders
 pub mod LinkForests
-pub mod NumberLaws
 pub mod NumberedForests
 pub mod PlaceLaws
 pub mod PropertyLaws

@@ -16,7 +16,7 @@ use Rattle.graph_walks.proofs.ForestLaws.{forest_has_no_ring}
 use Rattle.graph_walks.proofs.WalkLaws.{both_among, both_back, both_forth, from_both, walk_among}
 use Rattle.graph_walks.proofs.WithoutLaws.{from_without, in_without}
 use Rattle.dl_rules.specs.Assertions.{ClosesRing, ForestExists, IsForest, Link, ends, link_eq, ways_beside}
-use Rattle.dl_rules.proofs.EachOnce.{IsTrimmed, at_place, decided, once, one_place, there, trimmed}
+use Rattle.owl_list.proofs.EachOnceLaws.{IsTrimmed, at_place, decided, once, one_place, there, trimmed}
 use Rattle.dl_rules.proofs.PropertyLaws.{link_tells}
 use Rattle.dl_rules.proofs.NumberedForests.{forest_over, from_map_at, to_map_at}
 

@@ -10,7 +10,7 @@ use Rattle.graph_walks.specs.Rings.{without}
 use Rattle.graph_walks.specs.Walks.{Walks, both_ways, here, onward}
 use Rattle.graph_walks.proofs.ForestLaws.{forest_of}
 use Rattle.graph_walks.proofs.WalkLaws.{both_back, both_forth, both_turned, from_both}
-use Rattle.dl_rules.proofs.EachOnce.{in_or_not}
+use Rattle.owl_list.proofs.EachOnceLaws.{in_or_not}
 use Rattle.graph_walks.proofs.WithoutLaws.{from_without, in_place, in_without}
 
 -- what stands in a place, through a function

@@ -6,4 +6,3 @@ pub mod Assertions
 pub mod Local
 pub mod Rules
 pub mod Places
-pub mod Numbers

@@ -5,6 +5,7 @@ pub mod Finding
 pub mod ForestLaws
 pub mod Joining
 pub mod MarkLaws
+pub mod NumberLaws
 pub mod Parting
 pub mod RingLaws
 pub mod WalkLaws

@@ -2,6 +2,7 @@ pub mod Edges
 pub mod Faults
 pub mod Forests
 pub mod Marks
+pub mod Numbers
 pub mod Parts
 pub mod Rings
 pub mod Searches

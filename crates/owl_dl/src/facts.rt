@@ -1,12 +1,11 @@
 //! Whether a part of an ontology breaks a rule.
 
 ghost use Rattle.std.specs.Prelude.{◌≡◌, ◌↔◌, ◌<◌, IsTrue, length};
-ghost use Rattle.std.specs.Option.{option_map};
 ghost use Rattle.dl_rules.specs.declared.rule.DlRule.TheVariants as dl;
 ghost use Rattle.dl_rules.specs.Rules.{Breaks, HasReservedName};
 ghost use Rattle.owl_arena.specs.Held.{AreHeld, tree_at, trees_at};
 ghost use Rattle.owl_breaches.specs.Those.{HoldsOfSome};
-ghost use Rattle.owl_doc.specs.Entities.{declaration, entity_seen};
+ghost use Rattle.owl_doc.specs.Entities.{declaration};
 ghost use Rattle.owl_doc.specs.Heads.{head_of};
 ghost use Rattle.owl_doc.specs.Parts.{of_axiom, of_header};
 ghost use Rattle.owl_kind.specs.Kinds.{HasBoth, SharesKinds};
@@ -19,10 +18,9 @@ use dl_rules::DlRule;
 use graph_walks::has_mark;
 use owl_arena::{Arena, ExprId};
 use owl_atom::{Iri, reserved};
-use owl_doc::{Closure, Head, declared_kind, entity_of};
+use owl_doc::{Closure, Head, declaration};
 use owl_kind::{Kind, Kinds};
 use owl_pool::Pooled;
-use owl_tree::Tag;
 
 /// What is known of an import closure, whose trees stand in one arena.
 #[derive(Clone, Copy, Debug)]
@@ -118,19 +116,4 @@ fn has_both(kinds: &Kinds, one: Kind, other: Kind, iri: &Iri) -> bool
     ensures { IsTrue result ↔ HasBoth kinds.now one other iri.now }
 {
     kinds.has(one, iri) && kinds.has(other, iri)
-}
-
-/// The entity that the tree declares, where it is a Declaration (Structural
-/// Specification, section 5.8).
-fn declaration(arena: &Arena, id: ExprId) -> Option<(Kind, &Iri)>
-    requires { id < length arena.now.trees }
-    ensures { option_map entity_seen result ≡ declaration (tree_at arena.now.trees id) }
-{
-    if arena.tag(id) != Tag::Declaration {
-        return None;
-    }
-    match arena.kids(id) {
-        [_, named] => entity_of(declared_kind(arena.tag(*named)), arena.atom(*named)?),
-        _ => None,
-    }
 }

@@ -21,7 +21,8 @@ use std::alloc::{AllocError, Global};
 /// Each rule of OWL 2 DL with each part of the documents that breaks it
 /// (Structural Specification, sections 3 and 11), in the order of the rules, of
 /// the documents, and of their parts, the header before the axioms in canonical
-/// order. `NoMemory` comes only where memory runs out.
+/// order. `NoMemory` comes only where memory runs out, or where several documents
+/// hold more than 2^28 trees between them.
 ///
 /// The time grows with what the documents hold, and for each pair of a chain that
 /// may be part of a fault of the order with the number of properties again.

@@ -43,7 +43,7 @@ fn declare(arena: &Arena, id: ExprId, kinds: &mut Kinds) -> Result<(), NoMemory>
 }
 
 /// The entity that the tree declares, where it is a Declaration.
-fn declaration(arena: &Arena, id: ExprId) -> Option<(Kind, &Iri)>
+pub fn declaration(arena: &Arena, id: ExprId) -> Option<(Kind, &Iri)>
     requires { id < length arena.now.trees }
     ensures { option_map entity_seen result ≡ declaration (tree_at arena.now.trees id) }
 {

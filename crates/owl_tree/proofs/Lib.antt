@@ -1,9 +1,11 @@
 pub mod CanonicalLaws
 pub mod EquivalenceLaws
 pub mod Keywords
+pub mod LeafLaws
 pub mod OntologyLaws
 pub mod PlacesLaws
 pub mod ShapeLaws
 pub mod ShapeTestLaws
+pub mod TagLaws
 pub mod TreeLaws
 pub mod WorkedCases

@@ -24,7 +24,7 @@ use Rattle.owl_tree.specs.Rows.{row_of, takes}
 use Rattle.owl_tree.specs.Shape.{IsShaped}
 use Rattle.owl_tree.specs.Trees.{Tree, Kids, leaf, node, kids_in, list_of, tag_of}
 use Rattle.property_hierarchy.specs.Listed.{HoldsKids}
-use Rattle.property_hierarchy.specs.Numbers.{below_at, below_from, inverse_number, number_eq, number_of, numbered, numbered_chain, numbers_in}
+use Rattle.property_hierarchy.specs.Numbers.{below_at, below_from, inverse_number, number_eq, number_of, numbered_pairs, numbered_chain, numbers_in}
 use Rattle.property_hierarchy.specs.declared.numbers.PropertyNumber.{PropertyNumber}
 use Rattle.property_hierarchy.proofs.Listing.{IsListed, chain_listed, iris_apart, leaf_of}
 
@@ -189,13 +189,13 @@ module _ (ts : List Tree) where
       ap (λ (b : Bool). b && beq p.inverted q.inverted)
       (same_from_decides (nat_eq (place_of ts (leaf_of p)) (place_of ts (leaf_of q))) (text_eq p.iri q.iri) (λ h. apart (eq.0 h), λ e. eq.1 (there e)) (bytes_eq-Decides p.iri q.iri))
 
-  numbered_over_below : (q : Property) (ps : List Property) → numbered ts (below_over inverse q ps) ≡ below_over inverse_number (number_of ts q) (map (number_of ts) ps)
+  numbered_over_below : (q : Property) (ps : List Property) → numbered_pairs ts (below_over inverse q ps) ≡ below_over inverse_number (number_of ts q) (map (number_of ts) ps)
   numbered_over_below q [] = refl
   numbered_over_below q (p ∷ ps) =
       ap (λ (more : List (PropertyNumber × PropertyNumber)). (number_of ts p, number_of ts q) ∷ (inverse_number (number_of ts p), number_of ts q) ∷ more) (numbered_over_below q ps)
 
   numbered_below : (chain : Chain Property) (top : PropertyNumber) → IsListed ts chain.implied → top ≡ number_of ts top_property →
-      below_over inverse_number (number_of ts chain.implied) (needed number_eq top (numbered_chain ts chain)) ≡ numbered ts (below_of chain)
+      below_over inverse_number (number_of ts chain.implied) (needed number_eq top (numbered_chain ts chain)) ≡ numbered_pairs ts (below_of chain)
   numbered_below chain top own e =
       ap (λ (n : PropertyNumber). below_over inverse_number (number_of ts chain.implied) (needed number_eq n (numbered_chain ts chain))) e
       ∙ (ap (below_over inverse_number (number_of ts chain.implied)) (needed_through (number_of ts) property_eq number_eq chain.implied
@@ -204,7 +204,7 @@ module _ (ts : List Tree) where
       ∙ sym (numbered_over_below chain.implied (needed property_eq top_property chain)))
 
   some_below : (o : Option (Chain Property)) (seen : Chain PropertyNumber) (top : PropertyNumber) (pairs : List (PropertyNumber × PropertyNumber)) → ((chain : Chain Property) → o ≡ Some chain → IsListed ts chain.implied) →
-      top ≡ number_of ts top_property → Some seen ≡ option_map (numbered_chain ts) o → pairs ≡ below_over inverse_number seen.implied (needed number_eq top seen) → pairs ≡ numbered ts (below_from o)
+      top ≡ number_of ts top_property → Some seen ≡ option_map (numbered_chain ts) o → pairs ≡ below_over inverse_number seen.implied (needed number_eq top seen) → pairs ≡ numbered_pairs ts (below_from o)
   some_below None seen top pairs listed e h made = absurd (none-some seen (sym h))
   some_below (Some chain) seen top pairs listed e h made =
       made ∙ (ap (λ (c : Chain PropertyNumber). below_over inverse_number c.implied (needed number_eq top c)) (same_Some seen (numbered_chain ts chain) h)
@@ -212,14 +212,14 @@ module _ (ts : List Tree) where
 
   pub below_some : (id : ℕ) (seen : Chain PropertyNumber) (top : PropertyNumber) (pairs : List (PropertyNumber × PropertyNumber)) → AreShared ts → HoldsKids ts → id < length ts →
       top ≡ number_of ts top_property → Some seen ≡ option_map (numbered_chain ts) (chain_of (tree_at ts id)) →
-      pairs ≡ below_over inverse_number seen.implied (needed number_eq top seen) → pairs ≡ numbered ts (below_at (tree_at ts id))
+      pairs ≡ below_over inverse_number seen.implied (needed number_eq top seen) → pairs ≡ numbered_pairs ts (below_at (tree_at ts id))
   below_some id seen top pairs shared kids within e h made =
       some_below (chain_of (tree_at ts id)) seen top pairs (λ chain is. (chain_listed ts shared kids id within chain is).implied) e h made
 
-  pub below_at_both : (xs ys : List ℕ) → numbered ts (flat_map below_at (trees_at ts (xs ++ ys))) ≡ numbered ts (flat_map below_at (trees_at ts xs)) ++ numbered ts (flat_map below_at (trees_at ts ys))
+  pub below_at_both : (xs ys : List ℕ) → numbered_pairs ts (flat_map below_at (trees_at ts (xs ++ ys))) ≡ numbered_pairs ts (flat_map below_at (trees_at ts xs)) ++ numbered_pairs ts (flat_map below_at (trees_at ts ys))
   below_at_both xs ys =
-      ap (λ (axioms : List Tree). numbered ts (flat_map below_at axioms)) (map-append (tree_at ts) xs ys)
-      ∙ (ap (numbered ts) (flat_map-append below_at (trees_at ts xs) (trees_at ts ys))
+      ap (λ (axioms : List Tree). numbered_pairs ts (flat_map below_at axioms)) (map-append (tree_at ts) xs ys)
+      ∙ (ap (numbered_pairs ts) (flat_map-append below_at (trees_at ts xs) (trees_at ts ys))
       ∙ map-append (λ (pair : Property × Property). (number_of ts pair.0, number_of ts pair.1)) (flat_map below_at (trees_at ts xs)) (flat_map below_at (trees_at ts ys)))
 
   pub counts_both : (xs ys : List ℕ) → map (λ t. length (below_at t)) (trees_at ts (xs ++ ys)) ≡ map (λ t. length (below_at t)) (trees_at ts xs) ++ map (λ t. length (below_at t)) (trees_at ts ys)
@@ -227,10 +227,10 @@ module _ (ts : List Tree) where
       ap (map (λ t. length (below_at t))) (map-append (tree_at ts) xs ys) ∙ map-append (λ t. length (below_at t)) (trees_at ts xs) (trees_at ts ys)
 
   -- what one axiom adds
-  pub below_pushed : (t : Tree) (old more new : List (PropertyNumber × PropertyNumber)) → more ≡ numbered ts (below_at t) → new ≡ old ++ more → new ≡ old ++ numbered ts (flat_map below_at (t ∷ []))
+  pub below_pushed : (t : Tree) (old more new : List (PropertyNumber × PropertyNumber)) → more ≡ numbered_pairs ts (below_at t) → new ≡ old ++ more → new ≡ old ++ numbered_pairs ts (flat_map below_at (t ∷ []))
   below_pushed t old more new e f =
-      f ∙ (ap (λ (pairs : List (PropertyNumber × PropertyNumber)). old ++ pairs) e ∙ ap (λ (pairs : List (Property × Property)). old ++ numbered ts pairs) (sym (append-nil (below_at t))))
+      f ∙ (ap (λ (pairs : List (PropertyNumber × PropertyNumber)). old ++ pairs) e ∙ ap (λ (pairs : List (Property × Property)). old ++ numbered_pairs ts pairs) (sym (append-nil (below_at t))))
 
-  pub count_pushed : (t : Tree) (more : List (PropertyNumber × PropertyNumber)) (count : ℕ) (old new : List ℕ) → more ≡ numbered ts (below_at t) → count ≡ length more → new ≡ old ++ count ∷ [] → new ≡ old ++ map (λ t. length (below_at t)) (t ∷ [])
+  pub count_pushed : (t : Tree) (more : List (PropertyNumber × PropertyNumber)) (count : ℕ) (old new : List ℕ) → more ≡ numbered_pairs ts (below_at t) → count ≡ length more → new ≡ old ++ count ∷ [] → new ≡ old ++ map (λ t. length (below_at t)) (t ∷ [])
   count_pushed t more count old new e c f =
       f ∙ ap (λ (n : ℕ). old ++ n ∷ []) (c ∙ (ap (length {A = PropertyNumber × PropertyNumber}) e ∙ length-map (below_at t) (λ (pair : Property × Property). (number_of ts pair.0, number_of ts pair.1))))

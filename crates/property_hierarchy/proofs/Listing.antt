@@ -13,7 +13,7 @@ use Rattle.dl_rules.specs.Hierarchy.{behind, below_over, in_front_of, is_twice, 
 use Rattle.dl_rules.specs.Logical.{iri_in, operands}
 use Rattle.dl_rules.specs.Places.{place_of}
 use Rattle.dl_rules.specs.Properties.{Chain, Property, chain_of, chain_over, inverse, leads, named, named_over, neighbours, properties_in, property_eq, property_in, property_over, steps_of, steps_over, top_property, with_inverses}
-use Rattle.dl_rules.proofs.NumberLaws.{AreListed}
+use Rattle.graph_walks.proofs.NumberLaws.{AreListed}
 use Rattle.dl_rules.proofs.PlaceLaws.{place_is, places_apart}
 use Rattle.owl_arena.specs.Held.{AreHeld, tree_at, trees_at}
 use Rattle.owl_arena.specs.Shared.{AreShared}

@@ -13,16 +13,16 @@ use Rattle.graph_walks.specs.Walks.{AreWithin, IsReached, Walks}
 use Rattle.graph_walks.proofs.MarkLaws.{pushed_at}
 use Rattle.graph_walks.proofs.WalkLaws.{first_step}
 use Rattle.dl_rules.specs.Hierarchy.{BreaksOrder, below, below_of, chains}
-use Rattle.dl_rules.specs.Numbers as things
+use Rattle.graph_walks.specs.Numbers as things
 use Rattle.dl_rules.specs.Properties.{Chain, IsSimple, Property, chain_of, composites, leads, property_in}
-use Rattle.dl_rules.proofs.NumberLaws.{AreListed, faults_of_things, same_walks, walks_numbered}
+use Rattle.graph_walks.proofs.NumberLaws.{AreListed, faults_of_things, same_walks, walks_numbered}
 use Rattle.owl_arena.specs.Held.{AreHeld, tree_at, trees_at}
 use Rattle.owl_arena.specs.Shared.{AreShared}
 use Rattle.owl_arena.proofs.HeldLaws.{tree_inside}
 use Rattle.owl_tree.specs.Trees.{Tree}
 use Rattle.dl_graphs.specs.Groups.{group_marks}
 use Rattle.property_hierarchy.specs.Listed.{HoldsKids, mark_of, node_pairs, nodes_of, property_node}
-use Rattle.property_hierarchy.specs.Numbers.{IsBelowBy, below_at, below_from, node_of, number_of, numbered}
+use Rattle.property_hierarchy.specs.Numbers.{IsBelowBy, below_at, below_from, node_of, number_of, numbered_pairs}
 use Rattle.property_hierarchy.specs.declared.chains.Below.{Below}
 use Rattle.property_hierarchy.specs.declared.numbers.PropertyNumber.{PropertyNumber}
 use Rattle.dl_graphs.proofs.GroupLaws.{marks_of_groups, marks_same}
@@ -59,10 +59,10 @@ module _ (ts : List Tree) where
   nodes_are : (ps : List Property) → nodes_of (map (number_of ts) ps) ≡ map (property_node ts) ps
   nodes_are ps = map-map node_of (number_of ts) ps
 
-  pairs_are : (pairs : List (Property × Property)) → node_pairs (numbered ts pairs) ≡ things.numbered (property_node ts) pairs
+  pairs_are : (pairs : List (Property × Property)) → node_pairs (numbered_pairs ts pairs) ≡ things.numbered (property_node ts) pairs
   pairs_are pairs = map-map (both node_of) (λ (pair : Property × Property). (number_of ts pair.0, number_of ts pair.1)) pairs
 
-  pairs_within : (pairs : List (Property × Property)) → AreWithin (2 * (length ts + 1)) (node_pairs (numbered ts pairs))
+  pairs_within : (pairs : List (Property × Property)) → AreWithin (2 * (length ts + 1)) (node_pairs (numbered_pairs ts pairs))
   pairs_within pairs = λ x y m.
       let v = from_map (both (property_node ts)) pairs (x, y) (subst (λ (qs : List (ℕ × ℕ)). Contains qs (x, y)) (pairs_are pairs) m) in (
         subst (λ (n : ℕ). n < 2 * (length ts + 1)) (ap (λ (p : ℕ × ℕ). p.0) v.value) (node_few ts v.element.0),
@@ -75,7 +75,7 @@ module _ (ts : List Tree) where
     IsComposite p = IsSimple (trees_at ts ids) p → ⊥
 
     abbrev ReachesNode : ℕ → Type 0
-    ReachesNode n = IsReached (node_pairs (numbered ts (leads (trees_at ts ids)))) (nodes_of (map (number_of ts) (composites (trees_at ts ids)))) n
+    ReachesNode n = IsReached (node_pairs (numbered_pairs ts (leads (trees_at ts ids)))) (nodes_of (map (number_of ts) (composites (trees_at ts ids)))) n
 
     same_node : (p : Property) → IsListed ts p → IsReached (leads (trees_at ts ids)) (composites (trees_at ts ids)) p ↔ ReachesNode (property_node ts p)
     same_node p own =
@@ -135,9 +135,9 @@ abbrev pub NodeFaults : List (ℕ × ℕ) → List (ℕ × ℕ) → List Bool �
 NodeFaults steps pairs marks = MarkEach (λ (place : ℕ) (pair : ℕ × ℕ). IsFault steps pairs pair.0 pair.1) pairs marks
 
 -- what the calls of graphs are passed, and give
-pub within_for : (ts : List Tree) (count : ℕ) (pairs : List (Property × Property)) (nodes : List (ℕ × ℕ)) → count ≡ length ts → nodes ≡ node_pairs (numbered ts pairs) → AreWithin (2 * (count + 1)) nodes
+pub within_for : (ts : List Tree) (count : ℕ) (pairs : List (Property × Property)) (nodes : List (ℕ × ℕ)) → count ≡ length ts → nodes ≡ node_pairs (numbered_pairs ts pairs) → AreWithin (2 * (count + 1)) nodes
 within_for ts count pairs nodes e f =
-    subst (λ (qs : List (ℕ × ℕ)). AreWithin (2 * (count + 1)) qs) (sym f) (subst (λ (n : ℕ). AreWithin (2 * (n + 1)) (node_pairs (numbered ts pairs))) (sym e) (pairs_within ts pairs))
+    subst (λ (qs : List (ℕ × ℕ)). AreWithin (2 * (count + 1)) qs) (sym f) (subst (λ (n : ℕ). AreWithin (2 * (n + 1)) (node_pairs (numbered_pairs ts pairs))) (sym e) (pairs_within ts pairs))
 
 pub reached_for : (count nodes : ℕ) (pairs others : List (ℕ × ℕ)) (starts those : List ℕ) (marks : List Bool) → count ≡ nodes → pairs ≡ others → starts ≡ those →
     MarkNumbers (2 * (count + 1)) (IsReached pairs starts) marks → MarkNumbers (2 * (nodes + 1)) (IsReached others those) marks
@@ -169,17 +169,17 @@ module _ (ts : List Tree) (shared : AreShared ts) (kids : HoldsKids ts) (ids : L
   abbrev pairs_below : List (Property × Property)
   pairs_below = flat_map below_at (trees_at ts ids)
 
-  things_marked : (marks : List Bool) → NodeFaults (node_pairs (numbered ts (leads axs))) (node_pairs (numbered ts pairs_below)) marks →
+  things_marked : (marks : List Bool) → NodeFaults (node_pairs (numbered_pairs ts (leads axs))) (node_pairs (numbered_pairs ts pairs_below)) marks →
       MarkEach (λ (place : ℕ) (pair : Property × Property). IsFault (leads axs) pairs_below pair.0 pair.1) pairs_below marks
   things_marked marks each =
       faults_of_things (property_node ts) (IsListed ts) (nodes_apart ts) (leads axs) pairs_below (leads_listed ts shared kids ids held) (below_listed ts shared kids ids held) marks
       (subst (λ (steps : List (ℕ × ℕ)). NodeFaults steps (things.numbered (property_node ts) pairs_below) marks) (pairs_are ts (leads axs))
-      (subst (λ (pairs : List (ℕ × ℕ)). NodeFaults (node_pairs (numbered ts (leads axs))) pairs marks) (pairs_are ts pairs_below) each))
+      (subst (λ (pairs : List (ℕ × ℕ)). NodeFaults (node_pairs (numbered_pairs ts (leads axs))) pairs marks) (pairs_are ts pairs_below) each))
 
-  pub broken_marks : (found : Below) (marks groups : List Bool) → IsBelowBy ts axs found → NodeFaults (node_pairs (numbered ts (leads axs))) (node_pairs found.pairs.items) marks → groups ≡ group_marks found.counts.items marks →
+  pub broken_marks : (found : Below) (marks groups : List Bool) → IsBelowBy ts axs found → NodeFaults (node_pairs (numbered_pairs ts (leads axs))) (node_pairs found.pairs.items) marks → groups ≡ group_marks found.counts.items marks →
       MarkEach (λ (place : ℕ) (t : Tree). HoldsOfSome (BreaksOrder axs) (chain_of t)) axs groups
   broken_marks found marks groups by faults made =
-      let marked = things_marked marks (subst (λ (pairs : List (PropertyNumber × PropertyNumber)). NodeFaults (node_pairs (numbered ts (leads axs))) (node_pairs pairs) marks) by.pairs faults) in
+      let marked = things_marked marks (subst (λ (pairs : List (PropertyNumber × PropertyNumber)). NodeFaults (node_pairs (numbered_pairs ts (leads axs))) (node_pairs pairs) marks) by.pairs faults) in
       let IsSo = λ (pair : Property × Property). IsFault (leads axs) pairs_below pair.0 pair.1 in
       let grouped = marks_of_groups below_at IsSo axs marks marked in
       let same_groups : group_marks (map (λ t. length (below_at t)) axs) marks ≡ groups = sym (made ∙ ap (λ (counts : List ℕ). group_marks counts marks) by.counts) in

@@ -12,7 +12,7 @@ use Rattle.property_hierarchy.proofs.Numbering.{numbers_both}
 use Rattle.owl_tree.specs.declared.tag.Tag.{Tag}
 use Rattle.owl_tree.specs.declared.tag.Tag.TheVariants as tag
 use Rattle.owl_tree.specs.Trees.{Tree, tag_of}
-use Rattle.property_hierarchy.specs.Numbers.{inverse_number, number_of, numbered, numbers_in}
+use Rattle.property_hierarchy.specs.Numbers.{inverse_number, number_of, numbered_pairs, numbers_in}
 use Rattle.property_hierarchy.specs.declared.numbers.PropertyNumber.{PropertyNumber}
 
 -- one more of them leads to the one before it, and back
@@ -46,13 +46,13 @@ neighbours_step {P} ps place d old new some within made more =
     new ≡ neighbours (take (n + 1) ps)) here (neighbours_at ps (place - 1) d old new) within made more
 
 module _ (ts : List Tree) where
-  numbered_neighbours : (ps : List Property) → numbered ts (neighbours ps) ≡ neighbours (map (number_of ts) ps)
+  numbered_neighbours : (ps : List Property) → numbered_pairs ts (neighbours ps) ≡ neighbours (map (number_of ts) ps)
   numbered_neighbours [] = refl
   numbered_neighbours (p ∷ []) = refl
   numbered_neighbours (p ∷ q ∷ ps) =
       ap (λ (more : List (PropertyNumber × PropertyNumber)). (number_of ts p, number_of ts q) ∷ (number_of ts q, number_of ts p) ∷ more) (numbered_neighbours (q ∷ ps))
 
-  numbered_over : (t : Tag) (ps : List Property) → numbered ts (steps_over inverse t ps) ≡ steps_over inverse_number t (map (number_of ts) ps)
+  numbered_over : (t : Tag) (ps : List Property) → numbered_pairs ts (steps_over inverse t ps) ≡ steps_over inverse_number t (map (number_of ts) ps)
   unfolding steps_over
   numbered_over tag.SubObjectPropertyOf [] = refl
   numbered_over tag.SubObjectPropertyOf (p ∷ []) = refl
@@ -68,23 +68,23 @@ module _ (ts : List Tree) where
   numbered_over tag.SymmetricObjectProperty (p ∷ q ∷ ps) = refl
   numbered_over _ ps = refl
 
-  turned_numbered : (pairs : List (Property × Property)) → numbered ts (with_inverses inverse pairs) ≡ with_inverses inverse_number (numbered ts pairs)
+  turned_numbered : (pairs : List (Property × Property)) → numbered_pairs ts (with_inverses inverse pairs) ≡ with_inverses inverse_number (numbered_pairs ts pairs)
   turned_numbered pairs =
       map-append (λ (pair : Property × Property). (number_of ts pair.0, number_of ts pair.1)) pairs (map (λ (pair : Property × Property). (inverse pair.0, inverse pair.1)) pairs)
-      ∙ ap (λ (more : List (PropertyNumber × PropertyNumber)). numbered ts pairs ++ more)
+      ∙ ap (λ (more : List (PropertyNumber × PropertyNumber)). numbered_pairs ts pairs ++ more)
       (map-map (λ (pair : Property × Property). (number_of ts pair.0, number_of ts pair.1)) (λ (pair : Property × Property). (inverse pair.0, inverse pair.1)) pairs
       ∙ sym (map-map (λ (step : PropertyNumber × PropertyNumber). (inverse_number step.0, inverse_number step.1)) (λ (pair : Property × Property). (number_of ts pair.0, number_of ts pair.1)) pairs))
 
   -- what the code makes of an axiom
-  pub axiom_numbered : (t : Tree) (numbers : List PropertyNumber) (stated steps : List (PropertyNumber × PropertyNumber)) → numbers ≡ numbers_in ts (operands t) → stated ≡ steps_over inverse_number (tag_of t) numbers → steps ≡ with_inverses inverse_number stated → steps ≡ numbered ts (steps_of t)
+  pub axiom_numbered : (t : Tree) (numbers : List PropertyNumber) (stated steps : List (PropertyNumber × PropertyNumber)) → numbers ≡ numbers_in ts (operands t) → stated ≡ steps_over inverse_number (tag_of t) numbers → steps ≡ with_inverses inverse_number stated → steps ≡ numbered_pairs ts (steps_of t)
   axiom_numbered t numbers stated steps e f g =
       g ∙ (ap (with_inverses inverse_number) (f ∙ (ap (steps_over inverse_number (tag_of t)) e ∙ sym (numbered_over (tag_of t) (properties_in (operands t)))))
       ∙ sym (turned_numbered (steps_over inverse (tag_of t) (properties_in (operands t)))))
 
-  pub leads_both : (xs ys : List ℕ) → numbered ts (leads (trees_at ts (xs ++ ys))) ≡ numbered ts (leads (trees_at ts xs)) ++ numbered ts (leads (trees_at ts ys))
+  pub leads_both : (xs ys : List ℕ) → numbered_pairs ts (leads (trees_at ts (xs ++ ys))) ≡ numbered_pairs ts (leads (trees_at ts xs)) ++ numbered_pairs ts (leads (trees_at ts ys))
   leads_both xs ys =
-      ap (λ (axioms : List Tree). numbered ts (leads axioms)) (map-append (tree_at ts) xs ys)
-      ∙ (ap (numbered ts) (flat_map-append steps_of (trees_at ts xs) (trees_at ts ys)) ∙ map-append (λ (pair : Property × Property). (number_of ts pair.0, number_of ts pair.1)) (leads (trees_at ts xs)) (leads (trees_at ts ys)))
+      ap (λ (axioms : List Tree). numbered_pairs ts (leads axioms)) (map-append (tree_at ts) xs ys)
+      ∙ (ap (numbered_pairs ts) (flat_map-append steps_of (trees_at ts xs) (trees_at ts ys)) ∙ map-append (λ (pair : Property × Property). (number_of ts pair.0, number_of ts pair.1)) (leads (trees_at ts xs)) (leads (trees_at ts ys)))
 
   pub numbers_at_both : (xs ys : List ℕ) → numbers_in ts (trees_at ts (xs ++ ys)) ≡ numbers_in ts (trees_at ts xs) ++ numbers_in ts (trees_at ts ys)
   numbers_at_both xs ys = ap (numbers_in ts) (map-append (tree_at ts) xs ys) ∙ numbers_both ts (trees_at ts xs) (trees_at ts ys)

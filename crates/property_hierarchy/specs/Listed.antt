@@ -1,7 +1,7 @@
 -- Trees that an arena has, and the marks of the properties among them.
 use Rattle.std.specs.Prelude.{ℕ, Bool, false, List, Option, None, Some, Contains, map, slice_index_or}
 use Rattle.std.specs.List.{AllByRecursion}
-use Rattle.dl_rules.specs.Numbers.{numbered}
+use Rattle.graph_walks.specs.Numbers.{numbered}
 use Rattle.dl_rules.specs.Properties.{Property}
 use Rattle.owl_tree.specs.Trees.{Tree, kids_in}
 use Rattle.property_hierarchy.specs.Numbers.{node_of, number_of}

@@ -36,8 +36,8 @@ abbrev pub node_of : PropertyNumber → ℕ
 node_of n = if n.inverted then 2 * n.place + 1 else 2 * n.place
 
 -- pairs of properties, by their numbers
-abbrev pub numbered : List Tree → List (Property × Property) → List (PropertyNumber × PropertyNumber)
-numbered ts pairs = map (λ (pair : Property × Property). (number_of ts pair.0, number_of ts pair.1)) pairs
+abbrev pub numbered_pairs : List Tree → List (Property × Property) → List (PropertyNumber × PropertyNumber)
+numbered_pairs ts pairs = map (λ (pair : Property × Property). (number_of ts pair.0, number_of ts pair.1)) pairs
 
 abbrev pub numbered_chain : List Tree → Chain Property → Chain PropertyNumber
 numbered_chain ts chain = record { parts = map (number_of ts) chain.parts; implied = number_of ts chain.implied }
@@ -64,5 +64,5 @@ below_at t = below_from (chain_of t)
 
 -- what these axioms put below what, and how many pairs of it are of each
 pub record IsBelowBy (ts axioms : List Tree) (below : Below) : Type 0 where
-  pub pairs : below.pairs.items ≡ numbered ts (flat_map below_at axioms)
+  pub pairs : below.pairs.items ≡ numbered_pairs ts (flat_map below_at axioms)
   pub counts : below.counts.items ≡ map (λ t. length (below_at t)) axioms

@@ -9,7 +9,7 @@ ghost use Rattle.owl_tree.specs.declared.tag.Tag.TheVariants as tag;
 ghost use Rattle.owl_arena.specs.Held.{AreHeld, tree_at, trees_at};
 ghost use Rattle.owl_arena.specs.Shared.{AreShared};
 ghost use Rattle.property_hierarchy.specs.Listed.{HoldsKids};
-ghost use Rattle.property_hierarchy.specs.Numbers.{IsBelowBy, below_at, chain_seen, inverse_number, number_eq, number_of, numbered, numbered_chain};
+ghost use Rattle.property_hierarchy.specs.Numbers.{IsBelowBy, below_at, chain_seen, inverse_number, number_eq, number_of, numbered_pairs, numbered_chain};
 
 use crate::numbers::{PropertyNumber, properties_at, property_at};
 use crate::steps::{Step, operands};
@@ -164,7 +164,7 @@ fn axiom_below(
     requires axiom { id < length arena.now.trees }
     requires top { top ≡ number_of arena.now.trees top_property }
     ensures { IfOk result (λ pairs. pairs.items
-        ≡ numbered arena.now.trees (below_at (tree_at arena.now.trees id))) }
+        ≡ numbered_pairs arena.now.trees (below_at (tree_at arena.now.trees id))) }
 {
     match chain_at(alloc, arena, id)? {
         Some(chain) => below_over(alloc, chain.implied, needed(top, &chain)),

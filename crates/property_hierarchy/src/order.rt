@@ -11,7 +11,7 @@ ghost use Rattle.owl_arena.specs.Held.{AreHeld, tree_at, trees_at};
 ghost use Rattle.owl_arena.specs.Shared.{AreShared};
 ghost use Rattle.owl_breaches.specs.Those.{HoldsOfSome};
 ghost use Rattle.property_hierarchy.specs.Listed.{mark_of, node_pairs, nodes_of};
-ghost use Rattle.property_hierarchy.specs.Numbers.{below_at, number_of, numbered};
+ghost use Rattle.property_hierarchy.specs.Numbers.{below_at, number_of, numbered_pairs};
 
 use crate::builtin::{bottom_number, open_kids, top_number};
 use crate::chains::below_by;
@@ -46,7 +46,7 @@ pub fn composite_properties(
 fn composite_nodes(alloc: Global, arena: &Arena, axioms: &[ExprId]) -> Result<Vec<bool>, AllocError>
     requires axioms { AreHeld arena.now.trees axioms.now }
     ensures { IfOk result (λ marks. MarkNumbers (2 * (length arena.now.trees + 1)) (IsReached
-        (node_pairs (numbered arena.now.trees (leads (trees_at arena.now.trees axioms.now))))
+        (node_pairs (numbered_pairs arena.now.trees (leads (trees_at arena.now.trees axioms.now))))
         (nodes_of (map (number_of arena.now.trees)
         (composites (trees_at arena.now.trees axioms.now))))) marks.items) }
 {
@@ -130,9 +130,10 @@ fn fault_marks(
 ) -> Result<Vec<bool>, NoMemory>
     requires axioms { AreHeld arena.now.trees axioms.now }
     requires below { below.now
-        ≡ numbered arena.now.trees (flat_map below_at (trees_at arena.now.trees axioms.now)) }
+        ≡ numbered_pairs arena.now.trees
+        (flat_map below_at (trees_at arena.now.trees axioms.now)) }
     ensures { IfOk result (λ marks. MarkEach (λ _ pair. IsFault
-        (node_pairs (numbered arena.now.trees (leads (trees_at arena.now.trees axioms.now))))
+        (node_pairs (numbered_pairs arena.now.trees (leads (trees_at arena.now.trees axioms.now))))
         (node_pairs below.now) pair.0 pair.1) (node_pairs below.now) marks.items) }
 {
     let nodes = 2 * (arena.distinct() + 1);

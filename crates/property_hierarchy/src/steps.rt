@@ -7,7 +7,7 @@ ghost use Rattle.dl_rules.specs.Properties.{Property, inverse, leads, neighbours
 ghost use Rattle.owl_tree.specs.declared.tag.Tag.TheVariants as tag;
 ghost use Rattle.owl_arena.specs.Held.{AreHeld, tree_at, trees_at};
 ghost use Rattle.owl_arena.specs.Shared.{AreShared};
-ghost use Rattle.property_hierarchy.specs.Numbers.{inverse_number, numbered};
+ghost use Rattle.property_hierarchy.specs.Numbers.{inverse_number, numbered_pairs};
 ghost use Rattle.property_hierarchy.specs.declared.numbers.PropertyNumber.{PropertyNumber};
 
 use crate::numbers::{PropertyNumber, properties_at};
@@ -23,7 +23,7 @@ pub fn steps_by(alloc: Global, arena: &Arena, axioms: &[ExprId]) -> Result<Vec<S
     requires shared { AreShared arena.now.trees }
     requires axioms { AreHeld arena.now.trees axioms.now }
     ensures { IfOk result (λ steps. steps.items
-        ≡ numbered arena.now.trees (leads (trees_at arena.now.trees axioms.now))) }
+        ≡ numbered_pairs arena.now.trees (leads (trees_at arena.now.trees axioms.now))) }
 {
     let mut steps = Vec::new(alloc);
     'axioms: for id in axioms {
@@ -42,7 +42,7 @@ fn push_steps(
     requires shared { AreShared arena.now.trees }
     requires axiom { id < length arena.now.trees }
     ensures { OnOk result (steps.new.items ≡ steps.old.items
-        ++ numbered arena.now.trees (leads (tree_at arena.now.trees id ∷ []))) }
+        ++ numbered_pairs arena.now.trees (leads (tree_at arena.now.trees id ∷ []))) }
 {
     if !states_steps(arena.tag(id)) {
         return Ok(());
@@ -56,7 +56,7 @@ fn axiom_steps(alloc: Global, arena: &Arena, id: ExprId) -> Result<Vec<Step>, Al
     requires shared { AreShared arena.now.trees }
     requires axiom { id < length arena.now.trees }
     ensures { IfOk result (λ steps. steps.items
-        ≡ numbered arena.now.trees (steps_of (tree_at arena.now.trees id))) }
+        ≡ numbered_pairs arena.now.trees (steps_of (tree_at arena.now.trees id))) }
 {
     let operands = properties_at(alloc, arena, operands(arena, id))?;
     let stated = stated_steps(alloc, arena.tag(id), &operands)?;

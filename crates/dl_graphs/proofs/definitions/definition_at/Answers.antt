@@ -2,7 +2,7 @@ use Rattle.std.proofs.Common.{◌∙◌, arith, sym}
 use borrow.Author.Tests.{ltb-false, ltb-true}
 use Rattle.owl_arena.specs.Held.{tree_at}
 use Rattle.dl_graphs.proofs.DefinitionLaws.{definition_by, no_definition_by, no_definition_there}
-use Rattle.dl_graphs.proofs.TagLaws.{tags_unequal}
+use Rattle.owl_tree.proofs.TagLaws.{tags_unequal}
 use Rattle.owl_tree.proofs.ShapeTestLaws.{not_other}
 use Rattle.dl_graphs.proofs.definitions.definition_at.Goals as goal
 use Rattle.dl_graphs.proofs.definitions.definition_at.Goals.{in_default-via-then-kids-lt3, in_default-via-else-kids-lt3+else-this-lt4}

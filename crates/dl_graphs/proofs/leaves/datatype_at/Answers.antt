@@ -1,7 +1,7 @@
 use Rattle.std.proofs.Common.{◌∙◌, sym}
 use Rattle.owl_arena.specs.Held.{tree_at}
 use Rattle.dl_graphs.proofs.DefinitionLaws.{named_by_tag, none_by_tag}
-use Rattle.dl_graphs.proofs.TagLaws.{tags_differ}
+use Rattle.owl_tree.proofs.TagLaws.{tags_differ}
 use Rattle.owl_tree.proofs.ShapeTestLaws.{tag_told}
 use Rattle.dl_graphs.proofs.leaves.datatype_at.Goals as goal
 

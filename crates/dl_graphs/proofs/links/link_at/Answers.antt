@@ -3,7 +3,7 @@ use borrow.Author.Tests.{ltb-false, ltb-true}
 use Rattle.owl_arena.specs.Held.{tree_at}
 use Rattle.owl_tree.proofs.ShapeTestLaws.{not_other}
 use Rattle.dl_graphs.proofs.AssertionLaws.{IsAssertion, assertion_by, its_expression, its_link, no_link_by, no_link_there}
-use Rattle.dl_graphs.proofs.TagLaws.{tags_unequal}
+use Rattle.owl_tree.proofs.TagLaws.{tags_unequal}
 use Rattle.dl_graphs.proofs.links.link_at.Goals as goal
 use Rattle.dl_graphs.proofs.links.link_at.Goals.{in_default-via-then-kids-lt4, in_default-via-else-kids-lt4+else-this-lt5}
 

@@ -6,7 +6,7 @@ use Rattle.owl_arena.specs.Held.{tree_at}
 use Rattle.owl_tree.proofs.ShapeTestLaws.{not_other}
 use Rattle.property_hierarchy.specs.Numbers.{chain_seen}
 use Rattle.property_hierarchy.proofs.Chaining.{chain_of_two, no_chain, no_pair, two_at}
-use Rattle.dl_graphs.proofs.TagLaws.{tags_unequal}
+use Rattle.owl_tree.proofs.TagLaws.{tags_unequal}
 use Rattle.property_hierarchy.proofs.chains.chain_at.Goals as goal
 use Rattle.property_hierarchy.proofs.chains.chain_at.Goals.{in_default-via-then-operands-lt2, in_default-via-else-operands-lt2+else-this-lt3}
 

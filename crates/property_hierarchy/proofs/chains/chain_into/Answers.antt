@@ -3,7 +3,7 @@ use Rattle.owl_arena.specs.Held.{tree_at, trees_at}
 use Rattle.owl_arena.proofs.HeldLaws.{below_later, entry_at}
 use Rattle.owl_tree.proofs.ShapeTestLaws.{not_other}
 use Rattle.property_hierarchy.proofs.Chaining.{chain_there, no_chain_first, no_implied}
-use Rattle.dl_graphs.proofs.TagLaws.{tags_unequal}
+use Rattle.owl_tree.proofs.TagLaws.{tags_unequal}
 use Rattle.property_hierarchy.proofs.chains.chain_into.Goals as goal
 
 pub returns-then-ne : goal.returns-then-ne

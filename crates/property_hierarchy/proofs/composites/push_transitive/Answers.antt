@@ -7,7 +7,7 @@ use Rattle.owl_tree.proofs.ShapeTestLaws.{not_other}
 use Rattle.property_hierarchy.specs.declared.numbers.PropertyNumber.{PropertyNumber}
 use Rattle.property_hierarchy.specs.Numbers.{inverse_number}
 use Rattle.property_hierarchy.proofs.Compositing.{transitive_all, transitive_none}
-use Rattle.dl_graphs.proofs.TagLaws.{tags_unequal}
+use Rattle.owl_tree.proofs.TagLaws.{tags_unequal}
 use Rattle.property_hierarchy.proofs.composites.push_transitive.Goals as goal
 
 pub returns-then-ne : goal.returns-then-ne

@@ -3,7 +3,7 @@ use Rattle.owl_arena.specs.Held.{tree_at}
 use Rattle.owl_tree.proofs.ShapeTestLaws.{not_other}
 use Rattle.property_hierarchy.proofs.Chaining.{one_at}
 use Rattle.property_hierarchy.proofs.Numbering.{inverse_property, no_one_kid, other_property}
-use Rattle.dl_graphs.proofs.TagLaws.{tags_unequal}
+use Rattle.owl_tree.proofs.TagLaws.{tags_unequal}
 use Rattle.property_hierarchy.proofs.numbers.property_at.Goals as goal
 
 pub returns-then-ne : goal.returns-then-ne

@@ -1,7 +1,6 @@
 -- Laws of leaves by their shapes.
 use Rattle.std.proofs.Common.{◌≡◌, ℕ, true, List, refl, ap, ◌∙◌, subst}
-use Rattle.std.specs.Prelude.{None, map}
-use Rattle.dl_rules.specs.Logical.{label_in}
+use Rattle.std.specs.Prelude.{map}
 use Rattle.owl_tree.specs.declared.atom.Atom.{Atom}
 use Rattle.owl_tree.specs.declared.atom.Atom.TheVariants as atom
 use Rattle.owl_tree.specs.declared.row.AtomSort.{AtomSort}
@@ -50,15 +49,3 @@ anonymous_leaf t h e =
     let l = shaped_leaf t tag.Anonymous sort.Label anonymous_row h e in
     let a = label_of_sort l.atom l.sort in
     (a.0, l.is ∙ ap (leaf tag.Anonymous) a.1)
-
-label_tag : (t : Tag) (label : List ℕ) → takes (row_of t) (atom.Label label) ≡ true → t ≡ tag.Anonymous
-unfolding row_of
-label_tag tag.Anonymous label h = refl
-label_tag _ label h = absurd (cc)
-
-pub holds_no_label : (t : Tree) → IsShaped t → (tag_of t ≡ tag.Anonymous → ⊥) → label_in t ≡ None
-holds_no_label (leaf t (atom.Label label)) h differs = absurd (differs (label_tag t label h.0))
-holds_no_label (leaf t (atom.Iri iri)) h differs = refl
-holds_no_label (leaf t (atom.Literal l)) h differs = refl
-holds_no_label (leaf t (atom.Number n)) h differs = refl
-holds_no_label (node t ks) h differs = refl

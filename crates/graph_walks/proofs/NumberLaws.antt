@@ -9,7 +9,7 @@ use Rattle.owl_list.proofs.AscendingLaws.{from_map, in_cases, in_head, in_map, i
 use Rattle.graph_walks.specs.Faults.{IsFault}
 use Rattle.graph_walks.specs.Forests.{HasForest, HasNoRing, IsForest}
 use Rattle.graph_walks.specs.Marks.{MarkEach}
-use Rattle.dl_rules.specs.Numbers.{numbered}
+use Rattle.graph_walks.specs.Numbers.{numbered}
 use Rattle.graph_walks.specs.Rings.{ClosesRing, without}
 use Rattle.graph_walks.specs.Walks.{AreWithin, IsReached, Walks, backwards, both_ways, here, onward}
 use Rattle.graph_walks.proofs.ForestLaws.{forest_of}
