@@ -8,7 +8,8 @@ use Rattle.owl_command.specs.Commands.{AreNames, IsAmong, Asks, HasNoCommand, Is
 use Rattle.owl_command.proofs.CommandsLaws.{action_is_not_same, actions_once, flag_is_no_name}
 use Rattle.owl_command.specs.WordParts.{AreTwoNames, IsStripped, NameNone, NameWith}
 use Rattle.owl_command.specs.declared.command.Action.{Action}
-use Rattle.owl_command.specs.declared.command.Action.TheVariants.{Translate, Show}
+use Rattle.owl_command.specs.declared.command.Action.TheVariants.{Translate, Check, Show}
+use Rattle.owl_command.specs.declared.command.Profile.{Profile}
 use Rattle.owl_command.specs.declared.command.Target.{Target}
 
 -- the first of some items, and those behind it
@@ -45,9 +46,10 @@ stripped_none words others partial s none flag names n =
     none (subst AreNames (stripped_names words others names partial flag s n) n.right)
 
 -- words that begin with those of no action
-pub no_action : (words : List (List ℕ)) → ((target : Target) (others : List (List ℕ)) → words ≢ action_words (Translate target) ++ others) → ((others : List (List ℕ)) → words ≢ codes "show" ∷ others) → (action : Action) (others : List (List ℕ)) → words ≢ action_words action ++ others
-no_action words t s (Translate target) others e = t target others e
-no_action words t s Show others e = s others e
+pub no_action : (words : List (List ℕ)) → ((target : Target) (others : List (List ℕ)) → words ≢ action_words (Translate target) ++ others) → ((profile : Profile) (others : List (List ℕ)) → words ≢ action_words (Check profile) ++ others) → ((others : List (List ℕ)) → words ≢ codes "show" ∷ others) → (action : Action) (others : List (List ℕ)) → words ≢ action_words action ++ others
+no_action words t k s (Translate target) others e = t target others e
+no_action words t k s (Check profile) others e = k profile others e
+no_action words t k s Show others e = s others e
 
 -- what the words behind the first ones name is what the words ask for
 module _ (words others : List (List ℕ)) where

@@ -1,9 +1,11 @@
 -- Words ask for one thing.
 use Rattle.std.proofs.Common.{◌≡◌, ℕ, Bool, false, true, List, [], ◌∷◌, ◌++◌, codes, nat_eq, refl, ap, sym, ◌∙◌, subst}
 use Rattle.std.specs.List.{AllByRecursion}
-use Rattle.owl_command.specs.Commands.{Asks, IsName, Request, action_words, compares, flag_words, names_of, of_main, target_word, words_of}
+use Rattle.owl_command.specs.Commands.{Asks, IsName, Request, action_words, compares, flag_words, names_of, of_main, profile_word, target_word, words_of}
 use Rattle.owl_command.specs.declared.command.Action.{Action}
-use Rattle.owl_command.specs.declared.command.Action.TheVariants.{Translate, Show}
+use Rattle.owl_command.specs.declared.command.Action.TheVariants.{Translate, Check, Show}
+use Rattle.owl_command.specs.declared.command.Profile.{Profile}
+use Rattle.owl_command.specs.declared.command.Profile.TheVariants.{Dl}
 use Rattle.owl_command.specs.declared.command.Target.{Target}
 use Rattle.owl_command.specs.declared.command.Target.TheVariants.{Fss, Ttl}
 
@@ -43,18 +45,30 @@ target_once Fss Ttl e = let h : true ≡ false = ap (λ (w : List ℕ). nat_eq (
 target_once Ttl Fss e = let h : false ≡ true = ap (λ (w : List ℕ). nat_eq (first_letter w) 102) e in absurd (cc)
 target_once Ttl Ttl e = refl
 
+-- and one profile
+pub profile_once : (one other : Profile) → profile_word one ≡ profile_word other → one ≡ other
+profile_once Dl Dl e = refl
+
 -- first words are those of one action, with what stands behind them
 pub actions_once : (one other : Action) (behind rest : List (List ℕ)) → action_words one ++ behind ≡ action_words other ++ rest → (one ≡ other) × (behind ≡ rest)
 actions_once (Translate s) (Translate t) behind rest e =
     let word : target_word s ≡ target_word t = cc in
     (ap Translate (target_once s t word), cc)
+actions_once (Translate s) (Check q) behind rest e = absurd (cc)
 actions_once (Translate s) Show behind rest e = absurd (cc)
+actions_once (Check p) (Translate t) behind rest e = absurd (cc)
+actions_once (Check p) (Check q) behind rest e =
+    let word : profile_word p ≡ profile_word q = cc in
+    (ap Check (profile_once p q word), cc)
+actions_once (Check p) Show behind rest e = absurd (cc)
 actions_once Show (Translate t) behind rest e = absurd (cc)
+actions_once Show (Check q) behind rest e = absurd (cc)
 actions_once Show Show behind rest e = (refl, cc)
 
 -- and no comparison's
 pub action_is_not_same : (action : Action) (behind rest : List (List ℕ)) → action_words action ++ behind ≡ codes "same" ∷ rest → ⊥
 action_is_not_same (Translate target) behind rest e = cc
+action_is_not_same (Check profile) behind rest e = cc
 action_is_not_same Show behind rest e = show_is_not_same (ap verb e)
 
 pub asks_once : (words : List (List ℕ)) (one other : Request) → Asks words one → Asks words other → one ≡ other

@@ -4,8 +4,10 @@ use Rattle.std.specs.List.{AllByRecursion}
 use Rattle.std.specs.Str.{encode_utf8_all}
 use Rattle.owl_command.specs.declared.command.Target.{Target}
 use Rattle.owl_command.specs.declared.command.Target.TheVariants.{Fss, Ttl}
+use Rattle.owl_command.specs.declared.command.Profile.{Profile}
+use Rattle.owl_command.specs.declared.command.Profile.TheVariants.{Dl}
 use Rattle.owl_command.specs.declared.command.Action.{Action}
-use Rattle.owl_command.specs.declared.command.Action.TheVariants.{Translate, Show}
+use Rattle.owl_command.specs.declared.command.Action.TheVariants.{Translate, Check, Show}
 use Rattle.owl_command.specs.declared.command.Command.{Command}
 use Rattle.owl_command.specs.declared.command.Command.TheVariants.{OfMain, Same}
 
@@ -62,9 +64,14 @@ abbrev pub target_word : Target → List ℕ
 target_word Fss = codes "fss"
 target_word Ttl = codes "ttl"
 
+-- the word of a profile
+abbrev pub profile_word : Profile → List ℕ
+profile_word Dl = codes "dl"
+
 -- the first words of an action
 abbrev pub action_words : Action → List (List ℕ)
 action_words (Translate target) = codes "translate" ∷ codes "--to" ∷ target_word target ∷ []
+action_words (Check profile) = codes "check" ∷ codes "--profile" ∷ profile_word profile ∷ []
 action_words Show = codes "show" ∷ []
 
 -- the word by which imports may be missing

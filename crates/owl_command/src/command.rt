@@ -1,7 +1,7 @@
 //! The words of the command line.
 
 ghost use Rattle.std.specs.Prelude.{◌≡◌, ◌≢◌, ◌∷◌, ◌++◌, ◌<◌, ◌↔◌, List, ℕ, Some, length, map, slice_get, string_bytes, IsTrue, IfOk, IfSome, IfNone, IsErrOf, codes};
-ghost use Rattle.owl_command.specs.Commands.{AsksImports, HasNoCommand, IsCommand, action_words, names_of, request_of, target_word};
+ghost use Rattle.owl_command.specs.Commands.{AsksImports, HasNoCommand, IsCommand, action_words, names_of, profile_word, request_of, target_word};
 ghost use Rattle.owl_command.specs.WordParts.{AreTwoNames, IsStripped, NameNone, NameWith};
 
 use crate::names::{are_names, is_word, texts_of};
@@ -18,11 +18,31 @@ pub enum Target {
     Ttl,
 }
 
+/// The profile of a check.
+#[derive(Clone, Copy, Debug, PartialEq, Eq)]
+pub enum Profile {
+    /// OWL 2 DL.
+    Dl,
+}
+
+impl Profile {
+    /// The word of the profile.
+    pub fn word(self) -> &'static str
+        ensures { result.now ≡ profile_word self }
+    {
+        match self {
+            Profile::Dl => "dl",
+        }
+    }
+}
+
 /// What is asked of a main document, and of those that it imports.
 #[derive(Clone, Copy, Debug, PartialEq, Eq)]
 pub enum Action {
     /// `translate --to TARGET`
     Translate(Target),
+    /// `check --profile PROFILE`
+    Check(Profile),
     /// `show`
     Show,
 }
@@ -159,6 +179,45 @@ fn strip_translation(words: &[String]) -> Option<(Target, &[String])>
     strip_target(others)
 }
 
+/// The profile that a word names.
+fn named_profile(word: &str) -> Option<Profile>
+    ensures some { IfSome result (λ profile. word.now ≡ profile_word profile) }
+    ensures none { IfNone result ((profile : Profile) → word.now ≢ profile_word profile) }
+{
+    if is_word(word, "dl") {
+        Some(Profile::Dl)
+    } else {
+        None
+    }
+}
+
+/// The profile that a word behind `--profile` names, and what stands behind it.
+fn strip_profile(words: &[String]) -> Option<(Profile, &[String])>
+    ensures some { IfSome result (λ found.
+        map string_bytes words.now ≡ profile_word found.0 ∷ map string_bytes found.1.now) }
+    ensures none { IfNone result ((profile : Profile) (others : List (List ℕ)) →
+        map string_bytes words.now ≢ profile_word profile ∷ others) }
+{
+    match words {
+        [word, others @ ..] => {
+            let profile = named_profile(word.as_str())?;
+            Some((profile, others))
+        }
+        [] => None,
+    }
+}
+
+/// The profile that the words of a check name, and what stands behind them.
+fn strip_check(words: &[String]) -> Option<(Profile, &[String])>
+    ensures some { IfSome result (λ found. map string_bytes words.now
+        ≡ action_words (Action.Check found.0) ++ map string_bytes found.1.now) }
+    ensures none { IfNone result ((profile : Profile) (others : List (List ℕ)) →
+        map string_bytes words.now ≢ action_words (Action.Check profile) ++ others) }
+{
+    let others = strip(strip(words, "check")?, "--profile")?;
+    strip_profile(others)
+}
+
 /// The action that the first words name, and what stands behind them.
 fn strip_action(words: &[String]) -> Option<(Action, &[String])>
     ensures some { IfSome result (λ found. map string_bytes words.now
@@ -168,6 +227,9 @@ fn strip_action(words: &[String]) -> Option<(Action, &[String])>
 {
     if let Some((target, others)) = strip_translation(words) {
         return Some((Action::Translate(target), others));
+    }
+    if let Some((profile, others)) = strip_check(words) {
+        return Some((Action::Check(profile), others));
     }
     let others = strip(words, "show")?;
     Some((Action::Show, others))

@@ -5,5 +5,5 @@ mod command;
 mod names;
 mod status;
 
-pub use command::{Action, Command, Target, WordsFault, words};
+pub use command::{Action, Command, Profile, Target, WordsFault, words};
 pub use status::Status;
