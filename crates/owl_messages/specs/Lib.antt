@@ -2,3 +2,5 @@ pub mod Answers
 pub mod Outcome
 pub mod Refusals
 pub mod Summary
+pub mod VerdictLines
+pub mod Verdicts

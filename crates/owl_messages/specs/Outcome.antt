@@ -1,5 +1,5 @@
 -- What a run may answer: a status, a text and a line.
-use Rattle.std.specs.Prelude.{◌<◌, ℕ, List, [], ◌++◌, length, codes, nat_lt, if◌then◌else◌}
+use Rattle.std.specs.Prelude.{◌≡◌, ◌<◌, ◌≤◌, ℕ, List, [], ◌++◌, length, codes, nat_lt, if◌then◌else◌}
 use Rattle.std.specs.Fmt.{decimal}
 use Rattle.std.specs.Str.{encode_utf8_all}
 use Rattle.owl_characters.specs.Limit.{most_bytes}
@@ -67,6 +67,11 @@ passed_limit word name = refused Limit (codes "limit: " ++ (word ++ (codes ": " 
 
 abbrev pub too_long_output : Outcome
 too_long_output = refused Limit (codes "limit: OutputBytes: output\n")
+
+-- A text that is too long is not written.
+pub data IsLimited (IsWanted : Outcome → Type 0) (outcome : Outcome) : Type 0 where
+  fits : IsWanted outcome → length outcome.text ≤ most_bytes → IsLimited IsWanted outcome
+  passes : (wanted : Outcome) → IsWanted wanted → most_bytes < length wanted.text → outcome ≡ too_long_output → IsLimited IsWanted outcome
 
 -- an import that names no document
 abbrev pub missing_import : List ℕ → List ℕ → Outcome

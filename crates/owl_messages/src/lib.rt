@@ -6,9 +6,11 @@ mod refusal;
 mod refusals;
 mod summaries;
 mod unsaid;
+mod verdicts;
 
 pub use answer::{Answer, done_line, said, told, too_long_output};
 pub use refusal::{answer_trouble, refuse_import, refuse_output};
 pub use refusals::{refuse_kinds, refuse_undeclared, refuse_unsayable};
 pub use summaries::summary;
 pub use unsaid::refuse_unsaid;
+pub use verdicts::verdict;
