@@ -1,11 +1,13 @@
 -- What is concluded depends on the documents that are read under kinds, and is one.
-use Rattle.std.proofs.Common.{◌≡◌, ℕ, Some, List, slice_get, sym, ap, ◌∙◌, subst, arith}
-use Rattle.std.proofs.lemmas.Option.{same_Some}
-use Rattle.owl_close.specs.Imports.{IsFirstMissing, MissesNone}
+use Rattle.std.proofs.Common.{◌≡◌, ◌<◌, ℕ, Bool, Some, List, length, slice_get, sym, ap, ◌∙◌, subst, arith}
+use Rattle.std.proofs.lemmas.Option.{same_Some, slice_get_within}
+use Rattle.owl_close.specs.Imports.{IsFirstMissing, MissesNone, Reaches}
+use Rattle.owl_close.specs.Imports as imports
 use Rattle.owl_close.proofs.ImportsLaws.{missing_once}
 use Rattle.owl_command.specs.Commands.{Request, compares, names_of, of_main}
 use Rattle.owl_command.specs.declared.command.Action.{Action}
-use Rattle.owl_command.specs.declared.command.Action.TheVariants.{Translate, Show}
+use Rattle.owl_command.specs.declared.command.Action.TheVariants.{Translate, Check, Show}
+use Rattle.owl_command.specs.declared.command.Profile.{Profile}
 use Rattle.owl_command.specs.declared.command.Target.{Target as Syntax}
 use Rattle.owl_command.specs.declared.command.Target.TheVariants.{Fss, Ttl}
 use Rattle.owl_documents.specs.Documents.{IsSame, Parsed, Said, a_graph, an_ontology}
@@ -13,9 +15,12 @@ use Rattle.owl_documents.specs.OneWay.{IsSameParsed}
 use Rattle.owl_kind.specs.Kinds.{Entity}
 use Rattle.owl_tree.proofs.OntologyLaws.{same_ontology_sym, same_ontology_trans}
 use Rattle.rdf_reverse.specs.declared.fault.ReverseFault.{ReverseFault}
+use Rattle.owl_answer.specs.Checks.{IsChecked}
+use Rattle.owl_answer.specs.KindsAt.{AreClosureKinds}
 use Rattle.owl_answer.specs.Outcome.{IsComparison, agree, differ, heads_in}
 use Rattle.owl_answer.specs.Runs.{AnswersWith, Concludes, IsActionOutcome, IsTranslation, all_say, misses_import, says_nothing}
 use Rattle.owl_answer.specs.UnderKinds.{AllSay, HasKinds, HoldsOfMain, HoldsOfTwo, IsFirstUnsaid, IsReadUnder, IsUnsaidAt, IsUnsaidUnder, SaysAt, SaysUnder}
+use Rattle.owl_answer.proofs.Checks.{checked_once, checked_there, form_at, reached_stands}
 use Rattle.owl_answer.proofs.Closures.{closure_once, own_once}
 use Rattle.owl_answer.proofs.Same.{never_says_both, parsed_back, parsed_refl, says_once, says_same, unsaid_once, unsaid_same}
 use Rattle.owl_answer.proofs.TurtleOnce.{functional_once, functional_same, shown_same, translation_alike, translation_once, translation_same}
@@ -63,13 +68,16 @@ translation_told_once Ttl p kinds main a b h k = translation_once kinds main a b
 
 -- what becomes of the same by an action is the same, and one
 
-acted_same : (action : Action) (p q : Parsed) (kinds : List Entity) (a b : Said) (outcome : Outcome) → IsSameParsed p q → IsSame a b → IsActionOutcome action p kinds a outcome → IsActionOutcome action q kinds b outcome
-acted_same (Translate target) p q kinds a b outcome s t h = told_same target p q kinds a b outcome s t h
-acted_same Show p q kinds a b outcome s t h = limited_more _ _ (λ o k. k ∙ shown_same a b t) outcome h
+module _ (ds es : List Parsed) (outcome : Outcome) (checked : (profile : Profile) → IsChecked profile ds outcome → IsChecked profile es outcome) where
+  acted_same : (action : Action) (p q : Parsed) (kinds : List Entity) (a b : Said) → IsSameParsed p q → IsSame a b → IsActionOutcome action ds p kinds a outcome → IsActionOutcome action es q kinds b outcome
+  acted_same (Translate target) p q kinds a b s t h = told_same target p q kinds a b outcome s t h
+  acted_same (Check profile) p q kinds a b s t h = checked profile h
+  acted_same Show p q kinds a b s t h = limited_more _ _ (λ o k. k ∙ shown_same a b t) outcome h
 
-acted_once : (action : Action) (p : Parsed) (kinds : List Entity) (main : Said) (a b : Outcome) → IsActionOutcome action p kinds main a → IsActionOutcome action p kinds main b → a ≡ b
-acted_once (Translate target) p kinds main a b h k = translation_told_once target p kinds main a b h k
-acted_once Show p kinds main a b h k =
+acted_once : (documents : List Parsed) (action : Action) (p : Parsed) (kinds : List Entity) (main : Said) (a b : Outcome) → IsActionOutcome action documents p kinds main a → IsActionOutcome action documents p kinds main b → a ≡ b
+acted_once documents (Translate target) p kinds main a b h k = translation_told_once target p kinds main a b h k
+acted_once documents (Check profile) p kinds main a b h k = checked_once profile documents a b h k
+acted_once documents Show p kinds main a b h k =
     limited_once (λ o. o ≡ shown main) (λ o. o ≡ shown main) (λ x y e f. e ∙ sym f) a b h k
 
 -- what is concluded of some documents is concluded of others that agree
@@ -104,10 +112,36 @@ module _ (request : Request) (ds es : List Parsed) (there : Agree request ds es)
         holds = f h.first h.second own.other theirs.other own.same theirs.same h.holds;
       }
 
-answers_there : (request : Request) (ds es : List Parsed) → Agree request ds es → (outcome : Outcome) → AnswersWith request ds outcome → AnswersWith request es outcome
-answers_there (of_main action partial names) ds es there outcome h =
-    main_there (of_main action partial names) ds es there _ _ (λ p q kinds a b s t w. acted_same action p q kinds a b outcome s t w) h
-answers_there (compares first second) ds es there outcome h =
+-- what a check tells of documents it tells of others that agree
+module _ (action : Action) (partial : Bool) (names : List (List ℕ)) (ds es : List Parsed) (there : Agree (of_main action partial names) ds es) where
+  reads_there : (kinds : List Entity) → AreClosureKinds ds kinds → (place : ℕ) (p : Parsed) → Reaches (heads_in ds) place → slice_get ds place ≡ Some p → IsReadAlike (of_main action partial names) es place p kinds
+  reads_there kinds declared place p r e = there.read place p kinds (record { there = e; under = (r, declared) })
+
+  reaches_there : (kinds : List Entity) → AreClosureKinds ds kinds → 0 < length ds → (place : ℕ) → Reaches (heads_in ds) place → Reaches (heads_in es) place
+  reaches_there kinds declared some place r =
+      let stands = reached_stands ds some place r in
+      (reads_there kinds declared place stands.0 r stands.1).read.under.0
+
+module _ (action : Action) (partial : Bool) (names : List (List ℕ)) (ds es : List Parsed) (there : Agree (of_main action partial names) ds es) (back : Agree (of_main action partial names) es ds) where
+  checks_there : (outcome : Outcome) (profile : Profile) → IsChecked profile ds outcome → IsChecked profile es outcome
+  checks_there outcome profile h =
+      let kinds = h.closure.kinds in
+      let form = form_at ds kinds h.places h.closure.all h.is.say 0 ((h.is.reached.reached 0).1 imports.main) in
+      let first = reads_there action partial names ds es there kinds h.is.declared 0 form.1.parsed imports.main form.1.there in
+      let declared : AreClosureKinds es kinds = first.read.under.1 in
+      checked_there profile ds es outcome h (record {
+        declared = declared;
+        there = reaches_there action partial names ds es there kinds h.is.declared (slice_get_within ds 0 form.1.parsed form.1.there);
+        back = reaches_there action partial names es ds back kinds declared (slice_get_within es 0 first.other first.read.there);
+        found = λ place p r e.
+            let alike = reads_there action partial names ds es there kinds h.is.declared place p r e in
+            record { other = alike.other; there = alike.read.there; same = alike.same };
+      })
+
+answers_there : (request : Request) (ds es : List Parsed) → Agree request ds es → Agree request es ds → (outcome : Outcome) → AnswersWith request ds outcome → AnswersWith request es outcome
+answers_there (of_main action partial names) ds es there back outcome h =
+    main_there (of_main action partial names) ds es there _ _ (acted_same ds es outcome (checks_there action partial names ds es there back outcome) action) h
+answers_there (compares first second) ds es there back outcome h =
     two_there (compares first second) ds es there _ (λ a b c d s t w. limited_more _ _ (λ o k. comparison_same a b c d s t o k) outcome w) h
 
 module _ (request : Request) (ds es : List Parsed) (there : Agree request ds es) (back : Agree request es ds) where
@@ -130,7 +164,7 @@ module _ (request : Request) (ds es : List Parsed) (there : Agree request ds es)
   concludes_there outcome (says_nothing imports place fault name u at e) =
       says_nothing (λ asked. there.none (imports asked)) place fault name (first_there place fault u) at e
   concludes_there outcome (all_say imports all w) =
-      all_say (λ asked. there.none (imports asked)) (all_there all) (answers_there request ds es there outcome w)
+      all_say (λ asked. there.none (imports asked)) (all_there all) (answers_there request ds es there back outcome w)
 
 -- what is concluded of documents is one
 
@@ -192,7 +226,7 @@ module _ (request : Request) (documents : List Parsed) where
 
 answers_once : (request : Request) (documents : List Parsed) (a b : Outcome) → AnswersWith request documents a → AnswersWith request documents b → a ≡ b
 answers_once (of_main action partial names) documents a b v w =
-    main_once (of_main action partial names) documents _ _ a b (λ p kinds s t same h k. acted_once action p kinds t a b (acted_same action p p kinds s t a (parsed_refl p) same h) k) v w
+    main_once (of_main action partial names) documents _ _ a b (λ p kinds s t same h k. acted_once documents action p kinds t a b (acted_same documents documents a (λ profile c. c) action p p kinds s t (parsed_refl p) same h) k) v w
 answers_once (compares first second) documents a b v w =
     two_once (compares first second) documents _ _ a b (λ s t u x e f h k. limited_once (IsComparison s t) (IsComparison u x) (λ y z i j. comparison_once u x y z (comparison_same s t u x e f y i) j) a b h k) v w
 

@@ -1,13 +1,16 @@
 pub mod Agreement
 pub mod Answering
+pub mod Checks
 pub mod Closures
 pub mod Concluding
 pub mod Heads
+pub mod InProfileLaws
 pub mod KindsAt
 pub mod Lines
 pub mod Readings
 pub mod Same
 pub mod Sayings
+pub mod ToldActions
 pub mod TurtleOnce
 pub mod Turtles
 pub mod TypingLaws

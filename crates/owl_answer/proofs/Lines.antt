@@ -1,9 +1,12 @@
 -- What is concluded, and what is told of troubles, is proper, and has its line.
-use Rattle.std.proofs.Common.{◌≡◌, ◌≢◌, ℕ, Bool, zero, suc, Some, List, [], ◌∷◌, slice_get, inl, inr, refl, sym, subst}
+use Rattle.std.proofs.Common.{◌≡◌, ◌≢◌, ℕ, Bool, zero, suc, Some, List, [], ◌∷◌, length, slice_get, inl, inr, refl, sym, subst}
 use Rattle.owl_reader.specs.declared.fault.ReadFault.TheVariants as read
 use Rattle.owl_command.specs.Commands.{IsAmong, Request, compares, names_of, of_main}
 use Rattle.owl_command.specs.declared.command.Action.{Action}
-use Rattle.owl_command.specs.declared.command.Action.TheVariants.{Translate, Show}
+use Rattle.owl_command.specs.declared.command.Action.TheVariants.{Translate, Check, Show}
+use Rattle.owl_command.specs.declared.command.Profile.{Profile}
+use Rattle.owl_breaches.specs.Sites.{Site}
+use Rattle.dl_rules.specs.declared.rule.DlRule.{DlRule}
 use Rattle.owl_kind.specs.Kinds.{Entity}
 use Rattle.owl_command.specs.declared.command.Target.{Target}
 use Rattle.owl_command.specs.declared.command.Target.TheVariants.{Fss, Ttl}
@@ -11,8 +14,10 @@ use Rattle.owl_command.specs.declared.status.Status.TheVariants.{Done}
 use Rattle.owl_documents.specs.Documents.{Parsed, Said, a_graph, an_ontology, IsProperRefusal}
 use Rattle.owl_documents.specs.declared.trouble.Refusal.{Refusal}
 use Rattle.owl_documents.specs.declared.trouble.Refusal.TheVariants.{DocumentBytes, AllBytes, Unreadable, Headless}
-use Rattle.owl_answer.specs.Outcome.{IsComparison, IsLimited, IsSuccess, agree, differ, fits, passes}
+use Rattle.owl_answer.specs.Outcome.{IsComparison, IsSuccess, agree, differ}
+use Rattle.owl_answer.specs.Checks.{IsChecked}
 use Rattle.owl_messages.specs.Refusals.{two_kinds, undeclared, unsayable}
+use Rattle.owl_messages.specs.Verdicts.{verdict}
 use Rattle.owl_answer.specs.Runs.{AnswersWith, AsksTranslation, AsksTurtle, Concludes, IsActionOutcome, IsIllTyped, IsTranslation, IsTurtleRefusal, LineFor, SuccessLine, all_say, misses_import, of_bytes, of_graph, of_import, of_output, of_refusal, of_success, of_triples, of_turtle, of_two_kinds, of_typing, of_undeclared, of_unsayable, of_weight, says_nothing}
 use Rattle.owl_answer.specs.TurtleOutcome.{IsFormTold, IsGraphTold, IsTold as IsOfTurtle, IsTypingRefusal, canonical_said, clashes, few, graph_translation, heavy, ill_typed, light, many, not_typed, ready, unsaid, untyped, well_typed}
 use Rattle.owl_answer.specs.Answers.{IsProper}
@@ -21,7 +26,7 @@ use Rattle.rdf_reverse.specs.declared.fault.ReverseFault.{ReverseFault}
 use Rattle.rdf_reverse.specs.declared.fault.ReverseFault.TheVariants as reverse
 use Rattle.rdf_scans.specs.declared.fault.OutlineFault.TheVariants as outline
 use Rattle.owl_answer.proofs.Same.{never_memory}
-use Rattle.owl_messages.specs.Outcome.{Outcome, agreement, difference, done_line, missing_import, refusal_outcome, shown, too_heavy_output, too_long_output, too_many_triples, translation, unsaid_outcome}
+use Rattle.owl_messages.specs.Outcome.{IsLimited, Outcome, agreement, difference, done_line, fits, missing_import, passes, refusal_outcome, shown, too_heavy_output, too_long_output, too_many_triples, translation, unsaid_outcome}
 
 pub at_among : (names : List (List ℕ)) (place : ℕ) (name : List ℕ) → slice_get names place ≡ Some name → IsAmong names name
 at_among [] place name e = absurd (cc)
@@ -103,14 +108,25 @@ compared_told : (first second : List ℕ) (a b : Said) (outcome : Outcome) → I
 compared_told first second a b outcome (agree h e) = done_told (compares first second) agreement (record { found = tt; no_text = tt }) refl outcome e
 compared_told first second a b outcome (differ h e) = done_told (compares first second) difference (record { found = tt; no_text = tt }) refl outcome e
 
-acted_told : (action : Action) (partial : Bool) (names : List (List ℕ)) (parsed : Parsed) (kinds : List Entity) (main : Said) (outcome : Outcome) → IsActionOutcome action parsed kinds main outcome → IsTold (of_main action partial names) outcome
-acted_told (Translate target) partial names parsed kinds main outcome h = translation_told partial names target parsed kinds main outcome h
-acted_told Show partial names parsed kinds main outcome h =
+verdict_told : (profile : Profile) (partial : Bool) (names : List (List ℕ)) (places : List ℕ) (found : List (Site DlRule)) → IsTold (of_main (Check profile) partial names) (verdict profile places found)
+verdict_told profile partial names places [] = record { proper = record { found = tt; no_text = tt }; line = λ IsCause. of_success refl }
+verdict_told profile partial names places (breach ∷ more) =
+    record { proper = record { found = tt; no_text = tt }; line = λ IsCause. of_success (suc (length more), refl) }
+
+checked_told : (profile : Profile) (partial : Bool) (names : List (List ℕ)) (documents : List Parsed) (outcome : Outcome) → IsChecked profile documents outcome → IsTold (of_main (Check profile) partial names) outcome
+checked_told profile partial names documents outcome h =
+    limited_told (of_main (Check profile) partial names) (λ o. o ≡ verdict profile h.places h.breaches)
+    (λ o e. subst (IsTold (of_main (Check profile) partial names)) (sym e) (verdict_told profile partial names h.places h.breaches)) outcome h.told
+
+acted_told : (action : Action) (partial : Bool) (names : List (List ℕ)) (documents : List Parsed) (parsed : Parsed) (kinds : List Entity) (main : Said) (outcome : Outcome) → IsActionOutcome action documents parsed kinds main outcome → IsTold (of_main action partial names) outcome
+acted_told (Translate target) partial names documents parsed kinds main outcome h = translation_told partial names target parsed kinds main outcome h
+acted_told (Check profile) partial names documents parsed kinds main outcome h = checked_told profile partial names documents outcome h
+acted_told Show partial names documents parsed kinds main outcome h =
     limited_told (of_main Show partial names) (λ o. o ≡ shown main) (done_told (of_main Show partial names) (shown main) (record { found = tt; no_text = tt }) refl) outcome h
 
 answers_told : (request : Request) (documents : List Parsed) (outcome : Outcome) → AnswersWith request documents outcome → IsTold request outcome
 answers_told (of_main action partial names) documents outcome w =
-    acted_told action partial names w.main.parsed w.main.kinds w.said outcome w.holds
+    acted_told action partial names documents w.main.parsed w.main.kinds w.said outcome w.holds
 answers_told (compares first second) documents outcome w =
     limited_told (compares first second) (IsComparison w.first w.second) (compared_told first second w.first w.second) outcome w.holds
 

@@ -24,7 +24,7 @@ use Rattle.owl_answer.specs.TurtleOutcome.{IsFormTold, IsFunctionalTranslation, 
 use Rattle.owl_answer.proofs.Wanting.{limited_more, limited_once}
 use Rattle.owl_messages.specs.Outcome.{Outcome, done_line, shown, translation}
 
-same_form : (a b : Said) → IsSame a b → canonical_ontology a.ontology ≡ canonical_ontology b.ontology
+pub same_form : (a b : Said) → IsSame a b → canonical_ontology a.ontology ≡ canonical_ontology b.ontology
 same_form a b s = (same_ontology_is_equal_form a.ontology b.ontology).0 s.ontology
 
 -- what is answered depends on the prefixes and on the canonical form alone

@@ -26,11 +26,11 @@ use Rattle.rdf_states.proofs.EndLaws.{all_both}
 use Rattle.ttl_grammar.specs.Documents.{ReadsTurtle}
 use Rattle.ttl_write.specs.Text.{turtle_text}
 use Rattle.owl_command.specs.declared.status.Status.TheVariants.{Done}
-use Rattle.owl_answer.specs.Outcome.{IsLimited, IsSuccess, fits}
+use Rattle.owl_answer.specs.Outcome.{IsSuccess}
 use Rattle.owl_messages.specs.Refusals.{unsayable}
 use Rattle.owl_answer.specs.TurtleOutcome.{IsFormTold, IsGraphTold, IsToldBack, IsTold, IsTurtleTranslation, IsTyped, IsTypingRefusal, ReadsGraph, canonical_said, clashes, few, graph_translation, heavy, light, many, not_typed, ready, turtle_form, unsaid, untyped}
 use Rattle.owl_answer.proofs.Wanting.{passed}
-use Rattle.owl_messages.specs.Outcome.{Outcome, done_line, too_heavy_output, too_long_output, too_many_triples}
+use Rattle.owl_messages.specs.Outcome.{IsLimited, Outcome, done_line, fits, too_heavy_output, too_long_output, too_many_triples}
 
 -- a refusal is no success
 pub typing_fails : (kinds : List Entity) (o : Ontology) (outcome : Outcome) → IsTypingRefusal kinds o outcome → IsSuccess outcome.status → ⊥

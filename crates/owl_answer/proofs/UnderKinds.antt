@@ -1,7 +1,6 @@
 -- What is read of the documents of a closure, and of two documents, is what is concluded.
 use Rattle.std.proofs.Common.{◌≡◌, ◌≢◌, ◌<◌, ◌≤◌, inl, inr, ℕ, zero, suc, Bool, Some, List, [], ◌∷◌, ◌++◌, Contains, length, slice_get, refl, sym, ◌∙◌, subst, arith}
 use Rattle.std.proofs.lemmas.Bool.{cases_order}
-use Rattle.std.proofs.lemmas.List.{length-map}
 use Rattle.std.proofs.lemmas.List.Elements.{Contains-append_right}
 use Rattle.std.proofs.lemmas.Option.{slice_get_within}
 use Rattle.std.specs.declared.cmp.Ordering.TheVariants.{Less}
@@ -10,29 +9,29 @@ use Rattle.std.specs.Ordering.{nat_cmp}
 use Rattle.owl_close.specs.Imports.{main}
 use Rattle.owl_command.specs.Commands.{Request, compares, names_of, of_main, request_of}
 use Rattle.owl_command.specs.declared.command.Action.{Action}
-use Rattle.owl_documents.specs.Documents.{Parsed, Said, parsed_of}
+use Rattle.owl_doc.specs.Documents.{Document}
+use Rattle.owl_documents.specs.Documents.{Parsed, Said}
 use Rattle.owl_kind.specs.Kinds.{Entity}
 use Rattle.owl_list.specs.Ascending.{IsAscending}
 use Rattle.owl_list.proofs.AscendingLaws.{all_in, head_below, in_cases, in_head, in_tail, tail_ascends}
 use Rattle.rdf_reverse.specs.declared.fault.ReverseFault.{ReverseFault}
 use Rattle.rdf_reverse.specs.declared.fault.ReverseFault.TheVariants.{Memory}
-use Rattle.owl_answer.specs.Answers.{IsConclusion, IsToldOfMain}
+use Rattle.owl_answer.specs.Answers.{IsConclusion, IsToldOf}
 use Rattle.owl_answer.specs.Asked.{IsOfTwo}
 use Rattle.owl_answer.specs.KindsAt.{AreOwnKinds, IsClosure}
-use Rattle.owl_answer.specs.Outcome.{IsComparison, IsLimited, IsSuccess}
+use Rattle.owl_answer.specs.Outcome.{IsComparison, IsSuccess}
 use Rattle.owl_answer.specs.Reading.{AllSayAt, IsFirstFault, IsUnsaidAlone, SaysAlone, SaysSomeAt}
 use Rattle.owl_answer.specs.Runs.{HasImports, all_say, says_nothing}
 use Rattle.owl_answer.specs.UnderKinds.{AllSay, IsFirstUnsaid, IsOfMain, IsReadUnder, IsUnsaidAt, SaysAt, SaysSome, SaysUnder}
 use Rattle.owl_answer.specs.declared.asked.Asked.{Asked}
 use Rattle.owl_answer.specs.declared.closure.Closure.{Closure}
-use Rattle.owl_answer.specs.declared.reading.Saying.{Saying}
 use Rattle.owl_answer.specs.declared.reading.Unsaid.{Unsaid}
 use Rattle.owl_answer.proofs.Agreement.{read_once, says_or_not}
 use Rattle.owl_answer.proofs.Closures.{closure_once}
 use Rattle.owl_answer.proofs.Lines.{unsaid_fails}
 use Rattle.owl_answer.proofs.Readings.{all_some, less_is}
 use Rattle.owl_answer.proofs.Same.{never_says_both}
-use Rattle.owl_messages.specs.Outcome.{Outcome, unsaid_outcome}
+use Rattle.owl_messages.specs.Outcome.{IsLimited, Outcome, unsaid_outcome}
 
 both_less : (m n : ℕ) → m < n → n < m → ⊥
 both_less m n l k = omega arith
@@ -80,12 +79,12 @@ module _ (action : Action) (partial : Bool) (names : List (List ℕ)) (documents
       says_there place (all_in (SaysSomeAt documents closure.kinds) closure.places.items place all (among place p k r)) p k r
 
   -- all of it says something
-  told_conclusion : (sayings : List Saying) → AllSayAt documents closure.kinds closure.places.items sayings → (parsed : Parsed) → slice_get documents 0 ≡ Some parsed → (said : Said) → SaysUnder closure.kinds parsed said → HasImports (of_main action partial names) documents → (outcome : Outcome) → IsToldOfMain action parsed closure.kinds said outcome → IsConclusion (of_main action partial names) documents outcome
-  told_conclusion sayings all parsed there said says imports outcome told =
-      let first : SaysAt (of_main action partial names) documents 0 said = record { parsed = parsed; kinds = closure.kinds; read = record { there = there; under = (main, c.declared) }; says = says } in
+  told_conclusion : (held : List Document) → AllSayAt documents closure.kinds closure.places.items held → HasImports (of_main action partial names) documents → (outcome : Outcome) → IsToldOf action documents outcome → IsConclusion (of_main action partial names) documents outcome
+  told_conclusion held all imports outcome t =
+      let first : SaysAt (of_main action partial names) documents 0 t.main = record { parsed = t.parsed; kinds = t.kinds; read = record { there = t.there; under = (main, t.declared) }; says = t.says } in
       record {
-        concludes = all_say imports (all_said (all_some documents closure.kinds closure.places.items sayings all)) (record { said = said; main = first; holds = told.is });
-        back = λ s. record { said = said; main = first; holds = told.back s };
+        concludes = all_say imports (all_said (all_some documents closure.kinds closure.places.items held all)) (record { said = t.main; main = first; holds = t.told.is });
+        back = λ s. record { said = t.main; main = first; holds = t.told.back s };
       }
 
   -- one document does not
@@ -121,10 +120,10 @@ module _ (request : Request) (action : Action) (partial : Bool) (names : List (L
   own_imports : HasImports (of_main action partial names) documents
   own_imports = subst (λ (r : Request). HasImports r documents) asks imports
 
-  pub action_told : (sayings : List Saying) → AllSayAt documents closure.kinds closure.places.items sayings → (parsed : Parsed) → slice_get documents 0 ≡ Some parsed → (said : Said) → SaysUnder closure.kinds parsed said → (outcome : Outcome) → IsToldOfMain action parsed closure.kinds said outcome → IsConclusion request documents outcome
-  action_told sayings all parsed there said says outcome told =
+  pub action_told : (held : List Document) → AllSayAt documents closure.kinds closure.places.items held → (outcome : Outcome) → IsToldOf action documents outcome → IsConclusion request documents outcome
+  action_told held all outcome told =
       subst (λ (r : Request). IsConclusion r documents outcome) (sym asks)
-      (told_conclusion action partial names documents closure c sayings all parsed there said says own_imports outcome told)
+      (told_conclusion action partial names documents closure c held all own_imports outcome told)
 
   pub action_unsaid : (unsaid : Unsaid) → IsFirstFault documents closure.kinds closure.places.items unsaid → unsaid.fault ≢ Memory → (name : List ℕ) → slice_get (names_of request) unsaid.document ≡ Some name → (outcome : Outcome) → outcome ≡ unsaid_outcome name unsaid.fault → IsConclusion request documents outcome
   action_unsaid unsaid h n name at outcome e =
@@ -137,7 +136,7 @@ two_names (of_main action partial names) alone = absurd (alone tt)
 two_names (compares one other) alone = refl
 
 -- as many as names
-pub are_two : (asked : Asked) → IsOfTwo asked → (length asked.docs.now ≡ 2) × (length (names_of (request_of asked.command.now)) ≡ 2)
+pub are_two : (asked : Asked) → IsOfTwo asked → (length asked.docs.items ≡ 2) × (length (names_of (request_of asked.command.now)) ≡ 2)
 are_two asked t =
     let names = two_names (request_of asked.command.now) t.alone in
     (t.asked_for.each ∙ names, names)

@@ -16,9 +16,9 @@ use Rattle.owl_documents.specs.Documents.{Parsed, head_in, parsed_of, said_of}
 use Rattle.owl_documents.specs.declared.document.Document.{Document}
 use Rattle.owl_answer.specs.Answers.{IsConclusion, IsMissingFor}
 use Rattle.owl_answer.specs.declared.imports.Missing.{Missing}
-use Rattle.owl_answer.specs.Outcome.{IsLimited, IsSuccess, fits, heads_in, passes}
+use Rattle.owl_answer.specs.Outcome.{IsSuccess, heads_in}
 use Rattle.owl_answer.specs.Runs.{misses_import}
-use Rattle.owl_messages.specs.Outcome.{Outcome, missing_import, too_long_output, translation}
+use Rattle.owl_messages.specs.Outcome.{IsLimited, Outcome, fits, missing_import, passes, too_long_output, translation}
 
 pub limited_more : (V W : Outcome → Type 0) → ((o : Outcome) → V o → W o) → (outcome : Outcome) → IsLimited V outcome → IsLimited W outcome
 limited_more V W f outcome (fits v l) = fits (f outcome v) l

@@ -1,5 +1,5 @@
 -- What is answered for documents that are read, and for what is asked of a shelf.
-use Rattle.std.specs.Prelude.{◌≡◌, ◌++◌, ℕ, List, [], Option, None, Some, IsTrue, codes}
+use Rattle.std.specs.Prelude.{◌≡◌, ◌++◌, ℕ, List, [], Option, None, Some, IsTrue, codes, slice_get}
 use Rattle.std.specs.List.{AllByRecursion}
 use Rattle.owl_kind.specs.Kinds.{Entity}
 use Rattle.owl_tree.specs.Ontologies.{Head, Ontology}
@@ -10,8 +10,10 @@ use Rattle.owl_command.specs.declared.status.Status.{Status}
 use Rattle.owl_command.specs.declared.status.Status.TheVariants.{Done, No, Words, Document as NoDocument, Target, Limit, ReadFailed, WriteFailed, Memory}
 use Rattle.owl_documents.specs.Documents.{Contents, Parsed, Said}
 use Rattle.owl_documents.specs.Shelves.{IsFaulty, IsFirstFaulty, Rises, Shelves}
+use Rattle.owl_answer.specs.KindsAt.{AreClosureKinds}
 use Rattle.owl_answer.specs.Outcome.{IsSettled, IsSuccess, IsTheOutcome}
 use Rattle.owl_answer.specs.Runs.{Becomes, Concludes, IsActionOutcome, IsActionText, IsBack, IsReadBack, LineFor}
+use Rattle.owl_answer.specs.UnderKinds.{SaysUnder}
 use Rattle.owl_answer.specs.TurtleOutcome.{IsTurtleTranslation, IsTyped, IsTypingRefusal, ReadsSaid, canonical_said, turtle_form}
 use Rattle.owl_messages.specs.declared.answer.Answer.{Answer}
 use Rattle.owl_answer.specs.declared.imports.Missing.{Missing}
@@ -28,10 +30,20 @@ pub record IsConclusion (request : Request) (documents : List Parsed) (outcome :
   pub concludes : Concludes request documents outcome
   pub back : IsSuccess outcome.status → IsBack request documents outcome.text
 
--- what becomes by an action of a main document that says this under these kinds, with its text
-pub record IsToldOfMain (action : Action) (parsed : Parsed) (kinds : List Entity) (main : Said) (outcome : Outcome) : Type 0 where
-  pub is : IsActionOutcome action parsed kinds main outcome
+-- what becomes by an action of the main one of these documents, which says this under these kinds, with its text
+pub record IsToldOfMain (action : Action) (documents : List Parsed) (parsed : Parsed) (kinds : List Entity) (main : Said) (outcome : Outcome) : Type 0 where
+  pub is : IsActionOutcome action documents parsed kinds main outcome
   pub back : IsSuccess outcome.status → IsActionText action kinds main outcome.text
+
+-- so it becomes of these documents, of which the main one is the first
+pub record IsToldOf (action : Action) (documents : List Parsed) (outcome : Outcome) : Type 0 where
+  pub parsed : Parsed
+  pub there : slice_get documents 0 ≡ Some parsed
+  pub kinds : List Entity
+  pub declared : AreClosureKinds documents kinds
+  pub main : Said
+  pub says : SaysUnder kinds parsed main
+  pub told : IsToldOfMain action documents parsed kinds main outcome
 
 -- what becomes of a document of which a graph is written, and the text says its normal form
 pub record IsInTurtle (kinds : List Entity) (main : Said) (outcome : Outcome) : Type 0 where

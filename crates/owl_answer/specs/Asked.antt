@@ -12,8 +12,8 @@ use Rattle.owl_messages.specs.Answers.{outcome_of}
 
 -- a document for each name, and one at least
 pub record IsAsked (asked : Asked) : Type 0 where
-  pub some : 0 < length asked.docs.now
-  pub each : length asked.docs.now ≡ length (names_of (request_of asked.command.now))
+  pub some : 0 < length asked.docs.items
+  pub each : length asked.docs.items ≡ length (names_of (request_of asked.command.now))
 
 -- this action is asked for, and the imports are there that have to be
 pub record IsOfAction (asked : Asked) (action : Action) : Type 0 where
@@ -21,7 +21,7 @@ pub record IsOfAction (asked : Asked) (action : Action) : Type 0 where
   pub partial : Bool
   pub names : List (List ℕ)
   pub asks : request_of asked.command.now ≡ of_main action partial names
-  pub imports : HasImports (request_of asked.command.now) (map parsed_of asked.docs.now)
+  pub imports : HasImports (request_of asked.command.now) (map parsed_of asked.docs.items)
 
 -- two documents are to be compared
 pub record IsOfTwo (asked : Asked) : Type 0 where
@@ -30,4 +30,4 @@ pub record IsOfTwo (asked : Asked) : Type 0 where
 
 -- it is what is answered
 abbrev pub IsAnswerTo : Asked → Answer → Type 0
-IsAnswerTo asked answer = IsConclusion (request_of asked.command.now) (map parsed_of asked.docs.now) (outcome_of answer)
+IsAnswerTo asked answer = IsConclusion (request_of asked.command.now) (map parsed_of asked.docs.items) (outcome_of answer)

@@ -1,5 +1,8 @@
 pub mod Answers
 pub mod Asked
+pub mod Checking
+pub mod Checks
+pub mod InProfile
 pub mod KindsAt
 pub mod Outcome
 pub mod Runs

@@ -1,11 +1,10 @@
 -- What a run may answer, and what its status tells.
-use Rattle.std.specs.Prelude.{◌≡◌, ◌<◌, ◌≤◌, List, length, map}
-use Rattle.owl_characters.specs.Limit.{most_bytes}
+use Rattle.std.specs.Prelude.{◌≡◌, List, map}
 use Rattle.owl_tree.specs.Ontologies.{Head, IsSameOntology}
 use Rattle.owl_command.specs.declared.status.Status.{Status}
 use Rattle.owl_command.specs.declared.status.Status.TheVariants.{Done, No, ReadFailed, WriteFailed, Memory}
 use Rattle.owl_documents.specs.Documents.{Parsed, Said, head_in}
-use Rattle.owl_messages.specs.Outcome.{Outcome, agreement, difference, too_long_output}
+use Rattle.owl_messages.specs.Outcome.{Outcome, agreement, difference}
 
 -- how documents are called, and what they import
 abbrev pub heads_in : List Parsed → List Head
@@ -15,11 +14,6 @@ heads_in = map head_in
 pub data IsComparison (a b : Said) (outcome : Outcome) : Type 0 where
   agree : IsSameOntology a.ontology b.ontology → outcome ≡ agreement → IsComparison a b outcome
   differ : (IsSameOntology a.ontology b.ontology → ⊥) → outcome ≡ difference → IsComparison a b outcome
-
--- A text that is too long is not written.
-pub data IsLimited (IsWanted : Outcome → Type 0) (outcome : Outcome) : Type 0 where
-  fits : IsWanted outcome → length outcome.text ≤ most_bytes → IsLimited IsWanted outcome
-  passes : (wanted : Outcome) → IsWanted wanted → most_bytes < length wanted.text → outcome ≡ too_long_output → IsLimited IsWanted outcome
 
 -- It is an answer, and there is no other one.
 pub record IsTheOutcome (IsOne : Outcome → Type 0) (outcome : Outcome) : Type 0 where

@@ -1,13 +1,15 @@
 -- What reading documents under kinds finds.
-use Rattle.std.specs.Prelude.{◌≡◌, ◌≢◌, ◌++◌, ℕ, List, [], ◌∷◌, Some, slice_get}
-use Rattle.std.specs.List.{AllByRecursion}
+use Rattle.std.specs.Prelude.{◌≡◌, ◌≢◌, ◌≤◌, ◌<◌, ◌⊎◌, ◌++◌, ℕ, Bool, true, false, List, [], ◌∷◌, Some, Contains, slice_get}
+use Rattle.std.specs.List.{AllByRecursion, AllZip}
 use Rattle.owl_doc.specs.Documents as doc
-use Rattle.owl_documents.specs.Documents.{Parsed, Said, said_of}
+use Rattle.owl_documents.specs.Documents.{Parsed, Said, a_graph, an_ontology, said_of}
 use Rattle.owl_kind.specs.Kinds.{Entity}
 use Rattle.rdf_reverse.specs.declared.fault.ReverseFault.{ReverseFault}
 use Rattle.rdf_reverse.specs.declared.fault.ReverseFault.TheVariants.{Memory}
-use Rattle.owl_answer.specs.KindsAt.{AreOwnKinds}
+use Rattle.owl_tree.specs.Ontologies.{canonical_ontology}
+use Rattle.owl_answer.specs.KindsAt.{AreOwnKinds, IsClosure}
 use Rattle.owl_answer.specs.UnderKinds.{IsUnsaidUnder, SaysSome, SaysUnder}
+use Rattle.owl_answer.specs.declared.closure.Closure.{Closure}
 use Rattle.owl_answer.specs.declared.reading.Saying.{Saying}
 use Rattle.owl_answer.specs.declared.reading.Saying.TheVariants.{Held, Read}
 use Rattle.owl_answer.specs.declared.reading.Unsaid.{Unsaid}
@@ -24,11 +26,25 @@ said_in saying = said_of (doc_in saying)
 abbrev pub IsFaultUnder : List Entity → Parsed → ReverseFault → Type 0
 IsFaultUnder kinds parsed fault = fault ≢ Memory → IsUnsaidUnder kinds parsed fault
 
+-- the document says this under these kinds, and it stands in canonical form
+pub record IsSaidAs (kinds : List Entity) (parsed : Parsed) (d : doc.Document) : Type 0 where
+  pub says : SaysUnder kinds parsed (said_of d)
+  pub canonical : canonical_ontology (doc.ontology_of d) ≡ doc.ontology_of d
+
 -- behind the others stands what the document says under these kinds
-pub record SaysNext (kinds : List Entity) (parsed : Parsed) (before after : List Saying) : Type 0 where
-  pub saying : Saying
-  pub says : SaysUnder kinds parsed (said_in saying)
-  pub is : after ≡ before ++ saying ∷ []
+pub record SaysNext (kinds : List Entity) (parsed : Parsed) (before after : List doc.Document) : Type 0 where
+  pub more : doc.Document
+  pub said : IsSaidAs kinds parsed more
+  pub is : after ≡ before ++ more ∷ []
+
+-- so it does where its place is one of the closure's, and else nothing is added
+abbrev pub SaysReached : Closure → ℕ → Parsed → List doc.Document → List doc.Document → Type 0
+SaysReached closure place parsed before after =
+    (Contains closure.places.items place × SaysNext closure.kinds parsed before after) ⊎ ((Contains closure.places.items place → ⊥) × (after ≡ before))
+
+-- the place is one of the closure's, and this is why its document says nothing
+abbrev pub IsReachedFault : Closure → ℕ → Parsed → ReverseFault → Type 0
+IsReachedFault closure place parsed fault = Contains closure.places.items place × IsFaultUnder closure.kinds parsed fault
 
 -- what the document says under the kinds that it declares itself
 pub record SaysAlone (parsed : Parsed) (said : Said) : Type 0 where
@@ -43,16 +59,23 @@ pub record IsUnsaidAlone (parsed : Parsed) (fault : ReverseFault) : Type 0 where
   pub unsaid : IsUnsaidUnder kinds parsed fault
 
 -- a document stands at this place, and says this under these kinds
-pub record IsSaidAt (documents : List Parsed) (kinds : List Entity) (place : ℕ) (said : Said) : Type 0 where
+pub record IsSaidAt (documents : List Parsed) (kinds : List Entity) (place : ℕ) (d : doc.Document) : Type 0 where
   pub parsed : Parsed
   pub there : slice_get documents place ≡ Some parsed
-  pub says : SaysUnder kinds parsed said
+  pub said : IsSaidAs kinds parsed d
 
 -- the documents at these places say this, one by one
-abbrev pub AllSayAt : List Parsed → List Entity → List ℕ → List Saying → Type 0
-AllSayAt documents kinds [] [] = Unit {0}
-AllSayAt documents kinds (place ∷ places) (saying ∷ sayings) = IsSaidAt documents kinds place (said_in saying) × AllSayAt documents kinds places sayings
-AllSayAt documents kinds places sayings = ⊥
+abbrev pub AllSayAt : List Parsed → List Entity → List ℕ → List doc.Document → Type 0
+AllSayAt documents kinds places ds = AllZip (IsSaidAt documents kinds) places ds
+
+-- what was read of the documents before this place: those of them whose places are among these say this, one by one
+pub record IsReadBefore (documents : List Parsed) (kinds : List Entity) (places : List ℕ) (place : ℕ) (ds : List doc.Document) : Type 0 where
+  pub before : List ℕ
+  pub after : List ℕ
+  pub split : places ≡ before ++ after
+  pub passed : AllByRecursion (λ other. other < place) before
+  pub ahead : AllByRecursion (λ other. place ≤ other) after
+  pub say : AllSayAt documents kinds before ds
 
 -- a document that stands at this place says something
 abbrev pub SaysSomeAt : List Parsed → List Entity → ℕ → Type 0
@@ -69,3 +92,16 @@ pub record IsFirstFault (documents : List Parsed) (kinds : List Entity) (places 
   pub split : places ≡ before ++ unsaid.document ∷ after
   pub say : AllByRecursion (SaysSomeAt documents kinds) before
   pub fault : IsFaultAt documents kinds unsaid.document unsaid.fault
+
+-- whether it is a graph
+abbrev pub is_graph : Parsed → Bool
+is_graph (an_ontology said) = false
+is_graph (a_graph read) = true
+
+-- The documents of the closure say this, and this tells whether the main one is a graph.
+pub record IsReadAs (documents : List Parsed) (closure : Closure) (ds : List doc.Document) (from_graph : Bool) : Type 0 where
+  pub closed : IsClosure documents closure
+  pub say : AllSayAt documents closure.kinds closure.places.items ds
+  pub main : Parsed
+  pub there : slice_get documents 0 ≡ Some main
+  pub graph : is_graph main ≡ from_graph

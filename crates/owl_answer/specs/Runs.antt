@@ -7,7 +7,7 @@ use Rattle.owl_doc.specs.Parts.{Part}
 use Rattle.rdf_sayable.specs.Reasons.{Objection}
 use Rattle.owl_command.specs.Commands.{AsksImports, Asks, HasNoCommand, IsAmong, Request, compares, names_of, of_main}
 use Rattle.owl_command.specs.declared.command.Action.{Action}
-use Rattle.owl_command.specs.declared.command.Action.TheVariants.{Translate, Show}
+use Rattle.owl_command.specs.declared.command.Action.TheVariants.{Translate, Check, Show}
 use Rattle.owl_command.specs.declared.command.Target.{Target as Syntax}
 use Rattle.owl_command.specs.declared.command.Target.TheVariants.{Fss, Ttl}
 use Rattle.owl_command.specs.declared.status.Status.{Status}
@@ -16,11 +16,13 @@ use Rattle.owl_documents.specs.Documents.{AreRead, Contents, IsFirstRefused, Par
 use Rattle.owl_documents.specs.declared.trouble.Refusal.{Refusal}
 use Rattle.rdf_reverse.specs.declared.fault.ReverseFault.{ReverseFault}
 use Rattle.rdf_reverse.specs.declared.fault.ReverseFault.TheVariants as reverse
-use Rattle.owl_answer.specs.Outcome.{IsComparison, IsLimited, IsSettled, IsSuccess, IsTheOutcome, heads_in}
+use Rattle.owl_answer.specs.Outcome.{IsComparison, IsSettled, IsSuccess, IsTheOutcome, heads_in}
 use Rattle.owl_messages.specs.Refusals.{two_kinds, undeclared, unsayable}
+use Rattle.owl_messages.specs.Verdicts.{no_line, yes_line}
+use Rattle.owl_answer.specs.Checks.{IsChecked}
 use Rattle.owl_answer.specs.UnderKinds.{AllSay, HoldsOfMain, HoldsOfTwo, IsFirstUnsaid}
 use Rattle.owl_answer.specs.TurtleOutcome.{IsFunctionalTranslation, IsTurtleTranslation, ReadsSaid, canonical_said, turtle_form}
-use Rattle.owl_messages.specs.Outcome.{Outcome, done_line, functional_form, missing_import, refusal_outcome, refused, shown, too_heavy_output, too_long_output, too_many_triples, translation, unsaid_outcome}
+use Rattle.owl_messages.specs.Outcome.{IsLimited, Outcome, done_line, functional_form, missing_import, refusal_outcome, refused, shown, too_heavy_output, too_long_output, too_many_triples, translation, unsaid_outcome}
 
 -- The normal form that a syntax has for what a document says.
 abbrev pub normal_form : Syntax → Said → Said
@@ -38,15 +40,16 @@ IsTranslation Fss (an_ontology said) kinds main outcome = IsLimited (λ wanted. 
 IsTranslation Fss (a_graph read) kinds main outcome = IsFunctionalTranslation kinds main outcome
 IsTranslation Ttl parsed kinds main outcome = IsTurtleTranslation kinds main outcome
 
--- What becomes of the main document by an action, by what it says under these kinds.
-abbrev pub IsActionOutcome : Action → Parsed → List Entity → Said → Outcome → Type 0
-IsActionOutcome (Translate target) parsed kinds main outcome = IsTranslation target parsed kinds main outcome
-IsActionOutcome Show parsed kinds main outcome = IsLimited (λ wanted. wanted ≡ shown main) outcome
+-- What becomes by an action of the main one of these documents, by what it says under these kinds. A check is of all that it reaches.
+abbrev pub IsActionOutcome : Action → List Parsed → Parsed → List Entity → Said → Outcome → Type 0
+IsActionOutcome (Translate target) documents parsed kinds main outcome = IsTranslation target parsed kinds main outcome
+IsActionOutcome (Check profile) documents parsed kinds main outcome = IsChecked profile documents outcome
+IsActionOutcome Show documents parsed kinds main outcome = IsLimited (λ wanted. wanted ≡ shown main) outcome
 
 -- What becomes of documents that all say something: of the main one, or of two.
 abbrev pub AnswersWith : Request → List Parsed → Outcome → Type 0
 AnswersWith (of_main action partial names) documents outcome =
-    HoldsOfMain (of_main action partial names) documents (λ parsed kinds main. IsActionOutcome action parsed kinds main outcome)
+    HoldsOfMain (of_main action partial names) documents (λ parsed kinds main. IsActionOutcome action documents parsed kinds main outcome)
 AnswersWith (compares first second) documents outcome =
     HoldsOfTwo (compares first second) documents (λ a b. IsLimited (IsComparison a b) outcome)
 
@@ -69,6 +72,8 @@ pub data IsOutcome (words : List (List ℕ)) (contents : Contents) (outcome : Ou
 -- the line of an action's success
 abbrev pub ActionLine : Action → Status → List ℕ → Type 0
 ActionLine (Translate target) Done line = (axioms absorbed : ℕ) × (line ≡ done_line axioms absorbed)
+ActionLine (Check profile) Done line = line ≡ yes_line profile
+ActionLine (Check profile) No line = (breaches : ℕ) × (line ≡ no_line profile breaches)
 ActionLine Show Done line = line ≡ codes "shown\n"
 ActionLine action status line = ⊥
 
@@ -131,6 +136,7 @@ ReadsIn Ttl kinds text said = ReadsSaid kinds text said
 -- What the text of an action is: that of a translation reads back to the normal form of what the main document says, under the same kinds.
 abbrev pub IsActionText : Action → List Entity → Said → List ℕ → Type 0
 IsActionText (Translate target) kinds main text = ReadsIn target kinds text (normal_form target main)
+IsActionText (Check profile) kinds main text = Unit {0}
 IsActionText Show kinds main text = Unit {0}
 
 -- the text is that of the action, by what the main document says

@@ -20,10 +20,10 @@ use Rattle.ttl_grammar.specs.Documents.{ReadsTurtle}
 use Rattle.ttl_write.specs.Text.{turtle_text}
 use Rattle.owl_command.specs.declared.status.Status.TheVariants.{Done}
 use Rattle.owl_documents.specs.Documents.{Said}
-use Rattle.owl_answer.specs.Outcome.{IsLimited, IsSuccess}
+use Rattle.owl_answer.specs.Outcome.{IsSuccess}
 use Rattle.owl_messages.specs.Refusals.{two_kinds, undeclared, unsayable}
 use Rattle.owl_answer.specs.Typing.{AllAreWellTyped, DeclareSame, IsFirstUntyped}
-use Rattle.owl_messages.specs.Outcome.{Outcome, done_line, too_heavy_output, too_many_triples, translation}
+use Rattle.owl_messages.specs.Outcome.{IsLimited, Outcome, done_line, too_heavy_output, too_many_triples, translation}
 
 -- the same document in canonical form, which equivalent ones have in common
 abbrev pub canonical_said : Said → Said

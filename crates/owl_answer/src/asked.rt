@@ -4,8 +4,8 @@ use owl_command::Command;
 use owl_documents::Document;
 
 /// A command, and the documents that it names, in the order of their names.
-#[derive(Clone, Copy)]
+#[derive(Drop)]
 pub struct Asked<'a> {
     pub command: &'a Command,
-    pub docs: &'a [Document],
+    pub docs: Vec<Document>,
 }

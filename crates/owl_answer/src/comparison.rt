@@ -4,9 +4,10 @@ ghost use Rattle.std.specs.Prelude.{IfOk, map};
 ghost use Rattle.owl_command.specs.Commands.{request_of};
 ghost use Rattle.owl_documents.specs.Documents.{parsed_of, said_of};
 ghost use Rattle.owl_answer.specs.Asked.{IsAnswerTo, IsOfTwo};
-ghost use Rattle.owl_answer.specs.Outcome.{IsComparison, IsLimited};
+ghost use Rattle.owl_answer.specs.Outcome.{IsComparison};
 ghost use Rattle.owl_answer.specs.UnderKinds.{SaysAt};
 ghost use Rattle.owl_messages.specs.Answers.{outcome_of};
+ghost use Rattle.owl_messages.specs.Outcome.{IsLimited};
 
 use crate::asked::Asked;
 use crate::reading::read_alone;
@@ -32,7 +33,7 @@ pub fn compare_both(alloc: Global, asked: &Asked) -> Result<Answer, NoMemory>
 fn compare_second(alloc: Global, asked: &Asked, first: &Doc) -> Result<Answer, NoMemory>
     requires two { IsOfTwo asked.now }
     requires first { SaysAt (request_of asked.now.command.now)
-        (map parsed_of asked.now.docs.now) 0 (said_of first.now) }
+        (map parsed_of asked.now.docs.items) 0 (said_of first.now) }
     ensures { IfOk result (IsAnswerTo asked.now) }
 {
     match read_alone(alloc, &asked.docs[1]) {

@@ -54,14 +54,14 @@ pub fn first_missing(alloc: Global, asked: &Asked) -> Result<Option<Missing>, No
     requires { IsAsked asked.now }
     ensures some { IfOk result (λ found. IfSome found
         (IsMissingFor (request_of asked.now.command.now)
-        (heads_in (map parsed_of asked.now.docs.now)))) }
+        (heads_in (map parsed_of asked.now.docs.items)))) }
     ensures none { IfOk result (λ found. IfNone found
-        (HasImports (request_of asked.now.command.now) (map parsed_of asked.now.docs.now))) }
+        (HasImports (request_of asked.now.command.now) (map parsed_of asked.now.docs.items))) }
 {
     if !asked.command.asks_imports() {
         return Ok(None);
     }
-    let heads = heads(alloc, asked.docs)?;
+    let heads = heads(alloc, &asked.docs)?;
     match closure(alloc, &heads, false) {
         Ok(_) => Ok(None),
         Err(CloseFault::MissingImport { document, iri }) => Ok(Some(Missing { document, iri })),

@@ -2,6 +2,7 @@
 #![tactic(auto)]
 
 mod asked;
+mod checking;
 mod closure;
 mod comparison;
 mod conclusion;

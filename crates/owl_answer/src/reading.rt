@@ -5,7 +5,7 @@ ghost use Rattle.owl_documents.specs.Documents.{parsed_of, said_of};
 ghost use Rattle.owl_documents.specs.declared.document.Document.TheVariants.{Graph};
 ghost use Rattle.rdf_reverse.specs.declared.fault.ReverseFault.TheVariants.{Memory};
 ghost use Rattle.owl_answer.specs.KindsAt.{IsClosure};
-ghost use Rattle.owl_answer.specs.Reading.{AllSayAt, IsFaultUnder, IsFirstFault, IsUnsaidAlone, SaysAlone, SaysNext, doc_in, said_in};
+ghost use Rattle.owl_answer.specs.Reading.{AllSayAt, IsFaultUnder, IsFirstFault, IsReachedFault, IsUnsaidAlone, SaysAlone, SaysNext, SaysReached, doc_in, said_in};
 ghost use Rattle.owl_answer.specs.UnderKinds.{SaysUnder};
 
 use crate::closure::Closure;
@@ -46,46 +46,79 @@ pub struct Unsaid {
 
 /// What each document of the closure says under its kinds, in the order of their
 /// places, or the first that says nothing.
-pub fn read_closure<'a>(
+pub fn read_closure(
     alloc: Global,
-    docs: &'a [Document],
+    docs: Vec<Document>,
     closure: &Closure,
-) -> Result<Vec<Saying<'a>>, Unsaid>
-    requires { IsClosure (map parsed_of docs.now) closure.now }
-    ensures said { IfOk result (λ sayings. AllSayAt (map parsed_of docs.now)
-        closure.now.kinds closure.now.places.items sayings.items) }
+) -> Result<Vec<Doc>, Unsaid>
+    requires { IsClosure (map parsed_of docs.items) closure.now }
+    ensures said { IfOk result (λ said. AllSayAt (map parsed_of docs.items)
+        closure.now.kinds closure.now.places.items said.items) }
     ensures fault { IfErr result (
-        IsFirstFault (map parsed_of docs.now) closure.now.kinds closure.now.places.items) }
+        IsFirstFault (map parsed_of docs.items) closure.now.kinds closure.now.places.items) }
 {
-    let mut sayings = Vec::new(alloc);
-    for place in &closure.places {
-        let document = &docs[*place];
-        if let Err(fault) = read_next(alloc, document, &closure.kinds, &mut sayings) {
+    let mut said = Vec::new(alloc);
+    let mut place = 0;
+    for document in docs {
+        if let Err(fault) = read_reached(alloc, place, document, closure, &mut said) {
             return Err(Unsaid {
-                document: *place,
+                document: place,
                 fault,
             });
         }
+        place += 1;
     }
-    Ok(sayings)
+    Ok(said)
+}
+
+/// Puts what the document at this place says behind the others, where main reaches it.
+fn read_reached(
+    alloc: Global,
+    place: usize,
+    document: Document,
+    closure: &Closure,
+    said: &mut Vec<Doc>,
+) -> Result<(), ReverseFault>
+    ensures said { OnOk result (SaysReached closure.now place (parsed_of document)
+        said.old.items said.new.items) }
+    ensures fault { IfErr result (IsReachedFault closure.now place (parsed_of document)) }
+{
+    if closure.places.contains(&place) {
+        read_next(alloc, document, &closure.kinds, said)
+    } else {
+        Ok(())
+    }
 }
 
 /// Puts what the document says under these kinds behind the others, or tells why it
 /// says nothing.
-fn read_next<'a>(
+fn read_next(
     alloc: Global,
-    doc: &'a Document,
+    document: Document,
     kinds: &Kinds,
-    sayings: &mut Vec<Saying<'a>>,
+    said: &mut Vec<Doc>,
 ) -> Result<(), ReverseFault>
     ensures said { OnOk result (
-        SaysNext kinds.now (parsed_of doc.now) sayings.old.items sayings.new.items) }
-    ensures fault { IfErr result (IsFaultUnder kinds.now (parsed_of doc.now)) }
+        SaysNext kinds.now (parsed_of document) said.old.items said.new.items) }
+    ensures fault { IfErr result (IsFaultUnder kinds.now (parsed_of document)) }
 {
-    let saying = read_under(alloc, doc, kinds)?;
-    match sayings.push(saying) {
+    let doc = read_whole(alloc, document, kinds)?;
+    // A document is in canonical form.
+    doc.notes();
+    match said.push(doc) {
         Ok(()) => Ok(()),
         Err(_) => Err(ReverseFault::Memory),
+    }
+}
+
+/// What the document says under these kinds, in its place.
+fn read_whole(alloc: Global, document: Document, kinds: &Kinds) -> Result<Doc, ReverseFault>
+    ensures said { IfOk result (λ doc. SaysUnder kinds.now (parsed_of document) (said_of doc)) }
+    ensures fault { IfErr result (IsFaultUnder kinds.now (parsed_of document)) }
+{
+    match document {
+        Document::Ontology(doc) => Ok(doc),
+        Document::Graph(graph) => read_graph(alloc, &graph, kinds),
     }
 }
 

@@ -30,13 +30,7 @@ pub fn answer_to<S: Shelf>(
     // What is known of all documents.
     documents_are_read_one_way();
     match read_documents(alloc, command, shelf) {
-        Ok(docs) => {
-            let asked = Asked {
-                command,
-                docs: &docs,
-            };
-            conclude(alloc, &asked)
-        }
+        Ok(docs) => conclude(alloc, Asked { command, docs }),
         Err(stop) => answer_trouble(alloc, command.name(stop.document), &stop.trouble),
     }
 }

@@ -1,43 +1,52 @@
 //! What is told of documents by what they say.
 
-ghost use Rattle.std.specs.Prelude.{◌≡◌, IfOk};
+ghost use Rattle.std.specs.Prelude.{◌≡◌, ◌<◌, List, IfOk, length};
 ghost use Rattle.std.specs.Str.{encode_utf8_all};
 ghost use Rattle.fss_terms.specs.Functional.{ReadsFunctional};
 ghost use Rattle.fss_write.specs.Text.{text_of};
 ghost use Rattle.owl_doc.specs.Documents.{ontology_of};
-ghost use Rattle.owl_documents.specs.Documents.{parsed_of, said_of};
+ghost use Rattle.owl_documents.specs.Documents.{Parsed, said_of};
 ghost use Rattle.owl_writing.specs.Tables.{declared_prefixes};
-ghost use Rattle.owl_answer.specs.Answers.{IsInTurtle, IsToldOfMain};
-ghost use Rattle.owl_answer.specs.Outcome.{IsLimited, IsSuccess};
+ghost use Rattle.owl_answer.specs.Answers.{IsInTurtle, IsToldOf, IsToldOfMain};
+ghost use Rattle.owl_answer.specs.Outcome.{IsSuccess};
+ghost use Rattle.owl_answer.specs.Reading.{IsReadAs, is_graph};
 ghost use Rattle.owl_answer.specs.TurtleOutcome.{IsFunctionalTranslation};
 ghost use Rattle.owl_messages.specs.Answers.{outcome_of};
-ghost use Rattle.owl_messages.specs.Outcome.{shown, translation};
+ghost use Rattle.owl_messages.specs.Outcome.{IsLimited, shown, translation};
 
+use crate::checking::check;
+use crate::closure::Closure;
 use crate::turtle::translate_to_turtle;
 use crate::typing::typing_refusal;
 use fss_write::{WriteFault, write};
 use owl_characters::{MOST_BYTES, NoMemory, Text};
 use owl_command::{Action, Status, Target};
 use owl_doc::Doc;
-use owl_documents::Document;
 use owl_messages::{Answer, done_line, summary, told, too_long_output};
 use owl_tree::Kinds;
 use std::alloc::Global;
 
-/// What an action tells of the main document, which says this under these kinds.
-pub fn tell_main(
+/// What an action tells of the main document, which is the first, and of those that it
+/// reaches: this is what they say.
+pub fn tell_closure(
     alloc: Global,
     action: Action,
-    document: &Document,
-    kinds: &Kinds,
-    main: &Doc,
+    from_graph: bool,
+    closure: Closure,
+    said: Vec<Doc>,
 ) -> Result<Answer, NoMemory>
-    ensures { IfOk result (λ answer. IsToldOfMain action (parsed_of document.now) kinds.now
-        (said_of main.now) (outcome_of answer)) }
+    requires some { 0 < length said.items }
+    requires each { length closure.places.items ≡ length said.items }
+    ensures { IfOk result (λ answer. (documents : List Parsed)
+        → IsReadAs documents closure said.items from_graph
+        → IsToldOf action documents (outcome_of answer)) }
 {
     match action {
-        Action::Translate(target) => translate(alloc, target, document, kinds, main),
-        Action::Show => show(alloc, main),
+        Action::Translate(target) => {
+            translate(alloc, target, from_graph, &closure.kinds, &said[0])
+        }
+        Action::Check(profile) => check(alloc, profile, closure, said),
+        Action::Show => show(alloc, &said[0]),
     }
 }
 
@@ -45,15 +54,16 @@ pub fn tell_main(
 fn translate(
     alloc: Global,
     target: Target,
-    document: &Document,
+    from_graph: bool,
     kinds: &Kinds,
     main: &Doc,
 ) -> Result<Answer, NoMemory>
-    ensures { IfOk result (λ answer. IsToldOfMain (Action.Translate target)
-        (parsed_of document.now) kinds.now (said_of main.now) (outcome_of answer)) }
+    ensures { IfOk result (λ answer. (documents : List Parsed) (parsed : Parsed)
+        → is_graph parsed ≡ from_graph → IsToldOfMain (Action.Translate target) documents parsed
+        kinds.now (said_of main.now) (outcome_of answer)) }
 {
     match target {
-        Target::Fss => translate_in_functional(alloc, document, kinds, main),
+        Target::Fss => translate_in_functional(alloc, from_graph, kinds, main),
         Target::Ttl => translate_in_turtle(alloc, kinds, main),
     }
 }
@@ -62,16 +72,18 @@ fn translate(
 /// what is written in it no more than was written.
 fn translate_in_functional(
     alloc: Global,
-    document: &Document,
+    from_graph: bool,
     kinds: &Kinds,
     main: &Doc,
 ) -> Result<Answer, NoMemory>
-    ensures { IfOk result (λ answer. IsToldOfMain (Action.Translate Target.Fss)
-        (parsed_of document.now) kinds.now (said_of main.now) (outcome_of answer)) }
+    ensures { IfOk result (λ answer. (documents : List Parsed) (parsed : Parsed)
+        → is_graph parsed ≡ from_graph → IsToldOfMain (Action.Translate Target.Fss) documents
+        parsed kinds.now (said_of main.now) (outcome_of answer)) }
 {
-    match document {
-        Document::Ontology(_) => translate_to_functional(alloc, main),
-        Document::Graph(_) => translate_typed(alloc, kinds, main),
+    if from_graph {
+        translate_typed(alloc, kinds, main)
+    } else {
+        translate_to_functional(alloc, main)
     }
 }
 

@@ -8,10 +8,9 @@ ghost use Rattle.owl_doc.specs.Documents.{ontology_of};
 ghost use Rattle.owl_documents.specs.Documents.{said_of};
 ghost use Rattle.owl_kind.specs.Kinds.{Entity};
 ghost use Rattle.rdf_mapping.specs.Graphs.{graph_of};
-ghost use Rattle.owl_answer.specs.Outcome.{IsLimited};
 ghost use Rattle.owl_answer.specs.TurtleOutcome.{IsFormTold, IsGraphTold, IsToldBack, IsTurtleTranslation, IsTyped, canonical_said, graph_translation, turtle_form};
 ghost use Rattle.owl_messages.specs.Answers.{outcome_of};
-ghost use Rattle.owl_messages.specs.Outcome.{done_line};
+ghost use Rattle.owl_messages.specs.Outcome.{IsLimited, done_line};
 
 use crate::typing::typing_refusal;
 use owl_characters::{NoMemory, Text};

@@ -1,4 +1,4 @@
-use Rattle.std.proofs.Common.{get_or, map}
+use Rattle.std.proofs.Common.{map, refl}
 use Rattle.owl_command.specs.Commands.{request_of}
 use Rattle.owl_documents.specs.Documents.{parsed_of}
 use Rattle.owl_messages.specs.declared.answer.Answer.{Answer}
@@ -10,7 +10,7 @@ use Rattle.owl_messages.specs.Answers.{outcome_of}
 pub returns-in-Err : goal.returns-in-Err
 returns-in-Err c =
     let asked = c.args.asked.now in
-    let docs = asked.docs.now in
-    let document = get_or docs 0 c.index-asked-0.result in
-    let there = parsed_at docs 0 document (stands_at docs 0 c.index-asked-0.result document c.requires.asked_for.some c.index-asked-0.is c.index-asked-0.is) in
+    let docs = asked.docs.items in
+    let document = c.index.result.now in
+    let there = parsed_at docs 0 document (stands_at docs 0 document document c.requires.asked_for.some c.index.ensures refl) in
     from_both c.refuse_unsaid.result _ _ _ (λ (a : Answer) e n. none_first (request_of asked.command.now) c.requires.alone (map parsed_of docs) (parsed_of document) there c.in-Err.fault (c.in-Err.ensures.fault n) c.name.result.now c.name.ensures (outcome_of a) e) c.refuse_unsaid.ensures.outcome c.refuse_unsaid.ensures.memory

@@ -1,37 +1,45 @@
-use Rattle.std.proofs.Common.{ℕ, List, get_or, map, refl, rules, subst}
+use Rattle.std.proofs.Common.{List, rules, ◌∙◌, map, subst, sym, arith}
+use Rattle.std.proofs.lemmas.List.{nil_from_length}
+use Rattle.std.proofs.lemmas.Option.{slice_get_within}
+use Rattle.std.specs.Vec.Iter.{into_iter_items}
+use Rattle.owl_doc.specs.Documents as doc
 use Rattle.owl_documents.specs.Documents.{parsed_of}
-use Rattle.owl_answer.specs.Reading.{IsFirstFault}
-use Rattle.owl_answer.proofs.Readings.{fault_found, place_within, said_next}
-use Rattle.owl_answer.proofs.Wanting.{parsed_at, stands_at}
+use Rattle.owl_answer.specs.Reading.{IsReadBefore}
+use Rattle.owl_answer.proofs.Readings.{all_read, fault_found, left_at, none_left, none_read, read_at, some_documents}
+use Rattle.owl_answer.proofs.Wanting.{parsed_at}
 use Rattle.owl_answer.proofs.reading.read_closure.Goals as goal
 
-pub offset_bounds-docs-place : goal.offset_bounds-docs-place
-offset_bounds-docs-place c =
-    let within = place_within c.args.docs.now c.args.closure.now c.requires c.deref-place-items.result.now c.deref-place-items.ensures.value c.loop-place.place-index c.loop-place-test.true in
-    search rules
-
-pub bounds-docs-place : goal.bounds-docs-place
-bounds-docs-place c =
-    place_within c.args.docs.now c.args.closure.now c.requires c.deref-place-items.result.now c.deref-place-items.ensures.value c.loop-place.place-index c.loop-place-test.true
+pub loop-document-init : goal.loop-document-init
+loop-document-init c = record {
+  read = subst (λ (ds : List doc.Document). IsReadBefore (map parsed_of c.args.docs.items) c.args.closure.now.kinds c.args.closure.now.places.items 0 ds) (sym c.new-said.ensures.items) (none_read (map parsed_of c.args.docs.items) c.args.closure.now.kinds c.args.closure.now.places.items c.requires.reached.ascending);
+  left = c.into_iter-document-iterator.ensures.into_iter_gives.0;
+  within = omega arith;
+  len = search rules;
+}
 
 pub returns-in-Err-clause-fault : goal.returns-in-Err-clause-fault
 returns-in-Err-clause-fault c =
-    let docs = c.args.docs.now in
-    let kinds = c.args.closure.now.kinds in
-    let places = c.deref-place-items.result.now in
-    let document = c.index-docs-place.result in
-    let place = get_or places c.loop-place.place-index 0 in
-    let within = place_within docs c.args.closure.now c.requires places c.deref-place-items.ensures.value c.loop-place.place-index c.loop-place-test.true in
-    let there = parsed_at docs place document (stands_at docs place document document within c.index-docs-place.is refl) in
-    subst (λ (ps : List ℕ). IsFirstFault (map parsed_of docs) kinds ps (record { document = place; fault = c.in-Err.fault })) c.deref-place-items.ensures.value
-    (fault_found (map parsed_of docs) kinds places c.loop-place.place-index c.loop-place-test.true c.loop-place.sayings.items c.in-Err.fault c.loop-place.invariant (parsed_of document, there, c.in-Err.ensures.fault))
+    let docs = c.args.docs.items in
+    let document = c.in-Some.document in
+    let here = left_at docs c.loop-document.place document _ (sym c.loop-document.invariant.left ∙ c.in-Some.ensures.steps.0) in
+    fault_found (map parsed_of docs) c.args.closure.now.kinds c.args.closure.now.places.items c.requires.reached.ascending c.loop-document.place c.loop-document.said.items c.loop-document.invariant.read c.in-Err.ensures.fault.0 c.in-Err.fault (parsed_of document, parsed_at docs c.loop-document.place document here.0, c.in-Err.ensures.fault.1)
 
-pub loop-place-preserved : goal.loop-place-preserved
-loop-place-preserved c =
-    let docs = c.args.docs.now in
-    let places = c.deref-place-items.result.now in
-    let document = c.index-docs-place.result in
-    let place = get_or places c.loop-place.place-index 0 in
-    let within = place_within docs c.args.closure.now c.requires places c.deref-place-items.ensures.value c.loop-place.place-index c.loop-place-test.true in
-    let there = parsed_at docs place document (stands_at docs place document document within c.index-docs-place.is refl) in
-    said_next (map parsed_of docs) c.args.closure.now.kinds places c.loop-place.place-index c.loop-place-test.true (parsed_of document) c.loop-place.sayings.items c.read_next.new.sayings.items c.loop-place.invariant there c.in_default.ensures.said
+pub loop-document-preserved : goal.loop-document-preserved
+loop-document-preserved c =
+    let docs = c.args.docs.items in
+    let document = c.in-Some.document in
+    let here = left_at docs c.loop-document.place document _ (sym c.loop-document.invariant.left ∙ c.in-Some.ensures.steps.0) in
+    let inside = slice_get_within docs c.loop-document.place document here.0 in
+    record {
+      read = read_at (map parsed_of docs) c.args.closure.now.kinds c.args.closure.now.places.items c.requires.reached.ascending c.loop-document.place c.loop-document.said.items c.loop-document.invariant.read (parsed_of document) (parsed_at docs c.loop-document.place document here.0) c.read_reached.new.said.items c.in_default.ensures.said;
+      left = sym here.1;
+      within = omega (arith, inside);
+      len = search rules;
+    }
+
+pub returns-clause-said : goal.returns-clause-said
+returns-clause-said c =
+    let docs = c.args.docs.items in
+    let none = nil_from_length (into_iter_items c.loop-document.document-iterator) (sym c.loop-document.invariant.len ∙ c.in-None.ensures.steps.0) in
+    let past = none_left docs c.loop-document.place (sym c.loop-document.invariant.left ∙ none) in
+    all_read (map parsed_of docs) c.args.closure.now.kinds c.args.closure.now.places.items c.requires.reached.ascending c.loop-document.place c.loop-document.said.items c.loop-document.invariant.read c.requires.reached c.requires.some (some_documents docs c.loop-document.place past)

@@ -1,10 +1,8 @@
-use Rattle.std.proofs.Common.{List, map, subst}
+use Rattle.std.proofs.Common.{map}
 use Rattle.std.proofs.lemmas.Result.{IfOk-weaker}
-use Rattle.owl_documents.specs.declared.document.Document.{Document}
 use Rattle.owl_command.specs.Commands.{request_of}
 use Rattle.owl_documents.specs.Documents.{parsed_of}
 use Rattle.owl_documents.specs.Shelves.{Shelves}
-use Rattle.owl_answer.specs.Answers.{IsConclusion}
 use Rattle.owl_messages.specs.declared.answer.Answer.{Answer}
 use Rattle.owl_answer.proofs.Answering.{answered_read, answered_stop}
 use Rattle.owl_answer.proofs.Wanting.{from_both}
@@ -14,7 +12,7 @@ use Rattle.owl_messages.specs.Answers.{outcome_of}
 pub returns-in-Ok-clause-answered : goal.returns-in-Ok-clause-answered
 returns-in-Ok-clause-answered g c =
     let s : Shelves = record { tells = g.S.Shelf.tells c.args.shelf.now; old = g.S.Shelf.left c.args.shelf.now; new = g.S.Shelf.left c.read_documents.new.shelf; faults = g.S.Shelf.faults c.args.shelf.now; later = g.S.Shelf.faults c.read_documents.new.shelf } in
-    IfOk-weaker c.conclude.result _ _ (λ (a : Answer) k. answered_read c.documents_are_read_one_way.ensures.read c.documents_are_read_one_way.ensures.refused c.documents_are_read_one_way.ensures.apart (request_of c.args.command.now) s (map parsed_of c.in-Ok.docs.items) (outcome_of a) c.in-Ok.ensures.read c.in-Ok.ensures.ended (subst (λ (docs : List Document). IsConclusion (request_of c.args.command.now) (map parsed_of docs) (outcome_of a)) c.deref.ensures.value k)) c.conclude.ensures
+    IfOk-weaker c.conclude.result _ _ (λ (a : Answer) k. answered_read c.documents_are_read_one_way.ensures.read c.documents_are_read_one_way.ensures.refused c.documents_are_read_one_way.ensures.apart (request_of c.args.command.now) s (map parsed_of c.in-Ok.docs.items) (outcome_of a) c.in-Ok.ensures.read c.in-Ok.ensures.ended k) c.conclude.ensures
 
 pub returns-in-Err-clause-answered : goal.returns-in-Err-clause-answered
 returns-in-Err-clause-answered g c =

@@ -1,0 +1,72 @@
+-- What an action tells is what becomes of documents.
+use Rattle.std.proofs.Common.{◌≡◌, Bool, true, false, ℕ, List, map, sym, ap, ◌∙◌, subst}
+use Rattle.std.proofs.lemmas.Option.{same_Some}
+use Rattle.std.specs.List.{AllZip}
+use Rattle.owl_command.specs.declared.command.Action.{Action}
+use Rattle.owl_command.specs.declared.command.Action.TheVariants.{Translate}
+use Rattle.owl_command.specs.declared.command.Profile.{Profile}
+use Rattle.owl_command.specs.declared.command.Target.TheVariants.{Fss}
+use Rattle.dl_rules.specs.declared.rule.DlRule.{DlRule}
+use Rattle.owl_breaches.specs.Sites.{Site}
+use Rattle.owl_dl.specs.Listing.{ontologies_of}
+use Rattle.owl_doc.specs.Closures.{ImportClosure}
+use Rattle.owl_doc.specs.declared.item.Breach.{Breach}
+use Rattle.owl_doc.specs.Documents as doc
+use Rattle.owl_doc.specs.Documents.{ontology_of}
+use Rattle.owl_documents.specs.Documents.{Parsed, Said, a_graph, an_ontology, said_of}
+use Rattle.owl_kind.specs.Kinds.{Entity}
+use Rattle.owl_messages.specs.Outcome.{IsLimited, Outcome, translation}
+use Rattle.owl_messages.specs.Verdicts.{verdict}
+use Rattle.owl_answer.specs.Answers.{IsToldOf, IsToldOfMain}
+use Rattle.owl_answer.specs.Checking.{TellBreaches}
+use Rattle.owl_answer.specs.Checks.{HasFormAt, IsChecked}
+use Rattle.owl_answer.specs.KindsAt.{AreClosureKinds, IsClosure}
+use Rattle.owl_answer.specs.Outcome.{IsSuccess}
+use Rattle.owl_answer.specs.Reading.{AllSayAt, IsReadAs, IsSaidAt, is_graph}
+use Rattle.owl_answer.specs.Runs.{IsActionText}
+use Rattle.owl_answer.specs.TurtleOutcome.{IsFunctionalTranslation}
+use Rattle.owl_answer.specs.declared.closure.Closure.{Closure}
+use Rattle.owl_answer.proofs.Readings.{all_forms}
+
+-- a translation to Functional-Style Syntax, of a graph and of what is written in it
+pub functional_told : (documents : List Parsed) (parsed : Parsed) (kinds : List Entity) (main : Said) (outcome : Outcome) → is_graph parsed ≡ true → IsFunctionalTranslation kinds main outcome → (IsSuccess outcome.status → IsActionText (Translate Fss) kinds main outcome.text) → IsToldOfMain (Translate Fss) documents parsed kinds main outcome
+functional_told documents (an_ontology said) kinds main outcome e h back = absurd (cc)
+functional_told documents (a_graph read) kinds main outcome e h back = record { is = h; back = back }
+
+pub written_told : (documents : List Parsed) (parsed : Parsed) (kinds : List Entity) (main : Said) (outcome : Outcome) → is_graph parsed ≡ false → IsLimited (λ wanted. wanted ≡ translation main) outcome → (IsSuccess outcome.status → IsActionText (Translate Fss) kinds main outcome.text) → IsToldOfMain (Translate Fss) documents parsed kinds main outcome
+written_told documents (an_ontology said) kinds main outcome e h back = record { is = h; back = back }
+written_told documents (a_graph read) kinds main outcome e h back = absurd (cc)
+
+-- what is told of the main document, which says what is read first
+module _ (action : Action) (documents : List Parsed) (closure : Closure) (ds : List doc.Document) (from_graph : Bool) (read : IsReadAs documents closure ds from_graph) (d : doc.Document) (first : IsSaidAt documents closure.kinds 0 d) (outcome : Outcome) where
+  pub told_of_main : ((parsed : Parsed) → is_graph parsed ≡ from_graph → IsToldOfMain action documents parsed closure.kinds (said_of d) outcome) → IsToldOf action documents outcome
+  told_of_main told =
+      let same : first.parsed ≡ read.main = same_Some first.parsed read.main (sym first.there ∙ read.there) in
+      record {
+        parsed = first.parsed;
+        there = first.there;
+        kinds = closure.kinds;
+        declared = read.closed.declared;
+        main = said_of d;
+        says = first.said.says;
+        told = told first.parsed (ap is_graph same ∙ read.graph);
+      }
+
+-- the same places are told alike
+pub limited_by : (profile : Profile) (places others : List ℕ) (breaches : List (Site DlRule)) → others ≡ places → (outcome : Outcome) → IsLimited (λ wanted. wanted ≡ verdict profile others breaches) outcome → IsLimited (λ wanted. wanted ≡ verdict profile places breaches) outcome
+limited_by profile places others breaches same outcome h = subst (λ (ps : List ℕ). IsLimited (λ wanted. wanted ≡ verdict profile ps breaches) outcome) same h
+
+-- what a check tells of what was read
+pub checked : (profile : Profile) (documents : List Parsed) (closure : Closure) (ds : List doc.Document) → IsClosure documents closure → AllSayAt documents closure.kinds closure.places.items ds → (c : ImportClosure) → c.documents ≡ ds → c.kinds ≡ closure.kinds → (found : List Breach) (t : TellBreaches profile c found) (outcome : Outcome) → IsLimited (λ wanted. wanted ≡ verdict profile closure.places.items t.breaches) outcome → IsChecked profile documents outcome
+checked profile documents closure ds closed all c same kinds found t outcome limited =
+    let say : AllZip (HasFormAt documents c.kinds) closure.places.items (map ontology_of c.documents) =
+    subst (λ (ks : List Entity). AllZip (HasFormAt documents ks) closure.places.items (map ontology_of c.documents)) (sym kinds)
+    (subst (λ (xs : List doc.Document). AllZip (HasFormAt documents closure.kinds) closure.places.items (map ontology_of xs)) (sym same) (all_forms documents closure.kinds closure.places.items ds all)) in
+    record {
+      places = closure.places.items;
+      closure = ontologies_of c;
+      is = record { reached = closed.reached; declared = subst (AreClosureKinds documents) (sym kinds) closed.declared; say = say };
+      breaches = t.breaches;
+      are = t.are;
+      told = limited;
+    }
