@@ -4,7 +4,7 @@ use Rattle.owl_reader.specs.declared.fault.ReadFault.TheVariants as read
 use Rattle.owl_documents.specs.declared.trouble.Refusal.{Refusal}
 use Rattle.owl_documents.specs.declared.trouble.Refusal.TheVariants.{DocumentBytes, AllBytes, Unreadable, Headless}
 use Rattle.owl_command.specs.Commands.{Request, compares, of_main}
-use Rattle.owl_command.specs.declared.command.Action.TheVariants.{Translate, Show}
+use Rattle.owl_command.specs.declared.command.Action.TheVariants.{Translate, Check, Show}
 use Rattle.owl_documents.specs.Documents.{IsProperRefusal}
 use Rattle.rdf_reverse.specs.declared.fault.ReverseFault.{ReverseFault}
 use Rattle.rdf_reverse.specs.declared.fault.ReverseFault.TheVariants as reverse
@@ -16,6 +16,7 @@ use Rattle.owl_messages.specs.Outcome.{Outcome, refusal_outcome, unsaid_outcome}
 -- the line of a read fault names a document with its cause
 no_success : (request : Request) (line : List ℕ) → SuccessLine request ReadFailed line → ⊥
 no_success (of_main (Translate target) partial names) line s = s
+no_success (of_main (Check profile) partial names) line s = s
 no_success (of_main Show partial names) line s = s
 no_success (compares first second) line s = s
 

@@ -3,5 +3,5 @@
 
 mod program;
 
-pub use owl_command::{Action, Command, Status, Target, WordsFault, words};
+pub use owl_command::{Action, Command, Profile, Status, Target, WordsFault, words};
 pub use program::run;

@@ -1,10 +1,13 @@
 //! All that the program does.
 
-ghost use Rattle.std.specs.Prelude.{◌≡◌, ◌≢◌, ◌++◌, ◌↔◌, ◌⊎◌, ℕ, List, Some, [], map, take, string_bytes, IsTrue, IfOk};
+ghost use Rattle.std.specs.Prelude.{◌≡◌, ◌≢◌, ◌++◌, ◌↔◌, ◌⊎◌, ℕ, Bool, List, Some, [], map, take, string_bytes, IsTrue, IfOk};
 ghost use Rattle.std.specs.List.{AllByRecursion};
 ghost use Rattle.owl_port.specs.Outside.{Rose};
-ghost use Rattle.owl_command.specs.Commands.{AreNames, Asks, HasNoCommand, Name, Request, names_of, request_of};
+ghost use Rattle.owl_command.specs.Commands.{AreNames, Asks, HasNoCommand, Name, Request, names_of, of_main, request_of};
+ghost use Rattle.owl_command.specs.declared.command.Action.TheVariants as Action;
+ghost use Rattle.owl_command.specs.declared.command.Profile.{Profile};
 ghost use Rattle.owl_documents.specs.Shelves.{IsFaulty, IsFirstFaulty, IsFrontTaken, IsTaken};
+ghost use Rattle.owl_answer.specs.InProfile.{IsInProfile};
 ghost use Rattle.owl_answer.specs.Outcome.{IsQuiet, IsSettled, IsSuccess, IsTheOutcome};
 ghost use Rattle.owl_answer.specs.Runs.{Becomes, IsFrontNoted, IsFrontOfNote, IsFrontWritten, IsLine, IsNoted, IsNotedAlone, IsOutcome, IsReadBack, IsWritten, LineFor};
 ghost use Rattle.owl_answer.specs.Answers.{IsProper, IsWrittenFor, delivered_line};
@@ -107,8 +110,8 @@ fn obey<S: Shelf, O: Sink, N: Sink>(
 ///
 /// A name that ends in `.ttl` is of a document in Turtle, and each other one of a document in Functional-Style Syntax.
 ///
-/// The line of a status is `translated; axioms A; absorbed K`, `shown` or `same` for `Done`, `different` for `No`, `words`
-/// for `Words`; for `Document` `NAME: item at ITEM: REASON at AT`, `NAME: MissingImport <IRI>`, or the fault of a graph:
+/// The line of a status is `translated; axioms A; absorbed K`, `profile P: yes`, `shown` or `same` for `Done`,
+/// `profile P: no; breaches B` or `different` for `No`, `words` for `Words`; for `Document` `NAME: item at ITEM: REASON at AT`, `NAME: MissingImport <IRI>`, or the fault of a graph:
 /// `NAME: NoHeader`, `NAME: TwoHeaders`, `NAME: BadHeader NODE`, `NAME: TwoKinds <IRI>`, `NAME: Mixed _:LABEL`, and so with
 /// `BadList`, `Cycle`, `BadNode`, `MainMissing` and `Orphan`, `NAME: Reserved S P O` or `NAME: Untyped S P O`;
 /// `typing: TwoKinds <IRI>`, `typing: Undeclared KIND <IRI>: ITEM` or `target: WHY: ITEM` for `Target`,
@@ -119,7 +122,8 @@ fn obey<S: Shelf, O: Sink, N: Sink>(
 /// then imports are looked at, of the main document and of those that it reaches; then each of these is read under the kinds
 /// that they declare together (each of two that are compared under its own), and the first graph that says no ontology is
 /// refused; then, unless a document in Functional-Style Syntax is translated to it, whether what the main one says is well
-/// typed; then, for Turtle, whether it can be said. A fault of `note` changes no status.
+/// typed; then, for Turtle, whether it can be said. A check looks at all documents of the import closure, and tells each rule
+/// with each part that breaks it. A fault of `note` changes no status.
 pub fn run<S: Shelf, O: Sink, N: Sink>(
     alloc: Global,
     words: &[String],
@@ -131,6 +135,13 @@ pub fn run<S: Shelf, O: Sink, N: Sink>(
     ensures words { (result ≡ Status.Words) ↔ HasNoCommand (map string_bytes words.now) }
     ensures outcome { IsTrue (S.tells shelf.old) → IsSettled result →
         (outcome : Outcome) × IsTheOutcome (IsOutcome (map string_bytes words.now) (S.left shelf.old)) outcome × (result ≡ outcome.status) }
+
+    // A check answers yes exactly where the import closure is in the profile.
+    ensures verdict { IsTrue (S.tells shelf.old) → IsSettled result →
+        (profile : Profile) (partial : Bool) (names : List (List ℕ)) →
+        Asks (map string_bytes words.now) (of_main (Action.Check profile) partial names) →
+        (result ≡ Status.Done)
+        ↔ IsInProfile (S.left shelf.old) (of_main (Action.Check profile) partial names) profile }
 
     // Success writes the text, and reads the documents to their ends.
     ensures written { IsTrue (S.tells shelf.old) → IsTrue (O.tells out.old) → IsSuccess result →

@@ -4,13 +4,17 @@ use Rattle.owl_command.specs.Commands.{HasNoCommand, request_of}
 use Rattle.owl_documents.specs.Shelves.{IsFaulty, IsFirstFaulty}
 use Rattle.owl_command.specs.declared.status.Status.TheVariants.{Words}
 use Rattle.owl_top.proofs.Delivering.{asked_ended, asked_fault, asked_front, asked_note, asked_note_alone, asked_note_front, asked_note_front_alone, asked_outcome, asked_written, completes_by, no_command_front, no_command_note}
-use Rattle.owl_top.proofs.Requests.{no_command_the}
+use Rattle.owl_top.proofs.Requests.{check_done, no_command_the}
 use Rattle.owl_top.proofs.program.run.Goals as goal
 use Rattle.owl_messages.specs.Outcome.{refused}
 
 pub returns-in-Ok-clause-outcome : goal.returns-in-Ok-clause-outcome
 returns-in-Ok-clause-outcome g c = λ shelf settled.
     asked_outcome (map string_bytes c.args.words.now) (request_of c.in-Ok.command) c.in-Ok.ensures.command (g.S.Shelf.left c.args.shelf.now) c.obey.result (c.obey.ensures.outcome shelf settled)
+
+pub returns-in-Ok-clause-verdict : goal.returns-in-Ok-clause-verdict
+returns-in-Ok-clause-verdict g c = λ shelf settled.
+    check_done (map string_bytes c.args.words.now) (g.S.Shelf.left c.args.shelf.now) (request_of c.in-Ok.command) c.in-Ok.ensures.command c.obey.result (c.obey.ensures.outcome shelf settled)
 
 pub returns-in-Ok-clause-written : goal.returns-in-Ok-clause-written
 returns-in-Ok-clause-written g c = λ shelf out success.
@@ -51,6 +55,11 @@ returns-in-Err-Words-clause-outcome g c = λ _ _.
     let ws = map string_bytes c.args.words.now in
     let none : HasNoCommand ws = c.in-Err-Words.ensures.none (ap Err c.in-Err-Words.field-0-is) in
     (refused Words (codes "words\n"), no_command_the ws (g.S.Shelf.left c.args.shelf.now) none, refl)
+
+pub returns-in-Err-Words-clause-verdict : goal.returns-in-Err-Words-clause-verdict
+returns-in-Err-Words-clause-verdict g c = λ _ _ profile partial names asks.
+    let none : HasNoCommand (map string_bytes c.args.words.now) = c.in-Err-Words.ensures.none (ap Err c.in-Err-Words.field-0-is) in
+    absurd (none _ asks)
 
 pub returns-in-Err-Words-clause-note : goal.returns-in-Err-Words-clause-note
 returns-in-Err-Words-clause-note g c = λ _ note quiet.
