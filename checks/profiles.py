@@ -1,16 +1,19 @@
 #!/usr/bin/env python3
 """Compares owl with a second reading of the rules of OWL 2 DL, on random closures.
 
-profiles.py [COUNT [SEED [PROGRAM]]]: so many closures, 500 if left out, each of one to
-three documents, made for what the rules look at, and behind a few that have each literal,
-facet and built-in name. The program, bin/owl if left out, has to end with the status, the
-output and the line of the second reading.
+profiles.py [COUNT [SEED [PROGRAM]]]: so many calls, 500 if left out, each of one to three
+documents, made for what the rules look at, and behind a few that have each literal, facet
+and built-in name. Some name a document that is not reached, or miss an import, with
+--partial or without, and some documents are in Turtle, as the second mapping draws them.
+The program, bin/owl if left out, has to end with the status, the output and the line of
+the second reading.
 
 profiles.py --cases FOLDER COUNT SEED writes single documents into FOLDER, and into
 FOLDER.expected what has to be told of each: a line for each breach, and their number.
 profiles.py --compare FOLDER OUTPUT compares what was told, each behind a line `== NAME`.
 """
 
+import copy
 import itertools
 import os
 import random
@@ -22,7 +25,7 @@ import tempfile
 
 import second_rules
 from mapping import AXIOMS, CLASSES, KINDS, RANGES, RESERVED, Maker
-from second_mapping import NAMES_BUILT_IN, Document
+from second_mapping import NAMES_BUILT_IN, Document, Kinds, normal_form, reached, translation, undeclared, unsayable
 
 TOP = os.path.dirname(os.path.dirname(os.path.abspath(__file__)))
 
@@ -257,8 +260,8 @@ def spread(items, count):
     return [[it for it, at in zip(items, places) if at == place] for place in range(count)]
 
 
-def closure(most=3):
-    """Names and texts of documents, the main one first, whose imports are all there."""
+def closure(most=3, lost=0):
+    """Names and texts of documents, the main one first. Their imports are all there, but for some by this rate."""
     count = random.randint(1, most)
     makers = [RulesMaker()] + [RulesMaker("xyz") for _ in range(count - 1)]
     for maker in makers[1:]:
@@ -269,6 +272,7 @@ def closure(most=3):
     for place, maker in enumerate(makers):
         header = maker.header() if place == 0 else f":m{place}{random.choice(['', '', ' :v', ' rdf:v'])}"
         imports = [f"Import(:m{other})" for other in range(1, count) if random.random() < 0.8]
+        imports += ["Import(:lost)"] * (lost > 0 and random.random() < lost)
         items = common[place] + axioms[place]
         random.shuffle(items)
         items = [header, *imports, *maker.rare_annotations(), *items]
@@ -307,10 +311,10 @@ def table_documents(size=40):
 
 
 class Tally:
-    """How many closures broke each rule, and how many lines told so."""
+    """How many closures broke each rule, how many lines told so, and how many closures were of other sorts."""
 
     def __init__(self):
-        self.closures, self.broken, self.lines = 0, dict.fromkeys(second_rules.RULES, 0), 0
+        self.closures, self.broken, self.lines, self.sorts = 0, dict.fromkeys(second_rules.RULES, 0), 0, {}
 
     def add(self, found):
         self.closures += 1
@@ -318,9 +322,14 @@ class Tally:
         for number in {number for number, *_ in found}:
             self.broken[number] += 1
 
+    def count(self, *sorts):
+        for it in sorts:
+            self.sorts[it] = self.sorts.get(it, 0) + 1
+
     def text(self):
         rules = [f"  DL-{number}: broken by {count}, kept by {self.closures - count}" for number, count in self.broken.items()]
-        return "\n".join([f"{self.closures} closures, {self.lines} breaches", *rules])
+        sorts = [f"  {name}: {self.sorts[name]}" for name in sorted(self.sorts)]
+        return "\n".join([f"{self.closures} closures, {self.lines} breaches", *rules, *sorts])
 
 
 def write(folder, name, text):
@@ -333,20 +342,76 @@ def contents(folder, name):
         return file.read()
 
 
-def wanted(given):
-    """The breaches, and the status, output and line that the program has to give."""
-    found = second_rules.breaches([Document(*it) for it in given])
-    verdict, line = ("no\n", f"no; breaches {len(found)}") if found else ("yes\n", "yes")
-    return found, (int(bool(found)), verdict + second_rules.lines_of(found), f"profile dl: {line}\n")
+def stranger():
+    """The name and the text of a document that no other one imports, unless its name is that of one which is imported."""
+    maker = RulesMaker()
+    axioms = maker.of_themes()
+    items = [random.choice([":u", ":u :v", "", "owl:u", ":m1", ":o"]), f"Import({random.choice([':o', ':lost'])})"]
+    items += [*maker.rare_annotations(), *maker.declarations(str(axioms)), *axioms]
+    return "u.ofn", f"{PREFIXES} Ontology({' '.join(items)})"
 
 
-def agrees(program, given, tally):
-    found, expected = wanted(given)
+class Call:
+    """Documents in the order of the words, and whether imports may be missing."""
+
+    def __init__(self, given, partial=False):
+        self.texts = [text for _, text in given]
+        self.documents = [Document(*it) for it in given]
+        self.partial = partial
+
+    def draw(self, rate):
+        """Puts documents into Turtle, by this rate, where a graph says them under the kinds of the closure."""
+        found = reached(self.documents)[0]
+        kinds = Kinds(found)
+        for place, it in enumerate(self.documents):
+            if random.random() < rate and not unsayable(it) and not (it in found and undeclared(it, kinds)):
+                self.texts[place] = translation(it)[0]
+                graph = self.documents[place] = copy.copy(it)
+                graph.name = it.name.replace(".ofn", ".ttl")
+                graph.annotations, graph.axioms, _ = normal_form(it)
+
+    def outcome(self):
+        """The breaches, and the status, the output and the line that the program has to give."""
+        found, missing = reached(self.documents)
+        if missing and not self.partial:
+            return [], (3, "", f"{missing[0]}: MissingImport <{missing[1]}>\n")
+        clash, graphs = Kinds(found).clash(), [it.name for it in found if it.name.endswith(".ttl")]
+        if clash and graphs:
+            return [], (3, "", f"{graphs[0]}: TwoKinds <{clash}>\n")
+        breaches = second_rules.breaches(self.documents)
+        verdict, line = ("no\n", f"no; breaches {len(breaches)}") if breaches else ("yes\n", "yes")
+        return breaches, (int(bool(breaches)), verdict + second_rules.lines_of(breaches), f"profile dl: {line}\n")
+
+    def words(self):
+        return ["check", "--profile", "dl", *["--partial"] * self.partial, *(it.name for it in self.documents)]
+
+    def sorts(self):
+        """What of this call is counted beside its status."""
+        found = reached(self.documents)[0]
+        yield from ["a document that is not reached"] * (len(found) < len(self.documents))
+        yield from ["a graph that is reached"] * any(it.name.endswith(".ttl") for it in found)
+        yield from ["imports over two documents or more"] * (len(found) > 1)
+        yield from ["imports that may be missing"] * self.partial
+
+
+def random_call():
+    lost = random.choice([0, 0, 0, 0.3])
+    main, *others = closure(lost=lost)
+    others += [stranger()] * (random.random() < 0.3)
+    random.shuffle(others)
+    call = Call([main, *others], random.random() < (0.7 if lost else 0.1))
+    call.draw(random.choice([0, 0, 0.4, 1]))
+    return call
+
+
+def agrees(program, call, tally):
+    found, expected = call.outcome()
     tally.add(found)
+    tally.count(f"status {expected[0]}", *call.sorts())
     folder = tempfile.mkdtemp(prefix="profiles.")
-    for name, text in given:
-        write(folder, name, text)
-    words = [program, "check", "--profile", "dl", *(name for name, _ in given)]
+    for it, text in zip(call.documents, call.texts):
+        write(folder, it.name, text)
+    words = [program, *call.words()]
     done = subprocess.run(words, capture_output=True, cwd=folder)
     told = done.returncode, done.stdout.decode(), done.stderr.decode()
     if told == expected:
@@ -359,8 +424,8 @@ def agrees(program, given, tally):
 def compare_program(count=500, seed=1, program=os.path.join(TOP, "bin", "owl")):
     random.seed(int(seed))
     tally = Tally()
-    closures = itertools.chain(table_documents(), (list(closure()) for _ in range(int(count))))
-    right = all(agrees(os.path.abspath(program), it, tally) for it in closures)
+    calls = itertools.chain(map(Call, table_documents()), (random_call() for _ in range(int(count))))
+    right = all(agrees(os.path.abspath(program), it, tally) for it in calls)
     print(tally.text())
     print("all answered in one way" if right else "the last was answered in two ways")
     return not right

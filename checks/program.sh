@@ -112,6 +112,8 @@ printf 'Ontology(Import(<http://e/i>))' >import.ofn
 printf 'Ontology(<http://e/i>)' >imported.ofn
 printf 'Ontology(<http://e/f> Import(<http://e/j>) Import(<http://e/i>))' >far.ofn
 printf 'Ontology(<http://e/j> Import(<http://e/k>))' >importing.ofn
+printf 'Prefix(:=<http://e/>) Ontology(<http://e/t> Declaration(ObjectProperty(:p)) TransitiveObjectProperty(:p) AsymmetricObjectProperty(:p))' >breach.ofn
+printf 'Ontology(<http://e/c> Import(<http://e/t>) Import(<http://e/i>) SubClassOf(<http://e/A> <http://e/A>))' >checked.ofn
 printf 'Ontology(SubClassOf(%s<http://e/A>%s <http://e/B>))' "$(times 127 'ObjectComplementOf(')" "$(times 127 ')')" >deep.ofn
 printf 'Ontology(SubClassOf(<http://e/A> ObjectMinCardinality(18446744073709551616 <http://e/p>)))' >large.ofn
 string=$(head -c 3000000 /dev/zero | tr '\0' s)
@@ -129,6 +131,12 @@ chain $((2 ** 24 - 4)) >heavy.ofn
 chain $((2 ** 24 - 3)) >heavier.ofn
 size=$(stat -c %s heavier.ofn)
 { head -c $((size - 2)) heavier.ofn && printf ' :p))'; } >crooked.ofn
+# A chain of 1,400 times a property with a name of 100,000 bytes.
+{
+    printf 'Prefix(l:=<http://e/%s>) Ontology(SubObjectPropertyOf(ObjectPropertyChain(' "$(times 100000 l)"
+    yes 'l:' | head -n 1400
+    printf ') l:))'
+} >lengthy.ofn
 # 4,200 axioms over one list of as many classes, half a megabyte.
 "$top/tools/make_hostile.py" disjoint_unions 4200 >shared.ttl
 mkdir folder.ofn
@@ -172,8 +180,34 @@ call 'two documents differ' 1 'different
 call 'imports are compared' 1 'different
 ' 'different
 ' same import.ofn m.ofn
+call 'a check finds nothing' 0 'yes
+' 'profile dl: yes
+' check --profile dl m.ofn
+call 'a check of a graph' 0 'yes
+' 'profile dl: yes
+' check --profile dl graph.ttl
+call 'a check finds a breach' 1 'no
+DL-9 1 AsymmetricObjectProperty(<http://e/p>)
+' 'profile dl: no; breaches 1
+' check --profile dl breach.ofn
+python3 "$top/checks/second_rules.py" instruments.ofn >"$room/verdict" 2>"$room/line"
+call 'a check of the example' 1 "$room/verdict" "$(<"$room/line")
+" check --profile dl instruments.ofn
+call 'a check of imports, and not of what is named beside them' 1 'no
+DL-1 1 SubClassOf(<http://e/A> <http://e/A>)
+DL-9 4 AsymmetricObjectProperty(<http://e/p>)
+' 'profile dl: no; breaches 2
+' check --profile dl checked.ofn reserved.ofn imported.ofn breach.ofn
+call 'a check of imports that may be missing' 1 'no
+DL-1 1 SubClassOf(<http://e/A> <http://e/A>)
+' 'profile dl: no; breaches 1
+' check --profile dl --partial checked.ofn
 call 'no words' 2 '' 'words
 '
+call 'no profile' 2 '' 'words
+' check m.ofn
+call 'a profile that there is not' 2 '' 'words
+' check --profile el m.ofn
 call 'one word too many' 2 '' 'words
 ' same m.ofn a.ofn b.ofn
 call 'a flag in another place' 2 '' 'words
@@ -194,6 +228,8 @@ call 'a byte that is no UTF-8' 3 '' 'bytes.ofn: item at 9: BadUtf8 at 9
 ' show bytes.ofn
 call 'an import is missing' 3 '' 'import.ofn: MissingImport <http://e/i>
 ' translate --to fss import.ofn
+call 'an import of a check is missing' 3 '' 'checked.ofn: MissingImport <http://e/i>
+' check --profile dl checked.ofn breach.ofn
 call 'an import may be missing' 0 "${four}Ontology(
 Import(<http://e/i>)
 )
@@ -250,6 +286,8 @@ call 'axioms over one list, with more than 2^24 kids together' 5 '' 'limit: Weig
 ' show shared.ttl
 call 'a weight of 2^24 + 1, and a name too many behind it' 3 '' "crooked.ofn: item at $(head -c 200 heavier.ofn | grep -b -o SubObjectPropertyOf | cut -d: -f1): NotHere at $((size - 1))
 " show crooked.ofn
+call 'breaches of more than 2^27 bytes' 5 '' 'limit: OutputBytes: output
+' check --profile dl lengthy.ofn
 call '2^27 + 1 bytes' 5 '' 'limit: DocumentBytes: big.ofn
 ' translate --to fss big.ofn
 call '2^27 bytes' 0 "$nothing" "$done_line" translate --to fss full.ofn
@@ -263,6 +301,8 @@ call 'an unreadable file' 6 '' 'read: secret.ofn
 ' same m.ofn secret.ofn
 shell 'a full device' 7 '' 'write
 ' '"$owl" translate --to fss m.ofn >/dev/full'
+shell 'a full device for breaches' 7 '' 'write
+' '"$owl" check --profile dl breach.ofn >/dev/full'
 shell 'a full device for a refusal' 3 '' 'bytes.ofn: item at 9: BadUtf8 at 9
 ' '"$owl" show bytes.ofn >/dev/full'
 shell 'a closed output' 7 '' 'write
@@ -280,6 +320,9 @@ shell 'a document from a pipe' 0 "$nothing" "$done_line" \
 shell 'a full note' 0 "$nothing" '' '"$owl" translate --to fss m.ofn 2>/dev/full'
 shell 'a closed note' 1 'different
 ' '' '"$owl" same a.ofn c.ofn 2>&-'
+shell 'a closed note of a check' 1 'no
+DL-9 1 AsymmetricObjectProperty(<http://e/p>)
+' '' '"$owl" check --profile dl breach.ofn 2>&-'
 shell 'an output that nobody reads' 7 '' 'write
 ' '{ sleep 0.2; "$owl" translate --to fss m.ofn; } | true; exit ${PIPESTATUS[0]}'
 
