@@ -1,5 +1,5 @@
 #!/usr/bin/env python3
-"""Counts what has to be believed: the definitions that the clauses of owl_top::run rest on, in eight steps.
+"""Counts what has to be believed: the definitions that the clauses of owl_top::run rest on, in nine steps.
 
 definitions.py                   prints the steps, as docs/PROOFS.md has them
 definitions.py --write FILE..    writes anew what stands between the two marks of each file
@@ -76,6 +76,12 @@ STEPS = [
             "rdf_reverse.specs.Reverse.IsUnsaid",
         ],
     ),
+    (
+        "OWL 2 DL",
+        "Which parts of the ontologies of an import closure break which of the thirteen rules of OWL 2 DL, and when the"
+        " closure is in OWL 2 DL.",
+        ["dl_rules.specs.Rules.AreDlBreaches", "dl_rules.specs.Rules.IsInDL"],
+    ),
 ]
 # The last step begins with what the clauses of these name: a file, and how the line begins from which they stand.
 LAST_STEP = (
@@ -92,7 +98,7 @@ CLAUSES = [
 SUMS = [
     (1, "say what a document in Functional-Style Syntax says, and which ontologies are the same;"),
     (3, "say this, what a document of Turtle says as a graph, and what a graph says as an ontology;"),
-    (8, "say all of it, down to every byte that is written and every refusal;"),
+    (9, "say all of it, down to every byte that is written and every refusal;"),
 ]
 
 WORDS_IN_FRONT = r"(?:(?:pub|abbrev|unfoldable|opaque)\s+)*"
