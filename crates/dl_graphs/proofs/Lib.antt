@@ -6,4 +6,5 @@ pub mod LinkLaws
 pub mod ListLaws
 pub mod RangeLaws
 pub mod RingAssertionLaws
+pub mod UnmarkedLaws
 pub mod UseLaws

@@ -9,6 +9,7 @@ mod leaves;
 mod links;
 mod misuse;
 mod orders;
+mod pairs;
 mod ranges;
 mod rings;
 mod uses;

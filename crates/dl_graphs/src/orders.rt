@@ -7,8 +7,8 @@ ghost use Rattle.owl_arena.specs.Held.{AreHeld, trees_at};
 ghost use Rattle.owl_breaches.specs.Those.{HoldsOfSome};
 
 use crate::groups::group_marks;
+use crate::pairs::cycle_marks;
 use crate::uses::uses_by;
-use graph_walks::cycle_pairs;
 use owl_arena::{Arena, ExprId};
 use owl_characters::NoMemory;
 use std::alloc::Global;
@@ -29,6 +29,6 @@ pub fn cyclic_definitions(
 {
     let nodes = arena.distinct();
     let uses = uses_by(alloc, arena, axioms)?;
-    let marks = cycle_pairs(alloc, nodes, &uses.pairs)?;
+    let marks = cycle_marks(alloc, nodes, &uses.pairs)?;
     Ok(group_marks(alloc, &uses.counts, &marks)?)
 }

@@ -8,7 +8,8 @@ ghost use Rattle.owl_breaches.specs.Those.{HoldsOfSome};
 ghost use Rattle.dl_graphs.specs.Links.{mark_at};
 
 use crate::links::links_by;
-use graph_walks::{has_mark, ring_links};
+use crate::pairs::ring_marks;
+use graph_walks::has_mark;
 use owl_arena::{Arena, ExprId};
 use owl_characters::NoMemory;
 use std::alloc::{AllocError, Global};
@@ -29,7 +30,7 @@ pub fn ring_assertions(
 {
     let nodes = arena.distinct();
     let links = links_by(alloc, arena, axioms)?;
-    let marks = ring_links(alloc, nodes, &links.ends)?;
+    let marks = ring_marks(alloc, nodes, &links.ends)?;
     Ok(marks_at(alloc, &links.places, &marks)?)
 }
 

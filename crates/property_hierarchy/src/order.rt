@@ -136,6 +136,9 @@ fn fault_marks(
         (node_pairs (numbered_pairs arena.now.trees (leads (trees_at arena.now.trees axioms.now))))
         (node_pairs below.now) pair.0 pair.1) (node_pairs below.now) marks.items) }
 {
+    if below.is_empty() {
+        return Ok(Vec::new(alloc));
+    }
     let nodes = 2 * (arena.distinct() + 1);
     let steps = steps_by(alloc, arena, axioms)?;
     let leads = step_nodes(alloc, &steps)?;

@@ -10,8 +10,8 @@ use Rattle.dl_graphs.specs.Uses.{uses_at}
 use Rattle.dl_graphs.proofs.UseLaws.{marks_of_definitions, uses_within}
 use Rattle.dl_graphs.proofs.orders.cyclic_definitions.Goals as goal
 
-pub cycle_pairs-requires : goal.cycle_pairs-requires
-cycle_pairs-requires c =
+pub cycle_marks-requires : goal.cycle_marks-requires
+cycle_marks-requires c =
     let ts = c.args.arena.now.trees in
     let axioms = trees_at ts c.args.axioms.now in
     let within = uses_within ts axioms c.in_ok-uses.uses.pairs.items c.in_ok-uses.ensures.added in

@@ -10,8 +10,8 @@ use Rattle.dl_graphs.specs.Links.{mark_at}
 use Rattle.dl_graphs.proofs.RingAssertionLaws.{marks_of_placed, places, places_within, told_of_links}
 use Rattle.dl_graphs.proofs.rings.ring_assertions.Goals as goal
 
-pub ring_links-requires : goal.ring_links-requires
-ring_links-requires c =
+pub ring_marks-requires : goal.ring_marks-requires
+ring_marks-requires c =
     let ts = c.args.arena.now.trees in
     let found = c.in_ok-links.ensures in
     let within = subst (λ (pairs : List (ℕ × ℕ)). AreWithin (length ts) pairs) (sym (c.deref.ensures.value ∙ found.ends)) (places_within ts found.links found.held) in
