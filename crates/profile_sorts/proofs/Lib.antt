@@ -1,0 +1,4 @@
+pub mod FormLaws
+pub mod MemoLaws
+pub mod SetLaws
+pub mod WorkedCases

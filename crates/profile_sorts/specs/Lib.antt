@@ -1,0 +1,4 @@
+pub mod LeafTests
+pub mod Productions
+pub mod Sorts
+pub mod Sets
