@@ -2,10 +2,10 @@
 
 ghost use Rattle.std.specs.Prelude.{◌≡◌, ◌&&◌, ◌||◌};
 ghost use Rattle.std.specs.List.{list_any};
-ghost use Rattle.dl_rules.specs.Logical.{is_remark};
 ghost use Rattle.dl_local.specs.declared.faults.Local.{Local};
 ghost use Rattle.dl_local.specs.Faults.{counts, faults_of, has};
 
+use dl_rules::is_remark;
 use owl_arena::ExprId;
 use owl_tree::Tag;
 
@@ -106,13 +106,6 @@ impl LocalFaults {
             anonymous: false,
         }
     }
-}
-
-/// Whether a tree with this tag annotates, and nothing else.
-fn is_remark(tag: Tag) -> bool
-    ensures { result ≡ is_remark tag }
-{
-    tag == Tag::Notes || tag == Tag::AnnotationAssertion
 }
 
 /// The faults of the tree in this place: none, where there is no tree.

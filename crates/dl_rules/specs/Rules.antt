@@ -2,6 +2,8 @@
 use Rattle.std.specs.Prelude.{◌≡◌, ◌⊎◌, ℕ, Bool, true, false, List, [], ◌∷◌, Contains, IsTrue}
 use Rattle.owl_breaches.specs.Sites.{Ontologies, Site, axiom_closure, sites}
 use Rattle.owl_breaches.specs.Those.{AreThose, HoldsOfOne, HoldsOfSome}
+use Rattle.owl_doc.specs.declared.rule.Rule.{Rule}
+use Rattle.owl_doc.specs.declared.rule.Rule.TheVariants.{Dl}
 use Rattle.owl_doc.specs.Entities.{declaration}
 use Rattle.owl_doc.specs.Parts.{Part, of_axiom, of_header, parts_of}
 use Rattle.owl_kind.specs.Kinds.{Entity, SharesKinds}
@@ -37,6 +39,9 @@ number_of Hierarchy = 10
 number_of NamedIndividuals = 11
 number_of Forest = 12
 number_of OntologyIri = 13
+
+abbrev pub dl_name : DlRule → Rule
+dl_name rule = Dl (number_of rule)
 
 -- the part is an axiom of which it holds, or the header
 abbrev pub IsAxiomWith : (Tree → Type 0) → Part → Type 0

@@ -12,7 +12,8 @@ ghost use Rattle.property_hierarchy.specs.Listed.{HoldsKids};
 ghost use Rattle.property_hierarchy.specs.Numbers.{IsBelowBy, below_at, chain_seen, inverse_number, number_eq, number_of, numbered_pairs, numbered_chain};
 
 use crate::numbers::{PropertyNumber, properties_at, property_at};
-use crate::steps::{Step, operands};
+use crate::steps::Step;
+use dl_rules::operands;
 use owl_arena::{Arena, ExprId};
 use owl_tree::Tag;
 use std::alloc::{AllocError, Global};

@@ -10,7 +10,7 @@ ghost use Rattle.property_hierarchy.specs.Numbers.{both_of, inverse_number, numb
 
 use crate::chains::chain_at;
 use crate::numbers::{PropertyNumber, properties_at};
-use crate::steps::operands;
+use dl_rules::operands;
 use owl_arena::{Arena, ExprId};
 use owl_tree::Tag;
 use std::alloc::{AllocError, Global};

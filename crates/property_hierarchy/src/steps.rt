@@ -11,6 +11,7 @@ ghost use Rattle.property_hierarchy.specs.Numbers.{inverse_number, numbered_pair
 ghost use Rattle.property_hierarchy.specs.declared.numbers.PropertyNumber.{PropertyNumber};
 
 use crate::numbers::{PropertyNumber, properties_at};
+use dl_rules::operands;
 use owl_arena::{Arena, ExprId};
 use owl_tree::Tag;
 use std::alloc::{AllocError, Global};
@@ -171,16 +172,4 @@ fn states_steps(tag: Tag) -> bool
             | Tag::InverseObjectProperties
             | Tag::SymmetricObjectProperty
     )
-}
-
-/// The kids of an axiom behind its annotations.
-pub fn operands(arena: &Arena, id: ExprId) -> &[ExprId]
-    requires { id < length arena.now.trees }
-    ensures held { AreHeld arena.now.trees result.now }
-    ensures operands { trees_at arena.now.trees result.now ≡ operands (tree_at arena.now.trees id) }
-{
-    match arena.kids(id) {
-        [_, operands @ ..] => operands,
-        [] => &[],
-    }
 }
