@@ -1,4 +1,4 @@
 pub mod FormLaws
 pub mod MemoLaws
+pub mod RowLaws
 pub mod SetLaws
-pub mod WorkedCases

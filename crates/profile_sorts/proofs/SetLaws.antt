@@ -18,7 +18,7 @@ unfolding number_of all_sorts
 stands Anything = refl
 stands _ = refl
 
-one_sort : (s u : Sort) → number_of s ≡ number_of u → s ≡ u
+pub one_sort : (s u : Sort) → number_of s ≡ number_of u → s ≡ u
 one_sort s u e = sym (stands s) ∙ ap (λ (n : ℕ). get_or all_sorts n Anything) e ∙ stands u
 
 pub few_sorts : (s : Sort) → number_of s < 24

@@ -1,20 +1,15 @@
--- Which trees are of a sort, and the sorts that the profiles ask of axioms.
-use Rattle.std.specs.Prelude.{ℕ, Bool, true, false, ◌&&◌, ◌||◌, nat_eq, if◌then◌else◌, List, [], ◌∷◌, length, Option, None, Some, unwrap_or}
+-- Which trees are of a sort.
+use Rattle.std.specs.Prelude.{Bool, true, false, ◌&&◌, nat_eq, if◌then◌else◌, List, [], ◌∷◌, length, Option, None, Some, unwrap_or}
+use Rattle.dl_rules.specs.Logical.{is_remark}
 use Rattle.owl_tree.specs.declared.atom.Atom.{Atom}
 use Rattle.owl_tree.specs.declared.tag.Tag.{Tag}
-use Rattle.owl_tree.specs.declared.tag.Tag.TheVariants as tag
 use Rattle.owl_tree.specs.Rows.{admits, is_tag}
 use Rattle.owl_tree.specs.Trees.{Tree, Kids as Below, leaf, node, no_kids, kid}
 use Rattle.profile_sorts.specs.declared.production.Others.{Others}
 use Rattle.profile_sorts.specs.declared.production.Others.TheVariants.{Nothing, Anything, Throughout}
 use Rattle.profile_sorts.specs.declared.sort.Sort.{Sort}
-use Rattle.profile_sorts.specs.declared.sort.Sort.TheVariants as sort
 use Rattle.profile_sorts.specs.LeafTests.{passes}
 use Rattle.profile_sorts.specs.Productions.{Form, Any, Refused, Atom as Leaf, Kids, Single, production_of}
-
--- a tree with this tag annotates, and nothing else; what stands in it counts for no profile
-abbrev pub is_remark : Tag → Bool
-is_remark t = is_tag tag.Notes t || is_tag tag.AnnotationAssertion t
 
 -- the form of the first alternative with the tag
 abbrev pub form_among : List (Tag × Form) → Tag → Option Form
@@ -59,17 +54,3 @@ abbrev mutual
   pub sorts_of : Below → List (Sort → Bool)
   sorts_of no_kids = []
   sorts_of (kid t ks) = sorts t ∷ sorts_of ks
-
--- The rules of EL by their numbers, each with the sort that every axiom has to be of. The seventh asks for more than one axiom (section 2.2.6).
-unfoldable pub el_sorts : List (ℕ × Sort)
-el_sorts =
-    (1, sort.ElAxiom) ∷ (2, sort.ElClasses) ∷ (3, sort.ElRanges) ∷ (4, sort.SharedDatatypes) ∷ (5, sort.ElProperties)
-    ∷ (6, sort.Named) ∷ []
-
--- the rules of QL
-unfoldable pub ql_sorts : List (ℕ × Sort)
-ql_sorts = (1, sort.QlAxiom) ∷ (2, sort.QlClasses) ∷ (3, sort.Ranges) ∷ (4, sort.SharedDatatypes) ∷ (5, sort.Named) ∷ []
-
--- the rules of RL
-unfoldable pub rl_sorts : List (ℕ × Sort)
-rl_sorts = (1, sort.RlAxiom) ∷ (2, sort.RlClasses) ∷ (3, sort.Ranges) ∷ (4, sort.RlDatatypes) ∷ (5, sort.RlProperties) ∷ []

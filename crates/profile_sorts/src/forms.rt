@@ -4,11 +4,12 @@ ghost use Rattle.std.specs.Prelude.{◌≡◌, get_or, map};
 ghost use Rattle.std.specs.Option.{option_map};
 ghost use Rattle.profile_sorts.specs.Productions.{alternative_seen, form_seen};
 ghost use Rattle.profile_sorts.specs.Sets.{known_at};
-ghost use Rattle.profile_sorts.specs.Sorts.{form_among, form_of, have, is_remark, kids_fit, leaf_fits, other_form};
+ghost use Rattle.profile_sorts.specs.Sorts.{form_among, form_of, have, kids_fit, leaf_fits, other_form};
 
 use crate::production::{Alternative, Form, Others};
 use crate::set::{SortSet, set_at};
 use crate::sort::Sort;
+use dl_rules::is_remark;
 use owl_arena::ExprId;
 use owl_tree::{Atom, Tag};
 
@@ -78,13 +79,6 @@ impl Others {
             Others::Throughout(_) => Form::Kids(&[], sort),
         }
     }
-}
-
-/// Whether a tree with this tag annotates, and nothing else.
-fn is_remark(tag: Tag) -> bool
-    ensures { result ≡ is_remark tag }
-{
-    tag == Tag::Notes || tag == Tag::AnnotationAssertion
 }
 
 impl Form {

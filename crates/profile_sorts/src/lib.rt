@@ -6,6 +6,7 @@ mod forms;
 mod leaf_test;
 mod pass;
 mod production;
+mod rows;
 mod set;
 mod sort;
 mod table;

@@ -4,14 +4,13 @@ use Rattle.profile_sorts.proofs.SetLaws.{done_later, few_sorts, left_later}
 use Rattle.profile_sorts.proofs.pass.leaf_sorts.Goals as goal
 
 pub sorts-preserved : goal.sorts-preserved
-sorts-preserved c =
-    let told = c.takes-fits.ensures ∙ ap (λ form. leaf_fits form c.args.atom.now) c.form_of.ensures in
-    record {
-      done =
-          done_later c.sorts.set c.with_if-set.result c.sorts.number c.numbered-sort.result c.numbered-sort.ensures c.with_if-set.ensures.others c.sorts.invariant.left
-          (λ s. leaf_fits (form_of s c.args.tag) c.args.atom.now) _ c.with_if-set.ensures.same told c.sorts.invariant.done;
-      left = left_later c.sorts.set c.with_if-set.result c.sorts.number c.numbered-sort.result c.numbered-sort.ensures c.with_if-set.ensures.others c.sorts.invariant.left;
-    }
+sorts-preserved c = record {
+  done = λ t is.
+      let told = c.takes-fits.ensures ∙ ap (λ form. leaf_fits form c.args.atom.now) (c.form_at.ensures t is) in
+      done_later c.sorts.set c.with_if-set.result c.sorts.number c.numbered-sort.result c.numbered-sort.ensures c.with_if-set.ensures.others c.sorts.invariant.left
+      (λ s. leaf_fits (form_of s t) c.args.atom.now) _ c.with_if-set.ensures.same told (c.sorts.invariant.done t is);
+  left = left_later c.sorts.set c.with_if-set.result c.sorts.number c.numbered-sort.result c.numbered-sort.ensures c.with_if-set.ensures.others c.sorts.invariant.left;
+}
 
 pub returns : goal.returns
-returns c = λ s. c.sorts.invariant.done s (omega (arith, few_sorts s, c.sorts-test.false, c.sorts.auto.number-end))
+returns c = λ t is s. c.sorts.invariant.done t is s (omega (arith, few_sorts s, c.sorts-test.false, c.sorts.auto.number-end))

@@ -5,14 +5,13 @@ use Rattle.profile_sorts.proofs.SetLaws.{done_later, few_sorts, left_later}
 use Rattle.profile_sorts.proofs.pass.node_sorts.Goals as goal
 
 pub sorts-preserved : goal.sorts-preserved
-sorts-preserved c =
-    let told = c.fits-fits.ensures ∙ ap (λ form. kids_fit form (map (known_at c.args.sets.now) c.args.kids.now)) c.form_of.ensures in
-    record {
-      done =
-          done_later c.sorts.set c.with_if-set.result c.sorts.number c.numbered-sort.result c.numbered-sort.ensures c.with_if-set.ensures.others c.sorts.invariant.left
-          (λ s. kids_fit (form_of s c.args.tag) (map (known_at c.args.sets.now) c.args.kids.now)) _ c.with_if-set.ensures.same told c.sorts.invariant.done;
-      left = left_later c.sorts.set c.with_if-set.result c.sorts.number c.numbered-sort.result c.numbered-sort.ensures c.with_if-set.ensures.others c.sorts.invariant.left;
-    }
+sorts-preserved c = record {
+  done = λ t is.
+      let told = c.fits-fits.ensures ∙ ap (λ form. kids_fit form (map (known_at c.args.sets.now) c.args.kids.now)) (c.form_at.ensures t is) in
+      done_later c.sorts.set c.with_if-set.result c.sorts.number c.numbered-sort.result c.numbered-sort.ensures c.with_if-set.ensures.others c.sorts.invariant.left
+      (λ s. kids_fit (form_of s t) (map (known_at c.args.sets.now) c.args.kids.now)) _ c.with_if-set.ensures.same told (c.sorts.invariant.done t is);
+  left = left_later c.sorts.set c.with_if-set.result c.sorts.number c.numbered-sort.result c.numbered-sort.ensures c.with_if-set.ensures.others c.sorts.invariant.left;
+}
 
 pub returns : goal.returns
-returns c = λ s. c.sorts.invariant.done s (omega (arith, few_sorts s, c.sorts-test.false, c.sorts.auto.number-end))
+returns c = λ t is s. c.sorts.invariant.done t is s (omega (arith, few_sorts s, c.sorts-test.false, c.sorts.auto.number-end))
