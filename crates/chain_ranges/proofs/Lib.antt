@@ -1,0 +1,5 @@
+pub mod BitLaws
+pub mod ImposedLaws
+pub mod MarkingLaws
+pub mod SpreadLaws
+pub mod TurnedLaws

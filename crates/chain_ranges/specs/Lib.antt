@@ -1,0 +1,3 @@
+pub mod Imposed
+pub mod Marking
+pub mod Spreads
