@@ -1,0 +1,3 @@
+pub mod Restrictions
+pub mod Statements
+pub mod Found
