@@ -1,4 +1,2 @@
 pub mod Listing
 pub mod Facts
-pub mod Marks
-pub mod Adding

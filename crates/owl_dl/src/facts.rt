@@ -11,7 +11,8 @@ ghost use Rattle.owl_doc.specs.Parts.{of_axiom, of_header};
 ghost use Rattle.owl_kind.specs.Kinds.{HasBoth, SharesKinds};
 ghost use Rattle.rdf_terms.specs.Vocabulary.{is_reserved};
 ghost use Rattle.owl_tree.specs.Ontologies.{Ontology};
-ghost use Rattle.owl_dl.specs.Facts.{AreFacts, IsAxiomOf, closure_in};
+ghost use Rattle.breach_lists.specs.Marks.{IsAxiomOf};
+ghost use Rattle.owl_dl.specs.Facts.{AreFacts, closure_in};
 
 use dl_local::{LocalFaults, axiom_is_at_fault, header_is_at_fault};
 use dl_rules::DlRule;

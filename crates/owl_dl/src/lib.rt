@@ -4,7 +4,6 @@
 
 mod facts;
 mod listing;
-mod marks;
 mod search;
 
 pub use search::breaches;

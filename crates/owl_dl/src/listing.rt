@@ -1,24 +1,23 @@
 //! The list of what breaks rules.
 
-ghost use Rattle.std.specs.Prelude.{◌≡◌, ◌<◌, ◌++◌, [], IfOk, OnOk, length};
-ghost use Rattle.dl_rules.specs.Rules.{Breaks, dl_rules, number_of};
+ghost use Rattle.std.specs.Prelude.{◌≡◌, ◌<◌, [], IfOk, OnOk, length};
+ghost use Rattle.dl_rules.specs.Rules.{Breaks, dl_name, dl_rules};
 ghost use Rattle.graph_walks.specs.Marks.{MarkEach};
 ghost use Rattle.dl_rules.specs.declared.rule.DlRule.TheVariants as dl;
 ghost use Rattle.owl_arena.specs.Held.{trees_at};
 ghost use Rattle.owl_breaches.specs.Sites.{sites, sites_from};
-ghost use Rattle.owl_doc.specs.declared.rule.Rule.TheVariants.{Dl};
 ghost use Rattle.owl_doc.specs.Parts.{of_axiom};
 ghost use Rattle.owl_tree.specs.Ontologies.{Ontology};
-ghost use Rattle.owl_dl.specs.Facts.{AreFacts, closure_in};
-ghost use Rattle.owl_dl.specs.Adding.{AddsSites, AreAxiomsOf, breaches_if, marked_breaches, sites_at};
+ghost use Rattle.breach_lists.specs.Adding.{AreAxiomsOf, sites_at};
+ghost use Rattle.owl_dl.specs.Facts.{AddsBreaches, AreFacts, closure_in};
 
 use crate::facts::{Facts, breaks_in_axiom, breaks_in_header};
+use breach_lists::add_parts;
 use dl_graphs::ring_assertions;
 use dl_rules::DlRule;
-use graph_walks::has_mark;
 use owl_arena::ExprId;
 use owl_characters::NoMemory;
-use owl_doc::{Breach, Item, Rule};
+use owl_doc::{Breach, Rule};
 use std::alloc::{AllocError, Global};
 
 /// The rules in the order of their numbers.
@@ -41,7 +40,7 @@ const RULES: [DlRule; 13] = [
 /// Each rule with each part of the documents that breaks it.
 pub fn list_breaches(alloc: Global, facts: &Facts) -> Result<Vec<Breach>, NoMemory>
     requires { AreFacts facts.now }
-    ensures { IfOk result (λ found. AddsSites facts.now
+    ensures { IfOk result (λ found. AddsBreaches facts.now
         (sites dl_rules (closure_in facts.now).all) [] found.items) }
 {
     let mut found = Vec::new(alloc);
@@ -59,7 +58,7 @@ fn add_rule(
     found: &mut Vec<Breach>,
 ) -> Result<(), NoMemory>
     requires { AreFacts facts.now }
-    ensures { OnOk result (AddsSites facts.now
+    ensures { OnOk result (AddsBreaches facts.now
         (sites_from rule 0 (closure_in facts.now).all) found.old.items found.new.items) }
 {
     'places: for place in 0..facts.closure.docs().len() {
@@ -78,16 +77,21 @@ fn add_document(
 ) -> Result<(), NoMemory>
     requires facts { AreFacts facts.now }
     requires place { place < length facts.now.closure.now.documents }
-    ensures { OnOk result (AddsSites facts.now
+    ensures { OnOk result (AddsBreaches facts.now
         (sites_at (closure_in facts.now) rule place) found.old.items found.new.items) }
 {
     let doc = &facts.closure.docs()[place];
     let pooled = &facts.pooled[place];
-    let is_broken = breaks_in_header(facts, rule, doc.head(), pooled.notes());
-    push_if(is_broken, numbered(rule), place, Item::Header, found)?;
+    let header_breaks = breaks_in_header(facts, rule, doc.head(), pooled.notes());
     let marks = axiom_marks(alloc, facts, rule, pooled.axioms())?;
-    add_axioms(rule, place, doc.axioms(), &marks, found)?;
-    Ok(())
+    add_parts(
+        numbered(rule),
+        place,
+        header_breaks,
+        doc.axioms(),
+        &marks,
+        found,
+    )
 }
 
 /// For each of these axioms of one document whether it breaks the rule.
@@ -98,7 +102,7 @@ fn axiom_marks(
     axioms: &[ExprId],
 ) -> Result<Vec<bool>, NoMemory>
     requires facts { AreFacts facts.now }
-    requires axioms { AreAxiomsOf facts.now axioms.now }
+    requires axioms { AreAxiomsOf facts.now.arena.now.trees facts.now.pooled.now axioms.now }
     ensures { IfOk result (λ marks. (o : Ontology)
         → trees_at facts.now.arena.now.trees axioms.now ≡ o.axioms
         → MarkEach (λ _ t. Breaks (closure_in facts.now) rule o (of_axiom t)) o.axioms marks.items) }
@@ -118,7 +122,7 @@ fn marks_by_test(
     axioms: &[ExprId],
 ) -> Result<Vec<bool>, AllocError>
     requires facts { AreFacts facts.now }
-    requires axioms { AreAxiomsOf facts.now axioms.now }
+    requires axioms { AreAxiomsOf facts.now.arena.now.trees facts.now.pooled.now axioms.now }
     requires rule { rule ≡ dl.Forest → ⊥ }
     ensures { IfOk result (λ marks. (o : Ontology) → MarkEach
         (λ _ t. Breaks (closure_in facts.now) rule o (of_axiom t))
@@ -131,54 +135,10 @@ fn marks_by_test(
     Ok(marks)
 }
 
-/// Adds those of the axioms that have a mark.
-fn add_axioms(
-    rule: DlRule,
-    document: usize,
-    axioms: &[ExprId],
-    marks: &[bool],
-    found: &mut Vec<Breach>,
-) -> Result<(), AllocError>
-    ensures { OnOk result (found.new.items ≡ found.old.items
-        ++ marked_breaches (Dl (number_of rule)) document axioms.now marks.now) }
-{
-    'places: for place in 0..axioms.len() {
-        let item = Item::Axiom(axioms[place]);
-        push_if(
-            has_mark(marks, place),
-            numbered(rule),
-            document,
-            item,
-            found,
-        )?;
-    }
-    Ok(())
-}
-
-/// Adds that the part of the document breaks the rule, where it does.
-fn push_if(
-    is_broken: bool,
-    rule: Rule,
-    document: usize,
-    item: Item,
-    found: &mut Vec<Breach>,
-) -> Result<(), AllocError>
-    ensures { OnOk result (found.new.items ≡ found.old.items ++ breaches_if is_broken rule document item) }
-{
-    if is_broken {
-        found.push(Breach {
-            rule,
-            document,
-            item,
-        })?;
-    }
-    Ok(())
-}
-
 /// The rule by its number.
 #[tactic(auto, unfolding(dl_rules::specs::Rules::number_of))]
 fn numbered(rule: DlRule) -> Rule
-    ensures { result ≡ Dl (number_of rule) }
+    ensures { result ≡ dl_name rule }
 {
     Rule::Dl(match rule {
         DlRule::Typing => 1,

@@ -1,22 +1,21 @@
 //! What breaks the rules of OWL 2 DL.
 
-ghost use Rattle.std.specs.Prelude.{◌≡◌, ◌∷◌, [], IfOk, map};
-ghost use Rattle.std.specs.List.{flat_map};
+ghost use Rattle.std.specs.Prelude.{IfOk, map};
 ghost use Rattle.owl_doc.specs.Documents.{ontology_of};
 ghost use Rattle.owl_pool.specs.Pooling.{ArePooled};
 ghost use Rattle.owl_dl.specs.Listing.{TellBreaches};
 
 use crate::facts::Facts;
 use crate::listing::list_breaches;
-use crate::marks::marks_by_number;
+use breach_lists::{all_axioms, marks_by_number, pooled_alone};
 use dl_graphs::{cyclic_definitions, misused_datatypes};
 use dl_local::local_faults;
-use owl_arena::{Arena, ExprId};
+use owl_arena::Arena;
 use owl_characters::NoMemory;
-use owl_doc::{Breach, Closure, Doc};
+use owl_doc::{Breach, Closure};
 use owl_pool::{Pooled, pool};
 use property_hierarchy::{broken_chains, composite_properties};
-use std::alloc::{AllocError, Global};
+use std::alloc::Global;
 
 /// Each rule of OWL 2 DL with each part of the documents that breaks it
 /// (Structural Specification, sections 3 and 11), in the order of the rules, of
@@ -35,18 +34,6 @@ pub fn breaches(alloc: Global, closure: &Closure) -> Result<Vec<Breach>, NoMemor
     }
     let (arena, pooled) = pool(alloc, closure.docs())?;
     breaches_over(alloc, closure, &arena, &pooled)
-}
-
-/// What a document says, by the numbers in its own arena.
-fn pooled_alone(alloc: Global, doc: &Doc) -> Result<Vec<Pooled>, NoMemory>
-    ensures { IfOk result (λ pooled.
-        ArePooled doc.now.arena.trees (ontology_of doc.now ∷ []) pooled.items) }
-{
-    let mut pooled = Vec::new(alloc);
-    pooled
-        .push(Pooled::of(alloc, doc)?)
-        .map_err(AllocError::from)?;
-    Ok(pooled)
 }
 
 /// Each rule with each part that breaks it, where all trees stand in one arena.
@@ -76,15 +63,4 @@ fn breaches_over(
         broken: &broken,
     };
     list_breaches(alloc, &facts)
-}
-
-/// The axioms of all documents.
-fn all_axioms(alloc: Global, pooled: &[Pooled]) -> Result<Vec<ExprId>, AllocError>
-    ensures { IfOk result (λ axioms. axioms.items ≡ flat_map (λ n. n.axioms) pooled.now) }
-{
-    let mut axioms = Vec::new(alloc);
-    'documents: for document in pooled {
-        axioms.extend_from_slice(document.axioms())?;
-    }
-    Ok(axioms)
 }

@@ -1,33 +1,34 @@
 use Rattle.std.proofs.Common.{◌≡◌, ◌↔◌, ◌++◌, ◌∙◌, List, refl, length, get_or, sym, ap, subst}
 use Rattle.std.specs.Prelude.{IsTrue, Some, slice_get}
 use Rattle.std.proofs.lemmas.Option.{slice_get_read}
-use Rattle.dl_rules.specs.Rules.{Breaks, number_of}
+use Rattle.std.proofs.lemmas.Result.{on_ok_weaker}
+use Rattle.dl_rules.specs.Rules.{Breaks, dl_name}
 use Rattle.owl_arena.specs.Held.{AreHeld, trees_at}
 use Rattle.owl_doc.specs.declared.item.Breach.{Breach}
-use Rattle.owl_doc.specs.declared.item.Item.TheVariants.{Header}
-use Rattle.owl_doc.specs.declared.rule.Rule.TheVariants.{Dl}
 use Rattle.owl_doc.specs.Documents.{Document, ontology_of}
 use Rattle.owl_doc.specs.Parts.{of_header}
 use Rattle.owl_pool.specs.Pooling.{IsPooled}
 use Rattle.owl_tree.specs.Trees.{Tree}
-use Rattle.owl_dl.specs.Adding.{AddsSites, AreAxiomsOf, breaches_if, marked_breaches, sites_at}
-use Rattle.owl_dl.specs.Facts.{closure_in}
-use Rattle.owl_dl.proofs.AddingLaws.{adds_document}
-use Rattle.owl_dl.proofs.PooledLaws.{axioms_here, pooled_here, pooled_within}
+use Rattle.breach_lists.specs.Adding.{AreAxiomsOf, breaches_of, sites_at}
+use Rattle.breach_lists.proofs.AddingLaws.{adds_document}
+use Rattle.breach_lists.proofs.PooledLaws.{axioms_here, pooled_here, pooled_within}
+use Rattle.owl_dl.specs.Facts.{AddsBreaches, closure_in}
 use Rattle.owl_dl.proofs.listing.add_document.Goals as goal
 
 pub bounds-facts-place : goal.bounds-facts-place
-bounds-facts-place c = pooled_within c.args.facts.now c.requires.facts c.args.place c.requires.place
+bounds-facts-place c = pooled_within c.args.facts.now.arena.now.trees c.args.facts.now.closure.now.documents c.args.facts.now.pooled.now c.requires.facts.pooled c.args.place c.requires.place
 
-pub breaks_in_header-is_broken-requires-clause-notes : goal.breaks_in_header-is_broken-requires-clause-notes
-breaks_in_header-is_broken-requires-clause-notes c =
-    let pooled = pooled_here c.args.facts.now c.requires.facts c.args.place c.requires.place c.index-docs-place.result c.index-facts-place.result in
-    subst (AreHeld c.args.facts.now.arena.now.trees) (sym c.notes.ensures) pooled.notes.held
+pub breaks_in_header-header_breaks-requires-clause-notes : goal.breaks_in_header-header_breaks-requires-clause-notes
+breaks_in_header-header_breaks-requires-clause-notes c =
+    let facts = c.args.facts.now in
+    let pooled = pooled_here facts.arena.now.trees facts.closure.now.documents facts.pooled.now c.requires.facts.pooled c.args.place c.requires.place c.index-docs-place.result c.index-facts-place.result in
+    subst (AreHeld facts.arena.now.trees) (sym c.notes.ensures) pooled.notes.held
 
 pub axiom_marks-requires-clause-axioms : goal.axiom_marks-requires-clause-axioms
 axiom_marks-requires-clause-axioms c =
-    subst (AreAxiomsOf c.args.facts.now) (sym c.axioms.ensures)
-    (axioms_here c.args.facts.now c.requires.facts c.args.place c.requires.place c.index-docs-place.result c.index-facts-place.result)
+    let facts = c.args.facts.now in
+    subst (AreAxiomsOf facts.arena.now.trees facts.pooled.now) (sym c.axioms.ensures)
+    (axioms_here facts.arena.now.trees facts.closure.now.documents facts.pooled.now c.requires.facts.pooled c.args.place c.requires.place c.index-docs-place.result c.index-facts-place.result)
 
 pub returns : goal.returns
 returns c =
@@ -39,18 +40,19 @@ returns c =
     let o = ontology_of d in
     let n = get_or facts.pooled.now place c.index-facts-place.result in
     let read : d ≡ get_or docs place d = c.index-docs-place.is ∙ ap (λ (ds : List Document). get_or ds place d) c.docs.ensures in
-    let pooled = subst (λ (e : Document). IsPooled ts (ontology_of e) n) (sym read) (pooled_here facts c.requires.facts place c.requires.place d c.index-facts-place.result) in
-    let is_broken = c.breaks_in_header-is_broken.result in
-    let header : IsTrue is_broken ↔ Breaks (closure_in facts) c.args.rule o (of_header o.annotations) =
-    subst (λ (us : List Tree). IsTrue is_broken ↔ Breaks (closure_in facts) c.args.rule o (of_header us)) (ap (trees_at ts) c.notes.ensures ∙ pooled.notes.trees)
-    (c.breaks_in_header-is_broken.ensures o c.head.ensures.head) in
+    let pooled = subst (λ (e : Document). IsPooled ts (ontology_of e) n) (sym read)
+    (pooled_here ts docs facts.pooled.now c.requires.facts.pooled place c.requires.place d c.index-facts-place.result) in
+    let breaks = c.breaks_in_header-header_breaks.result in
+    let header : IsTrue breaks ↔ Breaks (closure_in facts) c.args.rule o (of_header o.annotations) =
+    subst (λ (us : List Tree). IsTrue breaks ↔ Breaks (closure_in facts) c.args.rule o (of_header us)) (ap (trees_at ts) c.notes.ensures ∙ pooled.notes.trees)
+    (c.breaks_in_header-header_breaks.ensures o c.head.ensures.head) in
     let each = c.in_ok-marks.ensures o (ap (trees_at ts) c.axioms.ensures ∙ pooled.axioms.trees) in
+    let marks = c.in_ok-marks.marks.items in
     let old = c.args.found.now.items in
-    let number = Dl (number_of c.args.rule) in
-    let before : c.push_if.new.found.items ≡ old ++ breaches_if is_broken number place Header =
-    c.in_ok-push_if.ensures ∙ (λ i. old ++ breaches_if is_broken (c.numbered.ensures i) place Header) in
-    let new : c.add_axioms.new.found.items ≡ (old ++ breaches_if is_broken number place Header) ++ marked_breaches number place d.axioms c.in_ok-marks.marks.items =
-    c.in_ok-add_axioms.ensures ∙ (λ i. before i ++ marked_breaches number place (c.axioms-2.ensures.axioms i) (c.deref.ensures.value i)) in
+    let wanted = breaches_of (dl_name c.args.rule) place breaks d.axioms marks in
     let is : slice_get docs place ≡ Some d = slice_get_read docs (length docs) place d refl c.requires.place read in
-    subst (λ (found : List Breach). AddsSites facts (sites_at (closure_in facts) c.args.rule place) old found) (sym new)
-    (adds_document (closure_in facts) docs c.args.rule place d is is_broken c.in_ok-marks.marks.items old c.head.ensures.document header each)
+    let own = adds_document dl_name (Breaks (closure_in facts)) docs c.args.rule place d is breaks marks old c.head.ensures.document header each in
+    on_ok_weaker c.add_parts.result
+    (λ new. subst (λ (found : List Breach). AddsBreaches facts (sites_at (closure_in facts) c.args.rule place) old found)
+    (sym (new ∙ (λ i. old ++ breaches_of (c.numbered.ensures i) place breaks (c.axioms-2.ensures.axioms i) (c.deref.ensures.value i)))) own)
+    c.add_parts.ensures

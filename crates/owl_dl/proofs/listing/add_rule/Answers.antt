@@ -1,12 +1,12 @@
 use Rattle.std.proofs.Common.{List, take, sym, subst}
 use Rattle.dl_rules.specs.declared.rule.DlRule.{DlRule}
-use Rattle.dl_rules.specs.Rules.{BreaksAt}
+use Rattle.dl_rules.specs.Rules.{BreaksAt, dl_name}
 use Rattle.owl_breaches.specs.Sites.{Site, sites_from}
 use Rattle.owl_breaches.proofs.ThoseLaws.{adds_both, adds_none}
-use Rattle.owl_dl.specs.Adding.{AddsSites, sites_at}
-use Rattle.owl_dl.specs.Facts.{closure_in}
-use Rattle.owl_dl.specs.Listing.{Tells}
-use Rattle.owl_dl.proofs.AddingLaws.{ontologies_more}
+use Rattle.breach_lists.specs.Adding.{sites_at}
+use Rattle.breach_lists.specs.Telling.{Tells}
+use Rattle.breach_lists.proofs.AddingLaws.{ontologies_more}
+use Rattle.owl_dl.specs.Facts.{AddsBreaches, closure_in}
 use Rattle.owl_dl.proofs.listing.add_rule.Goals as goal
 
 pub places-init : goal.places-init
@@ -21,5 +21,5 @@ places-preserved c =
     let place = c.places.place in
     let before = sites_from c.args.rule 0 (take place os) in
     let here = sites_at (closure_in facts) c.args.rule place in
-    subst (λ (these : List (Site DlRule)). AddsSites facts these old new) (sym (ontologies_more c.args.rule place os))
-    (adds_both (BreaksAt (closure_in facts)) (Tells facts.closure.now.documents) before here old c.places.found.items new c.places.invariant c.in_ok-add_document.ensures)
+    subst (λ (these : List (Site DlRule)). AddsBreaches facts these old new) (sym (ontologies_more c.args.rule place os))
+    (adds_both (BreaksAt (closure_in facts)) (Tells dl_name facts.closure.now.documents) before here old c.places.found.items new c.places.invariant c.in_ok-add_document.ensures)

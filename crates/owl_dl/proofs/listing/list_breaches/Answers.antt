@@ -1,13 +1,12 @@
 use Rattle.std.proofs.Common.{[], List, get_or, sym, subst, take, take_all}
 use Rattle.dl_rules.specs.declared.rule.DlRule.{DlRule}
 use Rattle.dl_rules.specs.declared.rule.DlRule.TheVariants.{Typing}
-use Rattle.dl_rules.specs.Rules.{BreaksAt, dl_rules}
+use Rattle.dl_rules.specs.Rules.{BreaksAt, dl_name, dl_rules}
 use Rattle.owl_breaches.specs.Sites.{Site, sites, sites_from}
 use Rattle.owl_breaches.proofs.ThoseLaws.{adds_both, adds_none}
-use Rattle.owl_dl.specs.Adding.{AddsSites}
-use Rattle.owl_dl.specs.Facts.{closure_in}
-use Rattle.owl_dl.specs.Listing.{Tells}
-use Rattle.owl_dl.proofs.AddingLaws.{rules_more}
+use Rattle.breach_lists.specs.Telling.{Tells}
+use Rattle.breach_lists.proofs.AddingLaws.{rules_more}
+use Rattle.owl_dl.specs.Facts.{AddsBreaches, closure_in}
 use Rattle.owl_dl.proofs.listing.list_breaches.Goals as goal
 
 pub rules-init : goal.rules-init
@@ -22,11 +21,11 @@ rules-preserved c =
     let new = c.add_rule.new.found.items in
     let before = sites (take index dl_rules) os in
     let here = sites_from (get_or dl_rules index Typing) 0 os in
-    subst (λ (these : List (Site DlRule)). AddsSites facts these [] new) (sym (rules_more os dl_rules index Typing c.rules-test.true))
-    (adds_both (BreaksAt (closure_in facts)) (Tells facts.closure.now.documents) before here [] c.rules.found.items new c.rules.invariant c.in_ok-add_rule.ensures)
+    subst (λ (these : List (Site DlRule)). AddsBreaches facts these [] new) (sym (rules_more os dl_rules index Typing c.rules-test.true))
+    (adds_both (BreaksAt (closure_in facts)) (Tells dl_name facts.closure.now.documents) before here [] c.rules.found.items new c.rules.invariant c.in_ok-add_rule.ensures)
 
 pub returns : goal.returns
 unfolding dl_rules
 returns c =
     let facts = c.args.facts.now in
-    subst (λ (rules : List DlRule). AddsSites facts (sites rules (closure_in facts).all) [] c.rules.found.items) (take_all c.rules.rule-index dl_rules c.rules-test.false) c.rules.invariant
+    subst (λ (rules : List DlRule). AddsBreaches facts (sites rules (closure_in facts).all) [] c.rules.found.items) (take_all c.rules.rule-index dl_rules c.rules-test.false) c.rules.invariant

@@ -1,8 +1,7 @@
 use Rattle.std.proofs.Common.{[], take}
 use Rattle.owl_breaches.specs.Sites.{sites}
-use Rattle.owl_dl.specs.Adding.{AddsSites}
-use Rattle.owl_dl.specs.Facts.{closure_in}
+use Rattle.owl_dl.specs.Facts.{AddsBreaches, closure_in}
 use Rattle.owl_dl.proofs.listing.list_breaches.Given as goal
 
 abbrev pub invariant-rules : goal.invariant-rules
-invariant-rules l = AddsSites l.facts (sites (take l.rule-index l.rule-items) (closure_in l.facts).all) [] l.found.items
+invariant-rules l = AddsBreaches l.facts (sites (take l.rule-index l.rule-items) (closure_in l.facts).all) [] l.found.items

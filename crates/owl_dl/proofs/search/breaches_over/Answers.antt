@@ -1,4 +1,4 @@
-use Rattle.std.proofs.Common.{subst, sym, map, ℕ, List}
+use Rattle.std.proofs.Common.{subst, sym, List}
 use Rattle.dl_local.specs.Faults.{AreLocalFaults, IsKnown}
 use Rattle.dl_local.specs.declared.faults.LocalFaults.{LocalFaults}
 use Rattle.dl_rules.specs.Definitions.{IsCyclic, definition_of}
@@ -7,8 +7,8 @@ use Rattle.dl_rules.specs.Local.{HasMisusedDatatype}
 use Rattle.dl_rules.specs.Properties.{IsSimple, chain_of, property_in}
 use Rattle.owl_breaches.specs.Those.{HoldsOfSome}
 use Rattle.owl_tree.specs.Trees.{Tree}
-use Rattle.owl_dl.specs.Listing.{ontologies_of}
-use Rattle.owl_dl.proofs.Assembling.{below_count, held_so, marks_so, numbers_so}
+use Rattle.breach_lists.specs.Telling.{ontologies_of}
+use Rattle.breach_lists.proofs.ClosureLaws.{below_count, held_so, marks_so, numbers_so}
 use Rattle.owl_dl.proofs.search.breaches_over.Goals as goal
 
 pub misused_datatypes-requires : goal.misused_datatypes-requires

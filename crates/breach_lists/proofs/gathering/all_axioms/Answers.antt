@@ -1,7 +1,7 @@
 use Rattle.std.proofs.Common.{ap, sym, ◌∙◌, ◌++◌, List, ℕ}
 use Rattle.owl_breaches.proofs.MakingLaws.{made_end, made_step}
-use Rattle.owl_dl.proofs.Gathering.{axioms_both, axioms_in, axioms_of_one}
-use Rattle.owl_dl.proofs.search.all_axioms.Goals as goal
+use Rattle.breach_lists.proofs.AllAxioms.{axioms_both, axioms_in, axioms_of_one}
+use Rattle.breach_lists.proofs.gathering.all_axioms.Goals as goal
 
 pub documents-preserved : goal.documents-preserved
 documents-preserved c =

@@ -1,5 +1,5 @@
 -- The axioms of all documents.
-use Rattle.std.proofs.Common.{◌≡◌, ◌++◌, inl, inr, ℕ, List, [], ◌∷◌, map, refl, sym, ap, ◌∙◌, subst}
+use Rattle.std.proofs.Common.{◌≡◌, ◌++◌, inl, inr, ℕ, List, [], ◌∷◌, refl, sym, ap, ◌∙◌, subst}
 use Rattle.std.specs.Prelude.{Contains}
 use Rattle.std.specs.List.{flat_map}
 use Rattle.std.proofs.lemmas.Grind.{flat_map-append}
@@ -10,7 +10,7 @@ use Rattle.owl_list.proofs.AscendingLaws.{in_cases, in_none}
 use Rattle.owl_pool.specs.Pooling.{ArePooled, Numbered}
 use Rattle.owl_tree.specs.Ontologies.{Ontology}
 use Rattle.owl_tree.specs.Trees.{Tree}
-use Rattle.owl_dl.specs.Facts.{IsAxiomOf}
+use Rattle.breach_lists.specs.Marks.{IsAxiomOf}
 
 abbrev pub axioms_in : List Numbered → List ℕ
 axioms_in ns = flat_map (λ (n : Numbered). n.axioms) ns

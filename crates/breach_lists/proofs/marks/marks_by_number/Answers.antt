@@ -1,8 +1,8 @@
-use Rattle.std.proofs.Common.{rules, ◌≡◌, ◌<◌, ℕ, false, length, sym, subst, ◌∙◌}
+use Rattle.std.proofs.Common.{rules, ◌≡◌, ◌<◌, ℕ, false, sym, subst, ◌∙◌}
 use Rattle.std.proofs.Math.ListN.{replicate}
 use Rattle.owl_list.proofs.AscendingLaws.{all_in}
-use Rattle.owl_dl.proofs.Marking.{all_marked, none_marked, none_yet, one_more_marked}
-use Rattle.owl_dl.proofs.marks.marks_by_number.Goals as goal
+use Rattle.breach_lists.proofs.Marking.{all_marked, none_marked, none_yet, one_more_marked}
+use Rattle.breach_lists.proofs.marks.marks_by_number.Goals as goal
 
 pub places-init : goal.places-init
 places-init c =

@@ -1,5 +1,5 @@
 -- Marks by number.
-use Rattle.std.proofs.Common.{◌≡◌, ◌≤◌, ◌<◌, ◌+◌, ◌⊎◌, ◌↔◌, inl, inr, ℕ, Bool, true, false, List, Option, None, Some, get_or, length, map, refl, sym, ap, ◌∙◌, subst}
+use Rattle.std.proofs.Common.{◌≡◌, ◌≤◌, ◌<◌, ◌+◌, ◌⊎◌, ◌↔◌, inl, inr, ℕ, Bool, true, false, List, Option, None, Some, get_or, length, refl, sym, ap, ◌∙◌, subst}
 use Rattle.std.specs.Prelude.{Contains, slice_get, slice_index_or, unwrap_or}
 use Rattle.std.specs.Option.{option_map}
 use native.Mathlib.Omega.{arith}
@@ -10,7 +10,7 @@ use Rattle.std.proofs.lemmas.Option.{get_or_from_slice_get, slice_get-get_or, sl
 use Rattle.graph_walks.specs.Marks.{MarkEach}
 use Rattle.owl_arena.specs.Held.{tree_at, trees_at}
 use Rattle.owl_tree.specs.Trees.{Tree}
-use Rattle.owl_dl.specs.Marks.{IsMarkedAmong, IsMarkedBefore}
+use Rattle.breach_lists.specs.Marks.{IsMarkedAmong, IsMarkedBefore}
 
 -- marks at numbers say which of the first have one
 abbrev pub AreMarksBefore : ℕ → List ℕ → List Bool → List Bool → Type 0

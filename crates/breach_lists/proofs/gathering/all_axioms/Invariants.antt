@@ -1,6 +1,6 @@
 use Rattle.std.proofs.Common.{◌≡◌, take}
-use Rattle.owl_dl.proofs.Gathering.{axioms_in}
-use Rattle.owl_dl.proofs.search.all_axioms.Given as goal
+use Rattle.breach_lists.proofs.AllAxioms.{axioms_in}
+use Rattle.breach_lists.proofs.gathering.all_axioms.Given as goal
 
 abbrev pub invariant-documents : goal.invariant-documents
 invariant-documents l = l.axioms.items ≡ axioms_in (take l.document-index l.pooled)

@@ -2,7 +2,7 @@
 
 ghost use Rattle.std.specs.Prelude.{◌≡◌, ◌↔◌, ◌⊎◌, ◌<◌, ℕ, IfOk, true, false, length, slice_index_or};
 ghost use Rattle.std.specs.List.{AllByRecursion};
-ghost use Rattle.owl_dl.specs.Marks.{IsMarkedAmong};
+ghost use Rattle.breach_lists.specs.Marks.{IsMarkedAmong};
 
 use graph_walks::has_mark;
 use owl_arena::ExprId;

@@ -1,6 +1,6 @@
 use Rattle.std.proofs.Common.{◌≡◌, length}
-use Rattle.owl_dl.proofs.Marking.{AreMarksBefore}
-use Rattle.owl_dl.proofs.marks.marks_by_number.Given as goal
+use Rattle.breach_lists.proofs.Marking.{AreMarksBefore}
+use Rattle.breach_lists.proofs.marks.marks_by_number.Given as goal
 
 abbrev pub invariant-places : goal.invariant-places
 invariant-places l = record {
