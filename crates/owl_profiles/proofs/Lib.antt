@@ -1,0 +1,4 @@
+pub mod Assembling
+pub mod Judging
+pub mod ProfileLaws
+pub mod WorkedCases

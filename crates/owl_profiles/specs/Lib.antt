@@ -1,0 +1,5 @@
+pub mod Rules
+pub mod Profiles
+pub mod Listing
+pub mod Facts
+pub mod Lacking
