@@ -4,8 +4,6 @@ use Rattle.std.proofs.lemmas.List.{length-map}
 use Rattle.std.proofs.lemmas.Option.{same_Some, slice_get_cases}
 use Rattle.std.specs.List.{AllByRecursion, AllZip}
 use Rattle.std.specs.Prelude.{Contains}
-use Rattle.dl_rules.specs.declared.rule.DlRule.{DlRule}
-use Rattle.dl_rules.specs.Rules.{BreaksAt}
 use Rattle.owl_breaches.specs.Sites.{Ontologies, Site, sites}
 use Rattle.owl_breaches.proofs.ThoseLaws.{those_once}
 use Rattle.owl_close.specs.Imports.{AreReached, Reaches}
@@ -19,6 +17,7 @@ use Rattle.owl_messages.specs.Outcome.{Outcome}
 use Rattle.owl_messages.specs.Verdicts.{verdict}
 use Rattle.owl_tree.specs.Ontologies.{Ontology, canonical_ontology}
 use Rattle.owl_tree.proofs.OntologyLaws.{canonical_ontology_again}
+use Rattle.owl_profiles.specs.Profiles.{Breaks, ProfileRule}
 use Rattle.owl_answer.specs.Checks.{AreBreaches, HasFormAt, IsChecked, IsImportClosure, rules_of}
 use Rattle.owl_answer.specs.KindsAt.{AreClosureKinds}
 use Rattle.owl_answer.specs.Outcome.{heads_in}
@@ -79,14 +78,14 @@ closures_once documents places others c d h k =
     (subst (λ (ks : List Entity). AllZip (HasFormAt documents ks) places c.all) kinds h.say) in
     (same, closure_is c d (forms_once documents d.kinds others c.all d.all say k.say) kinds)
 
-verdict_is : (profile : Profile) (places others : List ℕ) (found theirs : List (Site DlRule)) → places ≡ others → found ≡ theirs → verdict profile places found ≡ verdict profile others theirs
+verdict_is : (profile : Profile) (places others : List ℕ) (found theirs : List (Site ProfileRule)) → places ≡ others → found ≡ theirs → verdict profile places found ≡ verdict profile others theirs
 verdict_is profile places others found theirs e f = λ i. verdict profile (e i) (f i)
 
 pub checked_once : (profile : Profile) (documents : List Parsed) (a b : Outcome) → IsChecked profile documents a → IsChecked profile documents b → a ≡ b
 checked_once profile documents a b h k =
     let one = closures_once documents h.places k.places h.closure k.closure h.is k.is in
     let are : AreBreaches profile k.closure h.breaches = subst (λ (c : Ontologies). AreBreaches profile c h.breaches) one.1 h.are in
-    let found : h.breaches ≡ k.breaches = those_once (BreaksAt k.closure) (sites (rules_of profile) k.closure.all) h.breaches k.breaches are k.are in
+    let found : h.breaches ≡ k.breaches = those_once (λ (s : Site ProfileRule). Breaks k.closure s.rule s.ontology s.part) (sites (rules_of profile) k.closure.all) h.breaches k.breaches are k.are in
     let same = verdict_is profile h.places k.places h.breaches k.breaches one.0 found in
     limited_once (λ o. o ≡ verdict profile h.places h.breaches) (λ o. o ≡ verdict profile k.places k.breaches) (λ x y e f. e ∙ same ∙ sym f) a b h.told k.told
 

@@ -1,22 +1,26 @@
 -- A check answers yes exactly where the import closure is in the profile.
-use Rattle.std.proofs.Common.{◌≡◌, ℕ, Bool, List, [], ◌∷◌, refl, sym, ap, ◌∙◌, subst, arith}
+use Rattle.std.proofs.Common.{◌≡◌, ℕ, Bool, Option, None, Some, List, [], ◌∷◌, map, refl, sym, ap, ◌∙◌, subst, arith}
 use Rattle.std.proofs.lemmas.Option.{same_Some}
 use Rattle.std.specs.Prelude.{◌↔◌}
-use Rattle.dl_rules.specs.declared.rule.DlRule.{DlRule}
 use Rattle.dl_rules.proofs.BreachLaws.{in_dl_unless_broken}
-use Rattle.owl_breaches.specs.Sites.{Ontologies, Site}
+use Rattle.dl_rules.specs.Rules.{dl_rules}
+use Rattle.owl_breaches.specs.Sites.{Ontologies, Site, sites}
+use Rattle.owl_breaches.specs.Those.{AreThose, none}
+use Rattle.owl_breaches.proofs.OneLaws.{through}
 use Rattle.owl_close.specs.Imports.{main}
 use Rattle.owl_command.specs.Commands.{Request, of_main}
 use Rattle.owl_command.specs.declared.command.Action.TheVariants.{Check}
 use Rattle.owl_command.specs.declared.command.Profile.{Profile}
-use Rattle.owl_command.specs.declared.command.Profile.TheVariants.{Dl}
 use Rattle.owl_command.specs.declared.status.Status.{Status}
 use Rattle.owl_command.specs.declared.status.Status.TheVariants.{Done}
 use Rattle.owl_documents.specs.Documents.{Contents, Parsed}
 use Rattle.owl_kind.specs.Kinds.{Entity}
 use Rattle.owl_messages.specs.Outcome.{IsLimited, Outcome, fits, passes}
 use Rattle.owl_messages.specs.Verdicts.{verdict}
-use Rattle.owl_answer.specs.Checks.{AreBreaches, IsChecked, IsImportClosure, IsIn}
+use Rattle.owl_profiles.specs.declared.rules.Profile.{Profile as Further}
+use Rattle.owl_profiles.specs.Profiles.{ProfileRule, of_dl}
+use Rattle.owl_profiles.proofs.ProfileLaws.{BreaksSo, dl_none, none_of_both, own_none}
+use Rattle.owl_answer.specs.Checks.{AreBreaches, IsChecked, IsImportClosure, IsIn, KeepsFurther, further_of, further_rules}
 use Rattle.owl_answer.specs.InProfile.{IsInProfile}
 use Rattle.owl_answer.specs.Outcome.{IsSuccess, IsTheOutcome}
 use Rattle.owl_answer.specs.Runs.{Becomes, all_read, all_say, misses_import, not_read, says_nothing}
@@ -25,15 +29,23 @@ use Rattle.owl_answer.proofs.Checks.{form_at, forms_canonical}
 use Rattle.owl_answer.proofs.Closures.{closure_once}
 use Rattle.owl_answer.proofs.Lines.{refused_fails, unsaid_fails}
 
+-- what a profile asks besides OWL 2 DL is kept exactly where none of its rules is broken
+further_kept : (o : Option Further) (closure : Ontologies) → KeepsFurther o closure ↔ AreThose (BreaksSo closure) (sites (further_rules o) closure.all) []
+further_kept None closure = ((λ h. none), (λ h. tt))
+further_kept (Some profile) closure = own_none closure profile
+
 -- nothing breaks a rule exactly where the closure is in the profile
 within_or_broken : (profile : Profile) (documents : List Parsed) (places : List ℕ) (closure : Ontologies) → IsImportClosure documents places closure → IsIn profile closure ↔ AreBreaches profile closure []
-within_or_broken Dl documents places closure is = in_dl_unless_broken closure (forms_canonical documents closure.kinds places closure.all is.say)
+within_or_broken profile documents places closure is =
+    let dl = through (in_dl_unless_broken closure (forms_canonical documents closure.kinds places closure.all is.say)) (dl_none closure) in
+    let more = further_kept (further_of profile) closure in
+    through ((λ h. (dl.0 h.0, more.0 h.1)), (λ h. (dl.1 h.0, more.1 h.1))) (none_of_both closure (map of_dl dl_rules) (further_rules (further_of profile)))
 
 done_succeeds : (status : Status) → status ≡ Done → IsSuccess status
 done_succeeds status e = subst IsSuccess (sym e) tt
 
 -- a verdict is yes where there are no breaches
-none_found : (profile : Profile) (places : List ℕ) (found : List (Site DlRule)) → (verdict profile places found).status ≡ Done → found ≡ []
+none_found : (profile : Profile) (places : List ℕ) (found : List (Site ProfileRule)) → (verdict profile places found).status ≡ Done → found ≡ []
 none_found profile places [] e = refl
 none_found profile places (breach ∷ more) e = absurd (cc)
 

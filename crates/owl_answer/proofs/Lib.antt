@@ -1,5 +1,6 @@
 pub mod Agreement
 pub mod Answering
+pub mod BreachLists
 pub mod Checks
 pub mod Closures
 pub mod Concluding

@@ -6,7 +6,6 @@ use Rattle.owl_command.specs.declared.command.Action.{Action}
 use Rattle.owl_command.specs.declared.command.Action.TheVariants.{Translate, Check, Show}
 use Rattle.owl_command.specs.declared.command.Profile.{Profile}
 use Rattle.owl_breaches.specs.Sites.{Site}
-use Rattle.dl_rules.specs.declared.rule.DlRule.{DlRule}
 use Rattle.owl_kind.specs.Kinds.{Entity}
 use Rattle.owl_command.specs.declared.command.Target.{Target}
 use Rattle.owl_command.specs.declared.command.Target.TheVariants.{Fss, Ttl}
@@ -14,6 +13,7 @@ use Rattle.owl_command.specs.declared.status.Status.TheVariants.{Done}
 use Rattle.owl_documents.specs.Documents.{Parsed, Said, a_graph, an_ontology, IsProperRefusal}
 use Rattle.owl_documents.specs.declared.trouble.Refusal.{Refusal}
 use Rattle.owl_documents.specs.declared.trouble.Refusal.TheVariants.{DocumentBytes, AllBytes, Unreadable, Headless}
+use Rattle.owl_profiles.specs.Profiles.{ProfileRule}
 use Rattle.owl_answer.specs.Outcome.{IsComparison, IsSuccess, agree, differ}
 use Rattle.owl_answer.specs.Checks.{IsChecked}
 use Rattle.owl_messages.specs.Refusals.{two_kinds, undeclared, unsayable}
@@ -108,7 +108,7 @@ compared_told : (first second : List ℕ) (a b : Said) (outcome : Outcome) → I
 compared_told first second a b outcome (agree h e) = done_told (compares first second) agreement (record { found = tt; no_text = tt }) refl outcome e
 compared_told first second a b outcome (differ h e) = done_told (compares first second) difference (record { found = tt; no_text = tt }) refl outcome e
 
-verdict_told : (profile : Profile) (partial : Bool) (names : List (List ℕ)) (places : List ℕ) (found : List (Site DlRule)) → IsTold (of_main (Check profile) partial names) (verdict profile places found)
+verdict_told : (profile : Profile) (partial : Bool) (names : List (List ℕ)) (places : List ℕ) (found : List (Site ProfileRule)) → IsTold (of_main (Check profile) partial names) (verdict profile places found)
 verdict_told profile partial names places [] = record { proper = record { found = tt; no_text = tt }; line = λ IsCause. of_success refl }
 verdict_told profile partial names places (breach ∷ more) =
     record { proper = record { found = tt; no_text = tt }; line = λ IsCause. of_success (suc (length more), refl) }

@@ -26,7 +26,7 @@ use Rattle.rdf_reverse.specs.declared.fault.ReverseFault.TheVariants.{Memory}
 use Rattle.owl_answer.specs.KindsAt.{IsClosure}
 use Rattle.owl_answer.specs.Checks.{HasFormAt}
 use Rattle.owl_answer.specs.Outcome.{heads_in}
-use Rattle.owl_answer.specs.Reading.{AllSayAt, IsFaultAt, IsFirstFault, IsReadBefore, IsSaidAt, SaysNext, SaysSomeAt}
+use Rattle.owl_answer.specs.Reading.{AllSayAt, IsFaultAt, IsFirstFault, IsSaidAt, SaysNext, SaysSomeAt}
 use Rattle.owl_answer.specs.UnderKinds.{SaysUnder}
 use Rattle.owl_answer.specs.declared.closure.Closure.{Closure}
 
@@ -125,6 +125,15 @@ past_ahead place after ahead never =
       | inl same ↦ absurd (apart same)
       | inr order ↦ elim order as (λ _. place + 1 ≤ other) [ inl less ↦ omega (arith, less) | inr more ↦ omega (arith, least, more) ]
     ])
+
+-- what was read of the documents before this place: those of them whose places are among these say this, one by one
+pub record IsReadBefore (documents : List Parsed) (kinds : List Entity) (places : List ℕ) (place : ℕ) (ds : List doc.Document) : Type 0 where
+  pub before : List ℕ
+  pub after : List ℕ
+  pub split : places ≡ before ++ after
+  pub passed : AllByRecursion (λ other. other < place) before
+  pub ahead : AllByRecursion (λ other. place ≤ other) after
+  pub say : AllSayAt documents kinds before ds
 
 module _ (documents : List Parsed) (kinds : List Entity) where
   pub some_said : (place : ℕ) (d : doc.Document) → IsSaidAt documents kinds place d → SaysSomeAt documents kinds place

@@ -6,9 +6,8 @@ use Rattle.owl_command.specs.declared.command.Action.{Action}
 use Rattle.owl_command.specs.declared.command.Action.TheVariants.{Translate}
 use Rattle.owl_command.specs.declared.command.Profile.{Profile}
 use Rattle.owl_command.specs.declared.command.Target.TheVariants.{Fss}
-use Rattle.dl_rules.specs.declared.rule.DlRule.{DlRule}
 use Rattle.owl_breaches.specs.Sites.{Site}
-use Rattle.owl_dl.specs.Listing.{ontologies_of}
+use Rattle.breach_lists.specs.Telling.{ontologies_of}
 use Rattle.owl_doc.specs.Closures.{ImportClosure}
 use Rattle.owl_doc.specs.declared.item.Breach.{Breach}
 use Rattle.owl_doc.specs.Documents as doc
@@ -17,6 +16,7 @@ use Rattle.owl_documents.specs.Documents.{Parsed, Said, a_graph, an_ontology, sa
 use Rattle.owl_kind.specs.Kinds.{Entity}
 use Rattle.owl_messages.specs.Outcome.{IsLimited, Outcome, translation}
 use Rattle.owl_messages.specs.Verdicts.{verdict}
+use Rattle.owl_profiles.specs.Profiles.{ProfileRule}
 use Rattle.owl_answer.specs.Answers.{IsToldOf, IsToldOfMain}
 use Rattle.owl_answer.specs.Checking.{TellBreaches}
 use Rattle.owl_answer.specs.Checks.{HasFormAt, IsChecked}
@@ -53,7 +53,7 @@ module _ (action : Action) (documents : List Parsed) (closure : Closure) (ds : L
       }
 
 -- the same places are told alike
-pub limited_by : (profile : Profile) (places others : List ℕ) (breaches : List (Site DlRule)) → others ≡ places → (outcome : Outcome) → IsLimited (λ wanted. wanted ≡ verdict profile others breaches) outcome → IsLimited (λ wanted. wanted ≡ verdict profile places breaches) outcome
+pub limited_by : (profile : Profile) (places others : List ℕ) (breaches : List (Site ProfileRule)) → others ≡ places → (outcome : Outcome) → IsLimited (λ wanted. wanted ≡ verdict profile others breaches) outcome → IsLimited (λ wanted. wanted ≡ verdict profile places breaches) outcome
 limited_by profile places others breaches same outcome h = subst (λ (ps : List ℕ). IsLimited (λ wanted. wanted ≡ verdict profile ps breaches) outcome) same h
 
 -- what a check tells of what was read

@@ -1,5 +1,5 @@
 -- What reading documents under kinds finds.
-use Rattle.std.specs.Prelude.{◌≡◌, ◌≢◌, ◌≤◌, ◌<◌, ◌⊎◌, ◌++◌, ℕ, Bool, true, false, List, [], ◌∷◌, Some, Contains, slice_get}
+use Rattle.std.specs.Prelude.{◌≡◌, ◌≢◌, ◌⊎◌, ◌++◌, ℕ, Bool, true, false, List, [], ◌∷◌, Some, Contains, slice_get}
 use Rattle.std.specs.List.{AllByRecursion, AllZip}
 use Rattle.owl_doc.specs.Documents as doc
 use Rattle.owl_documents.specs.Documents.{Parsed, Said, a_graph, an_ontology, said_of}
@@ -67,15 +67,6 @@ pub record IsSaidAt (documents : List Parsed) (kinds : List Entity) (place : ℕ
 -- the documents at these places say this, one by one
 abbrev pub AllSayAt : List Parsed → List Entity → List ℕ → List doc.Document → Type 0
 AllSayAt documents kinds places ds = AllZip (IsSaidAt documents kinds) places ds
-
--- what was read of the documents before this place: those of them whose places are among these say this, one by one
-pub record IsReadBefore (documents : List Parsed) (kinds : List Entity) (places : List ℕ) (place : ℕ) (ds : List doc.Document) : Type 0 where
-  pub before : List ℕ
-  pub after : List ℕ
-  pub split : places ≡ before ++ after
-  pub passed : AllByRecursion (λ other. other < place) before
-  pub ahead : AllByRecursion (λ other. place ≤ other) after
-  pub say : AllSayAt documents kinds before ds
 
 -- a document that stands at this place says something
 abbrev pub SaysSomeAt : List Parsed → List Entity → ℕ → Type 0

@@ -4,7 +4,7 @@ ghost use Rattle.std.specs.Prelude.{◌≡◌, List, IfOk, length};
 ghost use Rattle.owl_documents.specs.Documents.{Parsed};
 ghost use Rattle.owl_messages.specs.Answers.{outcome_of};
 ghost use Rattle.owl_answer.specs.Checking.{TellBreaches};
-ghost use Rattle.owl_answer.specs.Checks.{IsChecked};
+ghost use Rattle.owl_answer.specs.Checks.{IsChecked, further_of};
 ghost use Rattle.owl_answer.specs.KindsAt.{IsClosure};
 ghost use Rattle.owl_answer.specs.Reading.{AllSayAt};
 
@@ -13,6 +13,7 @@ use owl_characters::NoMemory;
 use owl_command::Profile;
 use owl_doc::{Breach, Closure as ImportClosure, Doc};
 use owl_messages::{Answer, verdict};
+use owl_profiles::Profile as Further;
 use std::alloc::Global;
 
 /// What a check tells of the documents of a closure, which say this.
@@ -33,7 +34,8 @@ pub fn check(
     verdict(alloc, profile, &documents, &places, &found)
 }
 
-/// Each rule of the profile with each part of the documents that breaks it.
+/// Each rule of the profile with each part of the documents that breaks it: those of
+/// OWL 2 DL, and behind them what the profile asks besides.
 fn breaches(
     alloc: Global,
     profile: Profile,
@@ -41,7 +43,23 @@ fn breaches(
 ) -> Result<Vec<Breach>, NoMemory>
     ensures { IfOk result (λ found. TellBreaches profile closure.now found.items) }
 {
+    let mut found = owl_dl::breaches(alloc, closure)?;
+    let Some(further) = further(profile) else {
+        return Ok(found);
+    };
+    let more = owl_profiles::breaches(alloc, closure, further)?;
+    found.extend_from_slice(&more)?;
+    Ok(found)
+}
+
+/// The profile besides OWL 2 DL.
+fn further(profile: Profile) -> Option<Further>
+    ensures { result ≡ further_of profile }
+{
     match profile {
-        Profile::Dl => owl_dl::breaches(alloc, closure),
+        Profile::Dl => None,
+        Profile::El => Some(Further::El),
+        Profile::Ql => Some(Further::Ql),
+        Profile::Rl => Some(Further::Rl),
     }
 }

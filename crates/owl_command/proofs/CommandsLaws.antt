@@ -1,11 +1,11 @@
 -- Words ask for one thing.
-use Rattle.std.proofs.Common.{◌≡◌, ℕ, Bool, false, true, List, [], ◌∷◌, ◌++◌, codes, nat_eq, refl, ap, sym, ◌∙◌, subst}
+use Rattle.std.proofs.Common.{◌≡◌, ℕ, Bool, false, true, List, [], ◌∷◌, ◌++◌, codes, nat_eq, if◌then◌else◌, refl, ap, sym, ◌∙◌, subst}
 use Rattle.std.specs.List.{AllByRecursion}
 use Rattle.owl_command.specs.Commands.{Asks, IsName, Request, action_words, compares, flag_words, names_of, of_main, profile_word, target_word, words_of}
 use Rattle.owl_command.specs.declared.command.Action.{Action}
 use Rattle.owl_command.specs.declared.command.Action.TheVariants.{Translate, Check, Show}
 use Rattle.owl_command.specs.declared.command.Profile.{Profile}
-use Rattle.owl_command.specs.declared.command.Profile.TheVariants.{Dl}
+use Rattle.owl_command.specs.declared.command.Profile.TheVariants.{Dl, El, Ql, Rl}
 use Rattle.owl_command.specs.declared.command.Target.{Target}
 use Rattle.owl_command.specs.declared.command.Target.TheVariants.{Fss, Ttl}
 
@@ -45,9 +45,19 @@ target_once Fss Ttl e = let h : true ≡ false = ap (λ (w : List ℕ). nat_eq (
 target_once Ttl Fss e = let h : false ≡ true = ap (λ (w : List ℕ). nat_eq (first_letter w) 102) e in absurd (cc)
 target_once Ttl Ttl e = refl
 
--- and one profile
+-- the profile whose word has this first letter
+abbrev by_letter : ℕ → Profile
+by_letter c = if nat_eq c 100 then Dl else if nat_eq c 101 then El else if nat_eq c 113 then Ql else Rl
+
+by_word : (profile : Profile) → by_letter (first_letter (profile_word profile)) ≡ profile
+by_word Dl = refl
+by_word El = refl
+by_word Ql = refl
+by_word Rl = refl
+
+-- so a word names one profile
 pub profile_once : (one other : Profile) → profile_word one ≡ profile_word other → one ≡ other
-profile_once Dl Dl e = refl
+profile_once one other e = sym (by_word one) ∙ (ap (λ (word : List ℕ). by_letter (first_letter word)) e ∙ by_word other)
 
 -- first words are those of one action, with what stands behind them
 pub actions_once : (one other : Action) (behind rest : List (List ℕ)) → action_words one ++ behind ≡ action_words other ++ rest → (one ≡ other) × (behind ≡ rest)

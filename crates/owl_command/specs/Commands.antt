@@ -5,7 +5,7 @@ use Rattle.std.specs.Str.{encode_utf8_all}
 use Rattle.owl_command.specs.declared.command.Target.{Target}
 use Rattle.owl_command.specs.declared.command.Target.TheVariants.{Fss, Ttl}
 use Rattle.owl_command.specs.declared.command.Profile.{Profile}
-use Rattle.owl_command.specs.declared.command.Profile.TheVariants.{Dl}
+use Rattle.owl_command.specs.declared.command.Profile.TheVariants.{Dl, El, Ql, Rl}
 use Rattle.owl_command.specs.declared.command.Action.{Action}
 use Rattle.owl_command.specs.declared.command.Action.TheVariants.{Translate, Check, Show}
 use Rattle.owl_command.specs.declared.command.Command.{Command}
@@ -67,6 +67,9 @@ target_word Ttl = codes "ttl"
 -- the word of a profile
 abbrev pub profile_word : Profile → List ℕ
 profile_word Dl = codes "dl"
+profile_word El = codes "el"
+profile_word Ql = codes "ql"
+profile_word Rl = codes "rl"
 
 -- the first words of an action
 abbrev pub action_words : Action → List (List ℕ)

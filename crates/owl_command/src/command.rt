@@ -23,6 +23,12 @@ pub enum Target {
 pub enum Profile {
     /// OWL 2 DL.
     Dl,
+    /// OWL 2 EL.
+    El,
+    /// OWL 2 QL.
+    Ql,
+    /// OWL 2 RL.
+    Rl,
 }
 
 impl Profile {
@@ -32,6 +38,9 @@ impl Profile {
     {
         match self {
             Profile::Dl => "dl",
+            Profile::El => "el",
+            Profile::Ql => "ql",
+            Profile::Rl => "rl",
         }
     }
 }
@@ -186,6 +195,12 @@ fn named_profile(word: &str) -> Option<Profile>
 {
     if is_word(word, "dl") {
         Some(Profile::Dl)
+    } else if is_word(word, "el") {
+        Some(Profile::El)
+    } else if is_word(word, "ql") {
+        Some(Profile::Ql)
+    } else if is_word(word, "rl") {
+        Some(Profile::Rl)
     } else {
         None
     }

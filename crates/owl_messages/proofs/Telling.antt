@@ -9,20 +9,19 @@ use Rattle.std.proofs.lemmas.Bool.Decides.{nat_tests}
 use Rattle.std.proofs.lemmas.List.{append_assoc}
 use Rattle.std.proofs.lemmas.List.Folds.{list_all-append}
 use Rattle.std.proofs.lemmas.Slice.Zip.{AllZip-long}
-use Rattle.dl_rules.specs.declared.rule.DlRule.{DlRule}
-use Rattle.dl_rules.specs.Rules.{number_of}
+use Rattle.breach_lists.specs.Telling.{Tells}
 use Rattle.owl_breaches.specs.Sites.{Site}
 use Rattle.owl_characters.specs.Iri.{is_ascii}
 use Rattle.owl_characters.specs.Limit.{most_bytes}
 use Rattle.owl_characters.proofs.Utf8Laws.{size_append, size_is}
 use Rattle.owl_command.specs.declared.command.Profile.{Profile}
 use Rattle.owl_command.specs.declared.status.Status.TheVariants.{No}
-use Rattle.owl_dl.specs.Listing.{Tells}
 use Rattle.owl_doc.specs.declared.item.Breach.{Breach}
 use Rattle.owl_doc.specs.declared.rule.Rule.{Rule}
 use Rattle.owl_doc.specs.declared.rule.Rule.TheVariants.{Dl, El, Ql, Rl}
 use Rattle.owl_doc.specs.Documents.{Document}
 use Rattle.owl_doc.specs.Rules.{rule_name}
+use Rattle.owl_profiles.specs.Profiles.{ProfileRule, name_of}
 use Rattle.owl_writing.specs.Limits.{IsTooLong}
 use Rattle.owl_writing.proofs.DraftLaws.{too_long_in_bytes}
 use Rattle.owl_messages.specs.Outcome.{IsLimited, Outcome, fits, passes, too_long_output}
@@ -72,31 +71,31 @@ joined : (a b c d e f : List ℕ) → (a ++ (b ++ (c ++ d))) ++ (e ++ f) ≡ a +
 joined a b c d e f = simp append_assoc
 
 module _ (docs : List Document) (places : List ℕ) where
-  part_told : (s : Site DlRule) (b : Breach) → Tells docs s b → held_text (slice_get docs b.document) b.item ≡ part_text s.part
+  part_told : (s : Site ProfileRule) (b : Breach) → Tells name_of docs s b → held_text (slice_get docs b.document) b.item ≡ part_text s.part
   part_told s b t =
       ap (λ (place : ℕ). held_text (slice_get docs place) b.item) t.document
       ∙ ap (λ (d : Option Document). held_text d b.item) t.is
       ∙ ap part_text t.part
 
-  line_told : (s : Site DlRule) (b : Breach) → Tells docs s b → found_line docs places b ≡ breach_line places s
+  line_told : (s : Site ProfileRule) (b : Breach) → Tells name_of docs s b → found_line docs places b ≡ breach_line places s
   line_told s b t =
       ap (λ (part : List ℕ). part_line b.rule (get_or places b.document 0) part) (part_told s b t)
       ∙ ap (λ (rule : Rule). part_line rule (get_or places b.document 0) (part_text s.part)) t.rule
-      ∙ ap (λ (place : ℕ). part_line (Dl (number_of s.rule)) (get_or places place 0) (part_text s.part)) t.document
-      ∙ joined (rule_name (Dl (number_of s.rule))) (codes " ") (decimal (get_or places s.place 0 + 1)) (codes " ") (part_text s.part) (codes "\n")
+      ∙ ap (λ (place : ℕ). part_line (name_of s.rule) (get_or places place 0) (part_text s.part)) t.document
+      ∙ joined (rule_name (name_of s.rule)) (codes " ") (decimal (get_or places s.place 0 + 1)) (codes " ") (part_text s.part) (codes "\n")
 
-  each_told : (breaches : List (Site DlRule)) (found : List Breach) → AllZip (Tells docs) breaches found → flat_map (found_line docs places) found ≡ breach_lines places breaches
+  each_told : (breaches : List (Site ProfileRule)) (found : List Breach) → AllZip (Tells name_of docs) breaches found → flat_map (found_line docs places) found ≡ breach_lines places breaches
   each_told [] [] h = refl
   each_told [] (b ∷ bs) h = elim h [ ]
   each_told (s ∷ ss) [] h = elim h [ ]
   each_told (s ∷ ss) (b ∷ bs) h =
       ap (λ (x : List ℕ). x ++ flat_map (found_line docs places) bs) (line_told s b h.0) ∙ ap (λ (x : List ℕ). breach_line places s ++ x) (each_told ss bs h.1)
 
-  pub lines_told : (breaches : List (Site DlRule)) (found : List Breach) → AllZip (Tells docs) breaches found → found_lines docs places found ≡ codes "no\n" ++ breach_lines places breaches
+  pub lines_told : (breaches : List (Site ProfileRule)) (found : List Breach) → AllZip (Tells name_of docs) breaches found → found_lines docs places found ≡ codes "no\n" ++ breach_lines places breaches
   lines_told breaches found h = ap (λ (x : List ℕ). codes "no\n" ++ x) (each_told breaches found h)
 
 -- each part stands where it is told
-pub held_told : (docs : List Document) (breaches : List (Site DlRule)) (found : List Breach) → AllZip (Tells docs) breaches found → All (IsHeldBreach docs) found
+pub held_told : (docs : List Document) (breaches : List (Site ProfileRule)) (found : List Breach) → AllZip (Tells name_of docs) breaches found → All (IsHeldBreach docs) found
 held_told docs [] [] h k d l = absurd (omega arith)
 held_told docs [] (b ∷ bs) h k d l = elim h [ ]
 held_told docs (s ∷ ss) [] h k d l = elim h [ ]
@@ -106,20 +105,20 @@ held_told docs (s ∷ ss) (b ∷ bs) h (suc k) d l = held_told docs ss bs h.1 k 
 -- what is told of breaches
 
 module _ (profile : Profile) (docs : List Document) (places : List ℕ) where
-  abbrev pub IsAnswer : List (Site DlRule) → Outcome → Type 0
+  abbrev pub IsAnswer : List (Site ProfileRule) → Outcome → Type 0
   IsAnswer breaches answer = IsLimited (λ wanted. wanted ≡ verdict profile places breaches) answer
 
-  pub answered : (breaches : List (Site DlRule)) (found : List Breach) (text : List ℕ) (answer : Outcome) → AllZip (Tells docs) breaches found → nat_eq (length found) 0 ≡ false
+  pub answered : (breaches : List (Site ProfileRule)) (found : List Breach) (text : List ℕ) (answer : Outcome) → AllZip (Tells name_of docs) breaches found → nat_eq (length found) 0 ≡ false
       → answer ≡ record { status = No; text = encode_utf8_all text; line = no_line profile (length found) } → text ≡ found_lines docs places found → length (encode_utf8_all text) ≤ most_bytes → IsAnswer breaches answer
   answered [] [] text answer h some e is within = absurd (cc)
   answered [] (b ∷ bs) text answer h some e is within = elim h [ ]
   answered (s ∷ ss) [] text answer h some e is within = elim h [ ]
   answered (s ∷ ss) (b ∷ bs) text answer h some e is within =
       let same = ap encode_utf8_all (is ∙ lines_told docs places (s ∷ ss) (b ∷ bs) h) in
-      let count = ap (no_line profile) (AllZip-long (Tells docs) (s ∷ ss) (b ∷ bs) h) in
+      let count = ap (no_line profile) (AllZip-long (Tells name_of docs) (s ∷ ss) (b ∷ bs) h) in
       fits (cc) (subst (λ (o : Outcome). length o.text ≤ most_bytes) (sym e) within)
 
-  pub too_long_told : (breaches : List (Site DlRule)) (found : List Breach) (answer : Outcome) → AllZip (Tells docs) breaches found → nat_eq (length found) 0 ≡ false
+  pub too_long_told : (breaches : List (Site ProfileRule)) (found : List Breach) (answer : Outcome) → AllZip (Tells name_of docs) breaches found → nat_eq (length found) 0 ≡ false
       → answer ≡ too_long_output → IsTooLong (found_lines docs places found) → IsAnswer breaches answer
   too_long_told [] [] answer h some e long = absurd (cc)
   too_long_told [] (b ∷ bs) answer h some e long = elim h [ ]

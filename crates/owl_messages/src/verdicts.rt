@@ -3,16 +3,16 @@
 ghost use Rattle.std.specs.Prelude.{◌≡◌, ◌≤◌, ◌++◌, List, [], length, IfOk, IsErrOf, OnOk};
 ghost use Rattle.std.specs.List.{All, AllZip};
 ghost use Rattle.std.specs.Str.{encode_utf8_all};
-ghost use Rattle.dl_rules.specs.declared.rule.DlRule.{DlRule};
+ghost use Rattle.breach_lists.specs.Telling.{Tells};
 ghost use Rattle.owl_breaches.specs.Sites.{Site};
 ghost use Rattle.owl_characters.specs.Limit.{most_bytes};
-ghost use Rattle.owl_dl.specs.Listing.{Tells};
 ghost use Rattle.owl_doc.specs.Entities.{IsHeldItem};
 ghost use Rattle.owl_doc.specs.Parts.{part_at};
 ghost use Rattle.owl_messages.specs.Answers.{outcome_of};
 ghost use Rattle.owl_messages.specs.Outcome.{IsLimited};
 ghost use Rattle.owl_messages.specs.VerdictLines.{IsHeldBreach, found_line, found_lines, line_front, part_line};
 ghost use Rattle.owl_messages.specs.Verdicts.{no_line, part_text, verdict};
+ghost use Rattle.owl_profiles.specs.Profiles.{ProfileRule, name_of};
 ghost use Rattle.owl_writing.specs.Limits.{IsTooLong};
 
 use crate::answer::{Answer, too_long_output};
@@ -34,10 +34,10 @@ pub fn verdict(
     found: &[Breach],
 ) -> Result<Answer, NoMemory>
     requires places { length places.now ≡ length closure.now.documents }
-    requires found { (breaches : List (Site DlRule))
-        × AllZip (Tells closure.now.documents) breaches found.now }
-    ensures { IfOk result (λ answer. (breaches : List (Site DlRule)) →
-        AllZip (Tells closure.now.documents) breaches found.now →
+    requires found { (breaches : List (Site ProfileRule))
+        × AllZip (Tells name_of closure.now.documents) breaches found.now }
+    ensures { IfOk result (λ answer. (breaches : List (Site ProfileRule)) →
+        AllZip (Tells name_of closure.now.documents) breaches found.now →
         IsLimited (λ wanted. wanted ≡ verdict profile places.now breaches) (outcome_of answer)) }
 {
     if found.is_empty() {

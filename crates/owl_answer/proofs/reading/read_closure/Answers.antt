@@ -4,8 +4,7 @@ use Rattle.std.proofs.lemmas.Option.{slice_get_within}
 use Rattle.std.specs.Vec.Iter.{into_iter_items}
 use Rattle.owl_doc.specs.Documents as doc
 use Rattle.owl_documents.specs.Documents.{parsed_of}
-use Rattle.owl_answer.specs.Reading.{IsReadBefore}
-use Rattle.owl_answer.proofs.Readings.{all_read, fault_found, left_at, none_left, none_read, read_at, some_documents}
+use Rattle.owl_answer.proofs.Readings.{IsReadBefore, all_read, fault_found, left_at, none_left, none_read, read_at, some_documents}
 use Rattle.owl_answer.proofs.Wanting.{parsed_at}
 use Rattle.owl_answer.proofs.reading.read_closure.Goals as goal
 

@@ -1,7 +1,7 @@
 use Rattle.std.proofs.Common.{◌≡◌, ◌≤◌, drop, length, map}
 use Rattle.std.specs.Vec.Iter.{into_iter_items, into_iter_len}
 use Rattle.owl_documents.specs.Documents.{parsed_of}
-use Rattle.owl_answer.specs.Reading.{IsReadBefore}
+use Rattle.owl_answer.proofs.Readings.{IsReadBefore}
 use Rattle.owl_answer.proofs.reading.read_closure.Given as goal
 
 -- what was read, and what is left
