@@ -1,16 +1,20 @@
 #!/usr/bin/env python3
-"""Compares owl with a second reading of the rules of OWL 2 DL, on random closures.
+"""Compares owl with a second reading of the rules of OWL 2 DL, EL, QL and RL, on random closures.
 
 profiles.py [COUNT [SEED [PROGRAM]]]: so many calls, 500 if left out, each of one to three
-documents, made for what the rules look at, and behind a few that have each literal, facet
-and built-in name. Some name a document that is not reached, or miss an import, with
---partial or without, and some documents are in Turtle, as the second mapping draws them.
-The program, bin/owl if left out, has to end with the status, the output and the line of
-the second reading.
+documents and for one of the four profiles, made for what its rules look at, and behind a
+few that have each literal, facet and built-in name, for each profile. Some name a document
+that is not reached, or miss an import, with --partial or without, and some documents are
+in Turtle, as the second mapping draws them. The program, bin/owl if left out, has to end
+with the status, the output and the line of the second readings.
+
+profiles.py --axioms COUNT [SEED [PROGRAM]] does the same with at least so many axioms, in
+documents of some 500 that each are checked for EL, QL or RL in turn.
 
 profiles.py --cases FOLDER COUNT SEED writes single documents into FOLDER, and into
-FOLDER.expected what has to be told of each: a line for each breach, and their number.
-profiles.py --compare FOLDER OUTPUT compares what was told, each behind a line `== NAME`.
+FOLDER.expected what has to be told of each by the rules of DL: a line for each breach, and
+their number. profiles.py --compare FOLDER OUTPUT compares what was told, each behind a
+line `== NAME`.
 """
 
 import copy
@@ -24,6 +28,7 @@ import sys
 import tempfile
 
 import second_rules
+import second_sorts
 from mapping import AXIOMS, CLASSES, KINDS, RANGES, RESERVED, Maker
 from second_mapping import NAMES_BUILT_IN, Document, Kinds, normal_form, reached, translation, undeclared, unsayable
 
@@ -130,6 +135,69 @@ WRONG_FORMS = ['""^^xsd:integer', '" 1"^^xsd:integer', '"1\n"^^xsd:integer', '""
 WRONG_TYPES = [f'"1"^^{name}' for name in ("xsd:date", ":T", ":U", "rdfs:Literal", "owl:Thing", ":undeclared")]
 FITTING = ["xsd:integer xsd:minInclusive", "xsd:string xsd:length", "rdf:PlainLiteral rdf:langRange"]
 FITTING += ["owl:real xsd:maxExclusive", "xsd:anyURI xsd:pattern", "xsd:hexBinary xsd:maxLength"]
+
+# What EL, QL and RL let stand, by words for what their grammars tell apart. The first of each is a name.
+
+VALUES = "ObjectHasValue({p} {i})|DataHasValue({q} {literal})"
+ABOVE = "ObjectPropertyDomain({p} {above})|ObjectPropertyRange({p} {above})|DataPropertyDomain({q} {above})"
+COMMON = """Declaration({entity})|SubObjectPropertyOf({p} {p})|EquivalentObjectProperties({p} {p})|SubDataPropertyOf({q} {q})
+    EquivalentDataProperties({q} {q})|DataPropertyRange({q} {range})|DataPropertyRange({q} {range})|AnnotationAssertion({a} {i} {v})
+    DifferentIndividuals(:i :j)|ObjectPropertyAssertion({p} {i} {i})|DataPropertyAssertion({q} {i} {literal})"""
+GRAMMARS = {
+    "EL": {
+        "axiom": f"""SubClassOf({{below}} {{below}})|SubClassOf({{below}} {{below}})|EquivalentClasses({{below}} {{below}})
+            DisjointClasses({{below}} {{below}})|{ABOVE.replace("above", "below")}|HasKey({{below}} ({{p}}) ({{q}}))|SameIndividual(:i :j)
+            ClassAssertion({{below}} {{i}})|{COMMON}|ReflexiveObjectProperty({{p}})|TransitiveObjectProperty({{p}})
+            FunctionalDataProperty({{q}})|NegativeObjectPropertyAssertion({{p}} :i :j)|NegativeDataPropertyAssertion({{q}} :i {{literal}})""",
+        "below": f"""{{class}}|ObjectIntersectionOf({{below}} {{below}})|ObjectOneOf({{i}})|ObjectSomeValuesFrom({{p}} {{below}})
+            ObjectHasSelf({{p}})|DataSomeValuesFrom({{q}} {{range}})|{VALUES}""",
+        "range": "{datatype}|DataIntersectionOf({range} {range})|DataOneOf({literal})",
+    },
+    "QL": {
+        "axiom": f"""SubClassOf({{below}} {{above}})|SubClassOf({{below}} {{above}})|EquivalentClasses({{below}} {{below}})
+            DisjointClasses({{below}} {{below}})|{ABOVE}|ClassAssertion({{class}} {{i}})|{COMMON}|InverseObjectProperties({{p}} {{p}})
+            ReflexiveObjectProperty({{p}})|SymmetricObjectProperty({{p}})|DisjointDataProperties({{q}} {{q}})|AsymmetricObjectProperty({{p}})
+            IrreflexiveObjectProperty({{p}})|DisjointObjectProperties({{p}} {{p}})""",
+        "below": "{class}|ObjectSomeValuesFrom({p} owl:Thing)|DataSomeValuesFrom({q} {range})",
+        "above": """{class}|ObjectIntersectionOf({above} {above})|ObjectComplementOf({below})|ObjectSomeValuesFrom({p} {class})
+            DataSomeValuesFrom({q} {range})""",
+        "range": "{datatype}|DataIntersectionOf({range} {range})",
+    },
+    "RL": {
+        "axiom": f"""SubClassOf({{below}} {{above}})|SubClassOf({{below}} {{above}})|EquivalentClasses({{equivalent}} {{equivalent}})
+            DisjointClasses({{below}} {{below}})|{ABOVE}|ClassAssertion({{above}} {{i}})|{COMMON}|HasKey({{below}} ({{p}}) ())
+            InverseObjectProperties({{p}} {{p}})|SymmetricObjectProperty({{p}})|FunctionalDataProperty({{q}})|TransitiveObjectProperty({{p}})
+            FunctionalObjectProperty({{p}})|InverseFunctionalObjectProperty({{p}})|SameIndividual(:i :j)""",
+        "below": f"""{{class}}|ObjectIntersectionOf({{below}} {{below}})|ObjectUnionOf({{below}} {{below}})|ObjectOneOf({{i}} {{i}})
+            ObjectSomeValuesFrom({{p}} {{below}})|ObjectSomeValuesFrom({{p}} owl:Thing)|DataSomeValuesFrom({{q}} {{range}})|{VALUES}""",
+        "above": f"""{{class}}|ObjectIntersectionOf({{above}} {{above}})|ObjectComplementOf({{below}})|ObjectAllValuesFrom({{p}} {{above}})
+            ObjectMaxCardinality(1 {{p}} {{below}})|ObjectMaxCardinality(0 {{p}} owl:Thing)|ObjectMaxCardinality(1 {{p}})
+            DataAllValuesFrom({{q}} {{range}})|DataMaxCardinality(1 {{q}} {{range}})|DataMaxCardinality(0 {{q}})|{VALUES}""",
+        "equivalent": f"{{class}}|ObjectIntersectionOf({{equivalent}} {{equivalent}})|{VALUES}",
+        "range": "{datatype}|DataIntersectionOf({range} {range})",
+    },
+}
+
+
+def shapes_in(text):
+    return [it.strip() for it in text.replace("\n", "|").split("|")]
+
+
+GRAMMARS = {profile: {word: shapes_in(text) for word, text in grammar.items()} for profile, grammar in GRAMMARS.items()}
+OTHER_SHAPES = shapes_in(
+    f"""ObjectUnionOf({{below}} {{above}})|ObjectUnionOf({{below}} {{below}})|ObjectIntersectionOf({{below}} {{below}})
+        ObjectComplementOf({{below}})|ObjectComplementOf({{above}})|ObjectOneOf(:i :j)|ObjectSomeValuesFrom({{p}} {{above}})
+        ObjectHasSelf({{p}})|ObjectSomeValuesFrom({{p}} {{other}})|ObjectSomeValuesFrom({{p}} {{below}})|owl:Thing|{VALUES}
+        ObjectAllValuesFrom({{p}} {{below}})|ObjectAllValuesFrom({{p}} {{above}})|ObjectMinCardinality(1 {{p}} {{below}})
+        ObjectExactCardinality(1 {{p}})|ObjectMaxCardinality(1 {{p}} {{above}})|ObjectMaxCardinality(2 {{p}})
+        DataSomeValuesFrom({{q}} {{range}})|DataAllValuesFrom({{q}} {{range}})|DataMinCardinality(1 {{q}} {{range}})
+        DataMaxCardinality(2 {{q}})|DataMaxCardinality(1 {{q}} {{range}})|DataExactCardinality(1 {{q}})"""
+)
+PLAIN_DATATYPES = ["xsd:string", "xsd:integer", "rdfs:Literal", "rdf:PlainLiteral", "xsd:anyURI", "xsd:dateTime", ":T", ":U"]
+OTHER_DATATYPES = ["xsd:int", "xsd:boolean", "xsd:double", "xsd:language", "owl:real", "owl:rational", "owl:rational"]
+PLAIN_LITERALS = ['"a"', '"a"@en', '"1"^^xsd:integer', '"1.5"^^xsd:decimal', '"a"^^rdf:XMLLiteral', '"a"^^:T']
+OTHER_LITERALS = ['"1"^^xsd:int', '"1"^^xsd:boolean', '"1"^^xsd:double', '"1"^^owl:real', '"1"^^owl:rational']
+FLAWS = ["kind", "shape", "range", "datatype", "inverse", "anonymous", "top"]
 
 HEADERS = ["", ":o", ":o", ":o :v", "s:o", "owl:o", ":o rdf:v", "xsd:o rdfs:v"]
 HEADERS += ["<http://www.w3.org/2002/07/owl>", ":o <http://www.w3.org/2001/XMLSchema#>"]
@@ -254,18 +322,107 @@ class RulesMaker(Maker):
         return random.choice(HEADERS[: random.choice([5, 5, len(HEADERS)])])
 
 
+class ProfileMaker(RulesMaker):
+    """Makes axioms of EL, QL or RL, some of them with a flaw that the profile may look at, and chains with ranges."""
+
+    def __init__(self, profile, labels="xyzwuv"):
+        super().__init__(labels)
+        self.calm()
+        self.grammar, self.inverses = GRAMMARS[profile], 0 if profile == "EL" else 0.3
+        self.deep, self.shapes, self.ranked, self.noted = 0.8, CLASSES, random.random() < 0.9, random.choice([0, 0.1, 0.5])
+        self.flaws = {it: random.choice([0, 0, 0, 0.1, 0.3]) for it in FLAWS}
+        self.chains = random.choice([0, 1, 2, 4]) if profile == "EL" else random.choice([0, 0, 1])
+
+    def has(self, flaw):
+        return random.random() < self.flaws[flaw]
+
+    def property(self, name):
+        return f"ObjectInverseOf({name})" if random.random() < self.inverses or self.has("inverse") else name
+
+    def fill(self, text, depth):
+        return re.sub(r"\{(\w+)\}", lambda it: self.word(it[1], depth), text)
+
+    def word(self, word, depth):
+        if word == "range" and self.has("range"):
+            return self.construct(RANGES, depth)
+        if word in ("class", "below", "above", "equivalent") and self.has("shape"):
+            return self.part("c", depth) if random.random() < 0.3 else self.word("other", depth)
+        if word == "other":
+            return self.fill(random.choice(OTHER_SHAPES), depth + 1)
+        word = "below" if word == "above" and "above" not in self.grammar else word
+        if word in self.grammar:
+            return self.fill(random.choice(self.grammar[word][: 1 if depth > 3 else None]), depth + 1)
+        if word == "p":
+            return self.property(random.choice(BUILT_IN["p"]) if self.has("top") else self.name("p"))
+        if word == "q" and self.has("top"):
+            return random.choice(["owl:topDataProperty", "owl:bottomDataProperty"])
+        if word == "class" and (self.has("top") or random.random() < 0.1):
+            return random.choice(BUILT_IN["c"])
+        if word == "datatype":
+            return random.choice(OTHER_DATATYPES if self.has("datatype") else PLAIN_DATATYPES)
+        if word == "literal":
+            return random.choice(OTHER_LITERALS if self.has("datatype") else PLAIN_LITERALS)
+        if word == "i" and self.has("anonymous"):
+            return f"_:{random.choice(self.labels)}"
+        if word == "entity" and self.has("top"):
+            return random.choice(["ObjectProperty(owl:topObjectProperty)", "DataProperty(owl:bottomDataProperty)", "Datatype(owl:real)"])
+        return self.name("c") if word == "class" else self.part("e" if word == "entity" else word, depth)
+
+    def noted_axiom(self, axiom):
+        name, _, parts = axiom.partition("(")
+        return f"{name}({' '.join([*self.annotations(), parts])}"
+
+    def of_grammar(self):
+        if self.has("kind"):
+            self.kinds = AXIOMS
+            return self.axioms()
+        return [self.noted_axiom(self.fill("{axiom}", 0))]
+
+    def ranges(self):
+        """Chains, ranges of what they imply and of their last properties, and steps between properties."""
+        first, last = self.name("c"), self.name("c")
+        kinds = [first, "owl:Thing", f"ObjectIntersectionOf({first} {last})", f"ObjectIntersectionOf({last} {first} {last})", self.fill("{below}", 1)]
+        kinds, axioms = random.sample(kinds, 3), []
+        for _ in range(self.chains):
+            chain, implied = self.chain()
+            last = re.search(r"(\S+)\)$", chain)[1].removeprefix("ObjectPropertyChain(")
+            axioms.append(f"SubObjectPropertyOf({chain} {implied})")
+            for on, rate in (implied, 0.7), (last, 0.6):
+                for kind in kinds[: random.choice([1, 1, 2])]:
+                    if random.random() < rate:
+                        above = max(self.own["p"]) if random.random() < 0.3 else on
+                        axioms.append(f"ObjectPropertyRange({above} {kind})")
+                        axioms += [f"SubObjectPropertyOf({on} {above})"] * (above != on)
+        for _ in range(random.choice([0, 0, 1, 2])):
+            axioms.append("SubObjectPropertyOf({} {})".format(*sorted(random.choices(self.own["p"], k=2))))
+        return [self.noted_axiom(it) for it in axioms]
+
+    def of_themes(self):
+        axioms = self.ranges() if self.chains else []
+        for _ in range(random.choice([0, 2, 4, 8])):
+            axioms += self.of_grammar()
+        return axioms
+
+
+def makers_of(profile, count):
+    """A maker for each document of a closure that is checked for a profile. What they have in common is that of the first."""
+    is_shaped = profile != "DL" and random.random() < 0.8
+    made = [ProfileMaker(profile, labels) if is_shaped else RulesMaker(labels) for labels in ["xyzwuv"] + ["xyz"] * (count - 1)]
+    for maker in made[1:]:
+        vars(maker).update({key: it for key, it in vars(made[0]).items() if key not in ("labels", "themes")})
+    return made
+
+
 def spread(items, count):
     """Items over so many documents, most of them in the first."""
     places = [random.randrange(count) if random.random() < 0.5 else 0 for _ in items]
     return [[it for it, at in zip(items, places) if at == place] for place in range(count)]
 
 
-def closure(most=3, lost=0):
+def closure(most=3, lost=0, profile="DL"):
     """Names and texts of documents, the main one first. Their imports are all there, but for some by this rate."""
     count = random.randint(1, most)
-    makers = [RulesMaker()] + [RulesMaker("xyz") for _ in range(count - 1)]
-    for maker in makers[1:]:
-        vars(maker).update({key: it for key, it in vars(makers[0]).items() if key not in ("labels", "themes")})
+    makers = makers_of(profile, count)
     axioms = [maker.of_themes() for maker in makers]
     definitions = [*makers[0].definitions(str(axioms))]
     common = spread(definitions + makers[0].declarations(str(axioms + definitions)), count)
@@ -311,25 +468,28 @@ def table_documents(size=40):
 
 
 class Tally:
-    """How many closures broke each rule, how many lines told so, and how many closures were of other sorts."""
+    """How many closures broke each rule of the profiles that they were checked for, by how many lines, and how many were of other sorts."""
 
     def __init__(self):
-        self.closures, self.broken, self.lines, self.sorts = 0, dict.fromkeys(second_rules.RULES, 0), 0, {}
+        self.closures, self.broken, self.lines, self.sorts = {}, {}, {}, {}
 
-    def add(self, found):
-        self.closures += 1
-        self.lines += len(found)
-        for number in {number for number, *_ in found}:
-            self.broken[number] += 1
+    def add(self, profile, found):
+        rules = [rule for rule, *_ in found]
+        for rule in second_sorts.names_of_rules(profile):
+            self.closures[rule] = self.closures.get(rule, 0) + 1
+            self.broken[rule] = self.broken.get(rule, 0) + (rule in rules)
+            self.lines[rule] = self.lines.get(rule, 0) + rules.count(rule)
 
     def count(self, *sorts):
         for it in sorts:
             self.sorts[it] = self.sorts.get(it, 0) + 1
 
     def text(self):
-        rules = [f"  DL-{number}: broken by {count}, kept by {self.closures - count}" for number, count in self.broken.items()]
+        order = [rule for profile in second_sorts.RULES for rule in second_sorts.names_of_rules(profile) if rule in self.closures]
+        order = list(dict.fromkeys(order))
+        rules = [f"  {it}: broken by {self.broken[it]}, kept by {self.closures[it] - self.broken[it]}, {self.lines[it]} lines" for it in order]
         sorts = [f"  {name}: {self.sorts[name]}" for name in sorted(self.sorts)]
-        return "\n".join([f"{self.closures} closures, {self.lines} breaches", *rules, *sorts])
+        return "\n".join([f"{self.closures['DL-1']} closures, {sum(self.lines.values())} breaches", *rules, *sorts])
 
 
 def write(folder, name, text):
@@ -352,12 +512,12 @@ def stranger():
 
 
 class Call:
-    """Documents in the order of the words, and whether imports may be missing."""
+    """Documents in the order of the words, the profile, and whether imports may be missing."""
 
-    def __init__(self, given, partial=False):
+    def __init__(self, given, profile="DL", partial=False):
         self.texts = [text for _, text in given]
         self.documents = [Document(*it) for it in given]
-        self.partial = partial
+        self.profile, self.partial = profile, partial
 
     def draw(self, rate):
         """Puts documents into Turtle, by this rate, where a graph says them under the kinds of the closure."""
@@ -378,16 +538,17 @@ class Call:
         clash, graphs = Kinds(found).clash(), [it.name for it in found if it.name.endswith(".ttl")]
         if clash and graphs:
             return [], (3, "", f"{graphs[0]}: TwoKinds <{clash}>\n")
-        breaches = second_rules.breaches(self.documents)
+        breaches = second_sorts.breaches(self.profile, self.documents)
         verdict, line = ("no\n", f"no; breaches {len(breaches)}") if breaches else ("yes\n", "yes")
-        return breaches, (int(bool(breaches)), verdict + second_rules.lines_of(breaches), f"profile dl: {line}\n")
+        return breaches, (int(bool(breaches)), verdict + second_sorts.lines_of(breaches), f"profile {self.profile.lower()}: {line}\n")
 
     def words(self):
-        return ["check", "--profile", "dl", *["--partial"] * self.partial, *(it.name for it in self.documents)]
+        return ["check", "--profile", self.profile.lower(), *["--partial"] * self.partial, *(it.name for it in self.documents)]
 
     def sorts(self):
         """What of this call is counted beside its status."""
         found = reached(self.documents)[0]
+        yield f"a check of {self.profile}"
         yield from ["a document that is not reached"] * (len(found) < len(self.documents))
         yield from ["a graph that is reached"] * any(it.name.endswith(".ttl") for it in found)
         yield from ["imports over two documents or more"] * (len(found) > 1)
@@ -396,17 +557,20 @@ class Call:
 
 def random_call():
     lost = random.choice([0, 0, 0, 0.3])
-    main, *others = closure(lost=lost)
+    profile = random.choice([*second_sorts.RULES])
+    main, *others = closure(lost=lost, profile=profile)
     others += [stranger()] * (random.random() < 0.3)
     random.shuffle(others)
-    call = Call([main, *others], random.random() < (0.7 if lost else 0.1))
+    call = Call([main, *others], profile, random.random() < (0.7 if lost else 0.1))
     call.draw(random.choice([0, 0, 0.4, 1]))
     return call
 
 
 def agrees(program, call, tally):
     found, expected = call.outcome()
-    tally.add(found)
+    if expected[0] < 2:
+        tally.add(call.profile, found)
+        tally.count(*[f"{call.profile}: yes"] * (expected[0] == 0))
     tally.count(f"status {expected[0]}", *call.sorts())
     folder = tempfile.mkdtemp(prefix="profiles.")
     for it, text in zip(call.documents, call.texts):
@@ -423,12 +587,48 @@ def agrees(program, call, tally):
 
 def compare_program(count=500, seed=1, program=os.path.join(TOP, "bin", "owl")):
     random.seed(int(seed))
+    tables = (Call(it, profile) for profile in second_sorts.RULES for it in table_documents())
+    return compare_calls(itertools.chain(tables, (random_call() for _ in range(int(count)))), program)
+
+
+def compare_calls(calls, program):
     tally = Tally()
-    calls = itertools.chain(map(Call, table_documents()), (random_call() for _ in range(int(count))))
     right = all(agrees(os.path.abspath(program), it, tally) for it in calls)
     print(tally.text())
     print("all answered in one way" if right else "the last was answered in two ways")
     return not right
+
+
+def large_document(profile, size=500):
+    """A document with so many different axioms, of makers whose flaws differ."""
+    axioms, maker = {}, ProfileMaker(profile)
+    maker.own = {**OWN, "p": [*OWN["p"], *(f":p{number}" for number in range(20))]}
+    while len(axioms) < size:
+        other = ProfileMaker(profile)
+        other.own, other.labels = maker.own, maker.labels
+        other.flaws = {it: random.choice([0, 0.1, 0.4]) for it in FLAWS}
+        made = itertools.chain(other.ranges(), *(other.of_grammar() for _ in range(20)))
+        axioms.update(dict.fromkeys(made))
+    items = [*axioms, *maker.definitions(str(axioms)), *maker.declarations(str(axioms))]
+    random.shuffle(items)
+    return [("m.ofn", f"{PREFIXES} Ontology(:o {' '.join(items)})")]
+
+
+def compare_axioms(count, seed=1, program=os.path.join(TOP, "bin", "owl")):
+    random.seed(int(seed))
+    made = dict.fromkeys(GRAMMARS, 0)
+
+    def calls():
+        for profile in itertools.cycle(GRAMMARS):
+            if sum(made.values()) >= int(count):
+                return
+            call = Call(large_document(profile), profile)
+            made[profile] += len(call.documents[0].axioms)
+            yield call
+
+    wrong = compare_calls(calls(), program)
+    print(f"{sum(made.values())} axioms:", *(f"{count} for {profile}" for profile, count in made.items()))
+    return wrong
 
 
 def write_cases(folder, count, seed):
@@ -438,10 +638,10 @@ def write_cases(folder, count, seed):
         os.makedirs(each)
     closures = itertools.chain(table_documents(), (closure(1) for _ in range(int(count))))
     for number, [(name, text)] in enumerate(closures):
-        found = second_rules.breaches([Document(name, text)])
-        tally.add(found)
+        found = second_sorts.breaches("DL", [Document(name, text)])
+        tally.add("DL", found)
         write(folder, f"c{number:04}", text)
-        write(folder + ".expected", f"c{number:04}", second_rules.lines_of(found) + f"breaches {len(found)}\n")
+        write(folder + ".expected", f"c{number:04}", second_sorts.lines_of(found) + f"breaches {len(found)}\n")
     print(tally.text())
     return 0
 
@@ -462,7 +662,7 @@ def compare_cases(folder, output):
 
 
 def main(words):
-    modes = {"--cases": write_cases, "--compare": compare_cases}
+    modes = {"--axioms": compare_axioms, "--cases": write_cases, "--compare": compare_cases}
     return modes[words[0]](*words[1:]) if words[:1] and words[0] in modes else compare_program(*words)
 
 

@@ -190,6 +190,19 @@ call 'a check finds a breach' 1 'no
 DL-9 1 AsymmetricObjectProperty(<http://e/p>)
 ' 'profile dl: no; breaches 1
 ' check --profile dl breach.ofn
+call 'a check of EL' 1 'no
+DL-9 1 AsymmetricObjectProperty(<http://e/p>)
+EL-1 1 AsymmetricObjectProperty(<http://e/p>)
+' 'profile el: no; breaches 2
+' check --profile el breach.ofn
+call 'a check of QL' 1 'no
+DL-9 1 AsymmetricObjectProperty(<http://e/p>)
+QL-1 1 TransitiveObjectProperty(<http://e/p>)
+' 'profile ql: no; breaches 2
+' check --profile ql breach.ofn
+call 'a check of RL' 0 'yes
+' 'profile rl: yes
+' check --profile rl graph.ttl
 python3 "$top/checks/second_rules.py" instruments.ofn >"$room/verdict" 2>"$room/line"
 call 'a check of the example' 1 "$room/verdict" "$(<"$room/line")
 " check --profile dl instruments.ofn
@@ -207,7 +220,7 @@ call 'no words' 2 '' 'words
 call 'no profile' 2 '' 'words
 ' check m.ofn
 call 'a profile that there is not' 2 '' 'words
-' check --profile el m.ofn
+' check --profile els m.ofn
 call 'one word too many' 2 '' 'words
 ' same m.ofn a.ofn b.ofn
 call 'a flag in another place' 2 '' 'words

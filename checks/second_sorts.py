@@ -1,17 +1,20 @@
 #!/usr/bin/env python3
-"""A second reading of the rules of OWL 2 EL, QL and RL on single axioms, to compare owl with.
+"""A second reading of the rules of OWL 2 EL, QL and RL, to compare owl with.
 
-second_sorts.py NAME.. tells of each axiom of documents in Functional-Style Syntax which of
-these rules it breaks: a line for each, with the rule and the axiom. The rules are those of
-OWL 2 Profiles, sections 2.2, 3.2 and 4.2, numbered as owl does, each asked for in the
-plainest way. The rule of EL that asks for more than one axiom (section 2.2.6) is not among
-them. It shares no code or table with owl.
+second_sorts.py PROFILE NAME.. writes what `owl check --profile PROFILE NAME..` has to
+write, for documents in Functional-Style Syntax that read and whose imports are all
+there: `yes` or `no`, and a line for each item that breaks a rule, those of OWL 2 DL by
+the second reading of them in front. The rules of el, ql and rl are those of OWL 2
+Profiles, sections 2.2, 3.2 and 4.2, numbered as owl does, each asked for in the plainest
+way. It shares no code or table with owl.
 """
 
+import functools
 import sys
 
-from second_mapping import ANONYMOUS, CLASS, DATA_PROPERTY, DATATYPE, LITERAL, OBJECT_PROPERTY, Document, of_names
-from second_rules import FACETS, counted, iris
+import second_rules
+from second_mapping import ANONYMOUS, CLASS, DATA_PROPERTY, DATATYPE, LITERAL, OBJECT_PROPERTY, of_names, reached
+from second_rules import FACETS, chain_of, counted, document_of, found_from, iris, is_chain_axiom, property_of
 from second_writer import NAMES, TAGS
 
 NUMBER = 10
@@ -128,6 +131,29 @@ def el_5(axiom):
 
 def el_6(axiom):
     return has_anonymous(axiom)
+
+
+# EL over a closure (section 2.2.6)
+
+
+def steps_up(axioms):
+    """The pairs of properties of which axioms put the first below the second, without a chain."""
+    found = [it for it in axioms if it[0] == TAGS["SubObjectPropertyOf"] and not is_chain_axiom(it)]
+    return {(property_of(below), property_of(above)) for _, (_, below, above) in found}
+
+
+def imposed(axioms, on):
+    """The class expressions that axioms impose as range on a property."""
+    above = found_from(on, steps_up(axioms))
+    return [kind for _, (_, of, kind) in (it for it in axioms if it[0] == TAGS["ObjectPropertyRange"]) if property_of(of) in above]
+
+
+def el_7(axioms, axiom):
+    if not is_chain_axiom(axiom):
+        return False
+    chain, implied = chain_of(axiom)
+    ranges = imposed(axioms, chain[-1])
+    return any(kind not in ranges for kind in imposed(axioms, implied))
 
 
 # QL
@@ -261,25 +287,45 @@ def rl_5(axiom):
 # All of them
 
 RULES = {
+    "DL": [],
     "EL": [el_1, el_2, el_3, el_4, el_5, el_6],
     "QL": [ql_1, ql_2, ql_3, ql_4, ql_5],
     "RL": [rl_1, rl_2, rl_3, rl_4, rl_5],
 }
 
 
-def broken(axiom):
-    """The rules that the axiom breaks, profile by profile."""
-    return [f"{profile}-{number}" for profile, rules in RULES.items() for number, breaks in enumerate(rules, 1) if breaks(axiom)]
+def rules_of(profile, axioms):
+    """The rules of a profile besides those of OWL 2 DL, for the axioms of a closure."""
+    return RULES[profile] + [functools.partial(el_7, axioms)] * (profile == "EL")
 
 
-def main(names):
-    for name in names:
-        with open(name, encoding="utf-8", newline="") as file:
-            document = Document(name, file.read())
-        items = [(text, trees[0]) for text, trees in document.items() if trees is not document.annotations]
-        for text, axiom in items:
-            sys.stdout.writelines(f"{rule} {text}\n" for rule in broken(axiom))
+def names_of_rules(profile):
+    """How the rules of a profile are called, those of OWL 2 DL in front."""
+    own = len(rules_of(profile, []))
+    return [f"DL-{number}" for number in second_rules.RULES] + [f"{profile}-{number}" for number in range(1, own + 1)]
+
+
+def breaches(profile, documents):
+    """The rules that items of the closure of the first document break: rule, the document's place from 1, item."""
+    found = [(f"DL-{number}", place, item) for number, place, item in second_rules.breaches(documents)]
+    closure = reached(documents)[0]
+    axioms = [it for document in closure for it in document.axioms]
+    items = [(documents.index(it) + 1, item, trees) for it in closure for item, trees in it.items() if trees is not it.annotations]
+    for number, breaks in enumerate(rules_of(profile, axioms), 1):
+        found += [(f"{profile}-{number}", place, item) for place, item, [axiom] in items if breaks(axiom)]
+    return found
+
+
+def lines_of(found):
+    return "".join(f"{rule} {place} {item}\n" for rule, place, item in found)
+
+
+def main(profile, *names):
+    found = breaches(profile.upper(), [document_of(it) for it in names])
+    sys.stdout.write(("no\n" if found else "yes\n") + lines_of(found))
+    print(f"profile {profile}: no; breaches {len(found)}" if found else f"profile {profile}: yes", file=sys.stderr)
+    return bool(found)
 
 
 if __name__ == "__main__":
-    main(sys.argv[1:])
+    sys.exit(main(*sys.argv[1:]))
