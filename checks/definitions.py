@@ -1,5 +1,5 @@
 #!/usr/bin/env python3
-"""Counts what has to be believed: the definitions that the clauses of owl_top::run rest on, in nine steps.
+"""Counts what has to be believed: the definitions that the clauses of owl_top::run rest on, in ten steps.
 
 definitions.py                   prints the steps, as docs/PROOFS.md has them
 definitions.py --write FILE..    writes anew what stands between the two marks of each file
@@ -82,6 +82,12 @@ STEPS = [
         " closure is in OWL 2 DL.",
         ["dl_rules.specs.Rules.AreDlBreaches", "dl_rules.specs.Rules.IsInDL"],
     ),
+    (
+        "OWL 2 EL, QL and RL",
+        "Which axioms of an import closure break which of the seventeen rules that the three profiles have besides those"
+        " of OWL 2 DL: sorts of trees by the grammars of the W3C, and the restriction on ranges of EL.",
+        ["owl_profiles.specs.Rules.AreAxiomBreaches", "owl_profiles.specs.Rules.KeepsRules"],
+    ),
 ]
 # The last step begins with what the clauses of these name: a file, and how the line begins from which they stand.
 LAST_STEP = (
@@ -98,7 +104,7 @@ CLAUSES = [
 SUMS = [
     (1, "say what a document in Functional-Style Syntax says, and which ontologies are the same;"),
     (3, "say this, what a document of Turtle says as a graph, and what a graph says as an ontology;"),
-    (9, "say all of it, down to every byte that is written and every refusal;"),
+    (10, "say all of it, down to every byte that is written and every refusal;"),
 ]
 
 WORDS_IN_FRONT = r"(?:(?:pub|abbrev|unfoldable|opaque)\s+)*"
