@@ -147,12 +147,12 @@ def write(stem, part, text):
 
 
 def closures(suite):
-    """Each test with its marks, and its documents: which it is, its name, and the names of what is imported."""
+    """Each test with its marks, and its documents: which it is, and the names of it and of what is imported."""
     imported = {each.get(RDF + "about"): documents_of(each) for each in suite}
-    for test, marks in marked_tests(suite):
+    for number, (test, marks) in enumerate(marked_tests(suite)):
         behind = [imported[name][0] for name in named_by(test, TEST + "importedOntology") if imported.get(name)]
-        imports = [write(f"import{number}", *document) for number, document in enumerate(behind)]
-        documents = ((part, [write("main", part, text), *imports]) for part, text in documents_of(test))
+        imports = [write(f"test{number}-import{place}", *document) for place, document in enumerate(behind)]
+        documents = [(part, [write(f"test{number}-{part}", part, text), *imports]) for part, text in documents_of(test)]
         yield test.findtext(TEST + "identifier"), marks, documents
 
 
