@@ -112,7 +112,7 @@ inherited="$imposed"', ":q :p" i, i - 1'
 forgotten="$imposed"', ":p" i " :q", i - 1'
 
 # Intersections in Turtle, two of each depth, each of the two below. As a tree the last one
-# has 5 * 2^(count - 1) - 2 nodes and leaves.
+# has 5 * 2^(count - 1) - 2 nodes and leaves: with 22 that is ten million, and the limit is 2^24.
 intersections='
     print "@prefix : <http://bench.example/> ."
     print "@prefix owl: <http://www.w3.org/2002/07/owl#> ."
