@@ -5,7 +5,11 @@ use Rattle.std.specs.Option.{option_map}
 use Rattle.grammar.specs.Derivations.{Derives, Event}
 use Rattle.grammar.specs.Derivations.Event.{Do, Take}
 use Rattle.grammar.specs.Lowering.{lower}
-use Rattle.owl_reader.specs.Steps.{ComesNext, GoesOn, MayFollow, MayTake}
+use Rattle.owl_lexer.specs.declared.placed.Placed.{Placed}
+use Rattle.owl_reader.proofs.EventLaws.{EventsGoOn}
+use Rattle.owl_reader.specs.Events.{MadeByEvents}
+use Rattle.owl_reader.specs.Following.{ComesNext, MayFollow, MayTake}
+use Rattle.owl_reader.specs.Steps.{events_of, token_in}
 use Rattle.owl_reader.specs.declared.fault.TokenFault.{TokenFault}
 use Rattle.owl_reader.specs.declared.fault.TokenFault.TheVariants as fault
 use Rattle.owl_tokens.proofs.TokenLaws.{spelled_is_token}
@@ -75,25 +79,25 @@ ready_in_turn events acts next m done follow = ready_along acts events next m fo
 
 -- ---- what comes of them
 
-token_spelled : (next : Option Token) → IfSome next (λ x. (spelling : List ℕ) × Spells x spelling) → IfSome next IsToken
+token_spelled : (next : Option (Placed Token)) → IfSome next (λ p. (spelling : List ℕ) × Spells p.token spelling) → IfSome (token_in next) IsToken
 token_spelled None h = tt
-token_spelled (Some x) h = spelled_is_token x h.0 h.1
+token_spelled (Some p) h = spelled_is_token p.token h.0 h.1
 
-pub may_take : {old : Assembler} {acts : List ℕ} {next : Option Token} → MayTake Spells functional functional_rules Made old acts next → May (AreReady acts next) old
+pub may_take : {old : Assembler} {acts : List ℕ} {next : Option (Placed Token)} → MayTake Spells functional functional_rules (MadeByEvents Made) old acts next → May (AreReady acts (token_in next)) old
 may_take {acts = acts} {next = next} r = record {
   maker = r.made_by.maker;
   assembles = r.made_by.assembles;
-  ready = ready_in_turn r.events acts next r.made_by.maker r.made_by.done.does r.follow;
+  ready = ready_in_turn (events_of r.steps) acts (token_in next) r.made_by.maker r.made_by.done.does r.follow;
 }
 
-pub is_token : {old : Assembler} {acts : List ℕ} {next : Option Token} → MayTake Spells functional functional_rules Made old acts next → IfSome next IsToken
+pub is_token : {old : Assembler} {acts : List ℕ} {next : Option (Placed Token)} → MayTake Spells functional functional_rules (MadeByEvents Made) old acts next → IfSome (token_in next) IsToken
 is_token {next = next} r = token_spelled next r.spelled
 
-goes_on : (events : List (Event Token)) (acts : List ℕ) (next : Option Token) (m n : Maker) (new : Assembler) → DoneSoFar events m → ActInTurn acts next m n → Assembles new n → GoesOn Made Did events acts next new
+goes_on : (events : List (Event Token)) (acts : List ℕ) (next : Option Token) (m n : Maker) (new : Assembler) → DoneSoFar events m → ActInTurn acts next m n → Assembles new n → EventsGoOn Made Did events acts next new
 goes_on events acts None m n new done act assembles = record { maker = n; does = done_at_end events acts m n done act; assembles = assembles }
 goes_on events acts (Some x) m n new done act assembles = record { maker = n; done = done_with_token events acts x m n done act; assembles = assembles }
 
-pub takes : (old new : Assembler) (acts : List ℕ) (next : Option Token) (r : Result (Unit {0}) TokenFault) → AnswersToken acts next old r new → OnOk r ((events : List (Event Token)) → Made events old → MayFollow functional functional_rules events acts next → GoesOn Made Did events acts next new)
+pub takes : (old new : Assembler) (acts : List ℕ) (next : Option Token) (r : Result (Unit {0}) TokenFault) → AnswersToken acts next old r new → OnOk r ((events : List (Event Token)) → Made events old → MayFollow functional functional_rules events acts next → EventsGoOn Made Did events acts next new)
 takes old new acts next (Err f) answers = tt
 takes old new acts next (Ok x) answers = λ events made follow.
     let it = answers made.maker made.assembles (ready_in_turn events acts next made.maker made.done.does follow) in

@@ -1,5 +1,4 @@
 pub mod Documents
-pub mod Numbers
 pub mod Put
 pub mod Begun
 pub mod Keeping

@@ -15,8 +15,9 @@ use crate::assembler::Assembler;
 use crate::kept::Kept;
 use crate::leaves::put_leaf;
 use crate::refusals::of_making;
-use crate::tokens::{digits_in, form_in, iri_behind, label_in, label_of, take_form, value};
+use crate::tokens::{digits_in, form_in, iri_behind, label_in, label_of, take_form};
 use fss_grammar::Act;
+use lexical_values::number_of;
 use owl_atom::Iri;
 use owl_characters::Text;
 use owl_reader::TokenFault;
@@ -94,7 +95,7 @@ impl Assembler {
         if self.maker.is_full() {
             return Err(TokenFault::TooDeep);
         }
-        match value(digits_in(next)) {
+        match number_of(digits_in(next)) {
             Some(number) => put_leaf(&mut self.maker, tag, Atom::Number(number)),
             None => Err(TokenFault::NumberTooLarge),
         }

@@ -1,8 +1,9 @@
 //! Functional-Style Syntax as a syntax of readers.
 
 ghost use Rattle.std.specs.Prelude.{◌≡◌, ◌≢◌, List, IfErr, OnOk};
-ghost use Rattle.grammar.specs.Derivations.{Event};
-ghost use Rattle.owl_reader.specs.Steps.{GoesOn, MayFollow, MayTake};
+ghost use Rattle.owl_reader.specs.Events.{BarsByEvents, MadeByEvents, WholeByEvents};
+ghost use Rattle.owl_reader.specs.Following.{GoesOn, MayFollow, MayTake};
+ghost use Rattle.owl_reader.specs.Steps.{Step, events_of, token_in};
 ghost use Rattle.owl_reader.specs.declared.fault.TokenFault as token;
 ghost use Rattle.owl_tokens.specs.FunctionalSpellingLaws.{functional_is_prompt};
 ghost use Rattle.owl_tokens.specs.Tokens.{Spells};
@@ -14,6 +15,7 @@ ghost use Rattle.fss_defects.specs.Rules.{functional_rules};
 ghost use Rattle.fss_defects.specs.StartLaws.{has_document};
 
 use crate::assembler::Assembler;
+use owl_lexer::Placed;
 use owl_reader::{Mark, Syntax, TokenFault};
 use owl_tokens::Token;
 
@@ -31,9 +33,9 @@ impl Syntax for Assembler {
 
     ghost rules = { functional_rules };
 
-    ghost Made = { Made };
+    ghost Made = { MadeByEvents Made };
 
-    ghost Whole = { Did };
+    ghost Whole = { WholeByEvents Did };
 
     fn document() -> u16 {
         0
@@ -52,20 +54,34 @@ impl Syntax for Assembler {
         }
     }
 
-    fn take(&mut self, acts: &[u8], next: Option<Token>) -> Result<(), TokenFault>
-        requires { MayTake Spells functional functional_rules Made self.old acts.now next }
-        ensures takes { OnOk result ((events : List (Event lexeme.Token)) → Made events self.old
-            → MayFollow functional functional_rules events acts.now next
-            → GoesOn Made Did events acts.now next self.new) }
-        ensures free { OnOk result ((events : List (Event lexeme.Token)) → Made events self.old
-            → MayFollow functional functional_rules events acts.now next
-            → (fault : token.TokenFault) → Bars events acts.now next fault → ⊥) }
+    fn begins_item(_token: &Token) -> bool {
+        false
+    }
+
+    fn end_begins_item() -> bool {
+        false
+    }
+
+    fn behind_items() -> &'static [u8] {
+        &[]
+    }
+
+    fn take(&mut self, acts: &[u8], next: Option<Placed<Token>>) -> Result<(), TokenFault>
+        requires { MayTake Spells functional functional_rules (MadeByEvents Made) self.old acts.now next }
+        ensures takes { OnOk result ((steps : List (Step lexeme.Token))
+            → MadeByEvents Made steps self.old
+            → MayFollow functional functional_rules (events_of steps) acts.now (token_in next)
+            → GoesOn (MadeByEvents Made) (WholeByEvents Did) steps acts.now next self.new) }
+        ensures free { OnOk result ((steps : List (Step lexeme.Token))
+            → MadeByEvents Made steps self.old
+            → MayFollow functional functional_rules (events_of steps) acts.now (token_in next)
+            → (fault : token.TokenFault) → BarsByEvents Bars steps acts.now next fault → ⊥) }
         ensures barred { IfErr result (λ fault. fault ≢ token.TokenFault.Memory
-            → (events : List (Event lexeme.Token)) → Made events self.old
-            → MayFollow functional functional_rules events acts.now next
-            → Bars events acts.now next fault) }
+            → (steps : List (Step lexeme.Token)) → MadeByEvents Made steps self.old
+            → MayFollow functional functional_rules (events_of steps) acts.now (token_in next)
+            → BarsByEvents Bars steps acts.now next fault) }
     {
-        let mut next = next;
+        let mut next = next.map(|placed| placed.token);
         self.do_all(acts, &mut next)
     }
 

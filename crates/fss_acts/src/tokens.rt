@@ -1,8 +1,7 @@
 //! What tokens stand for.
 
-ghost use Rattle.std.specs.Prelude.{◌≡◌, ◌≢◌, List, [], ℕ, ◌<◌, ◌≤◌, ◌^◌, IfErr, IfOk, IfSome, MatchOption, OnOk, None, Some};
+ghost use Rattle.std.specs.Prelude.{◌≡◌, ◌≢◌, List, [], ℕ, IfErr, IfOk, IfSome, OnOk, None, Some};
 ghost use Rattle.std.specs.Char.{is_ascii_digit};
-ghost use Rattle.std.specs.Str.Parse.{digits_value};
 ghost use Rattle.owl_characters.specs.Iri.{IsIri};
 ghost use Rattle.owl_characters.specs.Names.{IsLabel, IsRunOf};
 ghost use Rattle.owl_atom.specs.Prefixes.{expansion};
@@ -39,18 +38,6 @@ pub fn label_of(alloc: Global, text: &Text) -> Result<Label, NoMemory>
         Ok(label) => Ok(label),
         Err(LabelFault::BadLabel) => unreachable!(),
         Err(LabelFault::Memory) => Err(NoMemory),
-    }
-}
-
-/// The number that the digits write, unless it has more than 64 bits.
-pub fn value(digits: &Text) -> Option<u64>
-    requires { IsRunOf is_ascii_digit digits.now }
-    ensures { MatchOption result (2 ^ 64 ≤ digits_value 10 digits.now)
-        (λ number. (number ≡ digits_value 10 digits.now) × (number < 2 ^ 64)) }
-{
-    match digits.as_str().parse::<u64>() {
-        Ok(number) => Some(number),
-        Err(_) => None,
     }
 }
 

@@ -4,6 +4,7 @@ use Rattle.owl_characters.specs.Limit.{most_bytes}
 use Rattle.owl_lexer.proofs.OneWayLaws.{same_splits}
 use Rattle.owl_reader.proofs.AlikeLaws.{first_defect_alike}
 use Rattle.owl_reader.proofs.OneDefectLaws as defects
+use Rattle.owl_reader.specs.Steps.{events_of, token_in}
 use Rattle.owl_reader.specs.declared.fault.ReadFault.{ReadFault}
 use Rattle.owl_reader.specs.declared.fault.TokenFault.{TokenFault}
 use Rattle.owl_tokens.specs.FunctionalSpellingLaws.{functional_is_language}
@@ -77,9 +78,9 @@ told_one_way acts next m f g (inr h) (inl k) = absurd (h.0 k.0)
 told_one_way acts next m f g (inr h) (inr k) = fails_first_one_way acts next m f g h.1 k.1
 
 pub bars_one_way : defects.BarOneWay functional_rules
-bars_one_way events acts next f g h k =
-    let same = does_one_way events beginning k.maker h.maker k.does h.does in
-    told_one_way acts next h.maker f g h.told (subst (λ (m : Maker). Told acts next m g) same k.told)
+bars_one_way steps acts next f g h k =
+    let same = does_one_way (events_of steps) beginning k.maker h.maker k.does h.does in
+    told_one_way acts (token_in next) h.maker f g h.told (subst (λ (m : Maker). Told acts (token_in next) m g) same k.told)
 
 -- ---- the first defect
 

@@ -16,7 +16,8 @@ use Rattle.owl_reader.specs.Defects.{HasDefect, IsRefused}
 use Rattle.owl_reader.specs.Defects.HasDefect.{at_end, at_token, no_token}
 use Rattle.owl_reader.specs.Defects.IsFirstDefect.{beyond, too_long, within}
 use Rattle.owl_reader.specs.Defects.IsRefused.{barred, wrong_end, wrong_token}
-use Rattle.owl_reader.specs.Steps.{ComesNext, MayFollow, Step, events_of, plain, tokens_in}
+use Rattle.owl_reader.specs.Following.{ComesNext, MayFollow}
+use Rattle.owl_reader.specs.Steps.{Step, events_of, plain, token_in, tokens_in}
 use Rattle.owl_reader.specs.declared.fault.ReadFault.{ReadFault}
 use Rattle.owl_reader.specs.declared.fault.TokenFault.{TokenFault}
 use Rattle.owl_tokens.specs.Tokens.{Spells}
@@ -168,10 +169,12 @@ module _ (steps : List (Step Token)) (more : List Token) (it : IsDocument (plain
       (ap (λ (l : List Token). map class_of (plain steps) ++ map class_of l) e ∙ append-nil (map class_of (plain steps))) classes_derive)
   no_wrong_end (y ∷ others) e first never = cc
 
-  pub none_refused : (at : ℕ) (refusal : ReadFault) → IsRefused functional functional_rules steps at (first_of more) refusal → ⊥
-  none_refused at refusal (wrong_token x e never is) = no_wrong_token x more refl e never
-  none_refused at refusal (wrong_end e never is) = no_wrong_end more refl e never
-  none_refused at refusal (barred acts f told follow bars is) = none_barred acts f follow bars
+  pub none_refused : (at : ℕ) (next : Option (Placed Token)) (refusal : ReadFault) → token_in next ≡ first_of more → IsRefused functional functional_rules steps at next refusal → ⊥
+  none_refused at next refusal same (wrong_token p begins e never b is) = no_wrong_token p.token more refl (sym same ∙ ap token_in e) never
+  none_refused at next refusal same (wrong_end begins e never b is) = no_wrong_end more refl (sym same ∙ ap token_in e) never
+  none_refused at next refusal same (barred acts f told follow bars is) =
+      none_barred acts f (subst (MayFollow functional functional_rules (events_of steps) acts) same follow)
+      (subst (λ (x : Option Token). Bars (events_of steps) acts x f) same bars)
 
 -- ---- bytes
 
@@ -182,11 +185,11 @@ none_has_defect : SplitOneWay → (bytes : List ℕ) (fault : ReadFault) (p : Li
 none_has_defect split bytes fault p o h (at_token steps x others ending splits begin refused) =
     let same = (split bytes h.placed (tokens_in steps ++ x ∷ others) None ending h.splits splits).0 in
     let tokens = ap terms.tokens_of same ∙ plain_tokens steps (x ∷ others) in
-    none_refused steps (x.token ∷ terms.tokens_of others) (subst IsDocument tokens (read_is_document bytes p o h)) x.at fault refused
+    none_refused steps (x.token ∷ terms.tokens_of others) (subst IsDocument tokens (read_is_document bytes p o h)) x.at (Some x) fault refl refused
 none_has_defect split bytes fault p o h (at_end steps splits begin refused) =
     let same = (split bytes h.placed (tokens_in steps) None None h.splits splits).0 in
     let tokens = ap terms.tokens_of (same ∙ sym (append-nil (tokens_in steps))) ∙ plain_tokens steps [] in
-    none_refused steps [] (subst IsDocument tokens (read_is_document bytes p o h)) (length bytes) fault refused
+    none_refused steps [] (subst IsDocument tokens (read_is_document bytes p o h)) (length bytes) None fault refl refused
 none_has_defect split bytes fault p o h (no_token steps lexing splits begin is) =
     one_fault lexing (split bytes (tokens_in steps) h.placed (Some lexing) None splits h.splits).1
 

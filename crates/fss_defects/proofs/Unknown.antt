@@ -10,7 +10,8 @@ use Rattle.grammar.specs.Lowering.{lower}
 use Rattle.grammar.specs.declared.symbol.Symbol.TheVariants.{Rule}
 use Rattle.owl_atom.specs.declared.prefixes.Prefix.{Prefix}
 use Rattle.owl_atom.specs.Prefixes.{expansion}
-use Rattle.owl_reader.specs.Steps.{ComesNext, Step, events_of}
+use Rattle.owl_reader.specs.Following.{ComesNext}
+use Rattle.owl_reader.specs.Steps.{Step, events_of}
 use Rattle.owl_tokens.specs.declared.token.Token.{Token}
 use Rattle.owl_tokens.specs.declared.token.Token.TheVariants as token
 use Rattle.owl_tree.specs.declared.atom.Atom.{Atom}

@@ -1,5 +1,6 @@
 -- What Functional-Style Syntax tells of its tokens and acts.
-use Rattle.std.specs.Prelude.{◌==◌, ℕ, [], if◌then◌else◌}
+use Rattle.std.specs.Prelude.{◌==◌, ℕ, false, [], if◌then◌else◌}
+use Rattle.owl_reader.specs.Events.{BarsByEvents}
 use Rattle.owl_reader.specs.Syntaxes.{Rules}
 use Rattle.owl_reader.specs.declared.item.Mark.{Mark}
 use Rattle.owl_reader.specs.declared.item.Mark.TheVariants.{Again, Last, Within}
@@ -16,4 +17,12 @@ abbrev pub mark_of : ℕ → Mark
 mark_of a = if a == act_number EndItem then Last else (if a == act_number OntologyIri then Again else (if a == act_number VersionIri then Again else Within))
 
 abbrev pub functional_rules : Rules Token
-functional_rules = record { class = class_of; document = rule_number document; mark = mark_of; Bars = Bars; long_quotes = [] }
+functional_rules = record {
+  class = class_of;
+  document = rule_number document;
+  mark = mark_of;
+  begins = λ next. false;
+  behind = [];
+  Bars = BarsByEvents Bars;
+  long_quotes = [];
+}

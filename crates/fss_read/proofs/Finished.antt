@@ -1,6 +1,7 @@
 -- What was assembled of a whole document is what its bytes say.
 use Rattle.std.proofs.Common.{◌≡◌, ℕ, List, [], ◌∷◌, refl, ap, subst}
 use Rattle.owl_doc.specs.Documents.{Document, ontology_of}
+use Rattle.owl_reader.specs.Events.{WholeByEvents}
 use Rattle.owl_reader.specs.Readings.{IsRead}
 use Rattle.owl_reader.specs.Steps.{Step, plain, tokens_in}
 use Rattle.owl_tokens.specs.Tokens.{Spells}
@@ -25,7 +26,7 @@ pub record Finishes (a : Assembler) (d : Document) : Type 0 where
   pub same : (m : Maker) → Assembles a m → IsSameOntology m.document.ontology (ontology_of d)
   pub within : IsWithinLimits (ontology_of d)
 
-pub reads : (bytes : List ℕ) (a : Assembler) (d : Document) → IsRead Spells functional functional_rules Did bytes a → Finishes a d → ReadsFunctional bytes d.prefixes (ontology_of d)
+pub reads : (bytes : List ℕ) (a : Assembler) (d : Document) → IsRead Spells functional functional_rules (WholeByEvents Did) bytes a → Finishes a d → ReadsFunctional bytes d.prefixes (ontology_of d)
 reads bytes a d r f =
     let it = r.ends.made_by in
     let table = f.table it.maker it.assembles in

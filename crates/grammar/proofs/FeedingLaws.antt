@@ -57,11 +57,22 @@ fed_begins {events = events} fed = record {
   derives = fed.leads.all fed.lives.tokens fed.lives.events fed.lives.derives;
 }
 
+-- with one that may go on it begins something, and where it does the token may go on
+pub fed_takes : {g : List Entry} {start : List Symbol} {front : List ℕ} {events : List (Event ℕ)} {ss : List Symbol} → Fed g start front events ss → (class : ℕ) → Begins g ss (class ∷ []) → Begins g start (front ++ class ∷ [])
+fed_takes {g = g} {start = start} {front = front} {events = events} fed class b = record {
+  more = b.more;
+  events = events ++ b.events;
+  derives = subst (λ (ts : List ℕ). Derives g start ts (events ++ b.events)) (sym (append_assoc front (class ∷ []) b.more)) (fed.leads.all (class ∷ b.more) b.events b.derives);
+}
+
+pub fed_goes_on : {g : List Entry} {start : List Symbol} {front : List ℕ} {events : List (Event ℕ)} {ss : List Symbol} → Fed g start front events ss → (class : ℕ) → Begins g start (front ++ class ∷ []) → Begins g ss (class ∷ [])
+fed_goes_on {g = g} {start = start} {front = front} fed class b =
+    let it = fed.leads.only (class ∷ b.more) b.events (subst (λ (ts : List ℕ). Derives g start ts b.events) (append_assoc front (class ∷ []) b.more) b.derives) in
+    record { more = b.more; events = it.more; derives = it.derives }
+
 -- with a token that is refused it begins nothing
 pub fed_refuses : {g : List Entry} {start : List Symbol} {front : List ℕ} {events : List (Event ℕ)} {ss : List Symbol} → Fed g start front events ss → (class : ℕ) → Refuses g ss class → Begins g start (front ++ class ∷ []) → ⊥
-fed_refuses {g = g} {start = start} {front = front} fed class never b =
-    let it = fed.leads.only (class ∷ b.more) b.events (subst (λ (ts : List ℕ). Derives g start ts b.events) (append_assoc front (class ∷ []) b.more) b.derives) in
-    never b.more it.more it.derives
+fed_refuses fed class never b = let it = fed_goes_on fed class b in never it.more it.events it.derives
 
 -- at the end these are all tokens, and their only events
 pub fed_ends : {g : List Entry} {start : List Symbol} {front : List ℕ} {events : List (Event ℕ)} {old new : Parsing} {before after : List ℕ} → Fed g start front events old.expected → (e : Ends g old before new after) → Derives g start front (events ++ map Do e.given)

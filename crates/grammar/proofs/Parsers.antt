@@ -1,5 +1,7 @@
 -- What the moves of a parser come to.
-use Rattle.std.proofs.Common.{◌≡◌, ℕ, true, Option, None, Some, List, [], ◌∷◌, reverse, sym, subst}
+use Rattle.std.proofs.Common.{◌≡◌, ℕ, true, Option, None, Some, List, [], ◌∷◌, ◌++◌, map, reverse, sym, subst}
+use Rattle.grammar.specs.Derivations.{Begins}
+use Rattle.grammar.specs.Derivations.Event.{Do, Take}
 use Rattle.grammar.specs.Grammars.{Entry, has_rule}
 use Rattle.grammar.specs.Parsing.{Feeds, NeedsMore, Parsing, Refuses}
 use Rattle.grammar.specs.Predicting.{end_class}
@@ -37,6 +39,18 @@ ends_here g old before new after needed s e f = finishes g old before after (non
 
 pub ends_later : (g : List Entry) (old : List Symbol) (before : List ℕ) (new : List Symbol) (after : List ℕ) (needed : Option ℕ) (c : ℕ) → Settles g end_class old before (needed_first needed new) after → needed ≡ Some c → NeedsMore g old
 ends_later g old before new after needed c s e = needs_token g c old before new after (some_needed g end_class old before new after needed c e s)
+
+-- what a copy of a stack tells of it
+
+pub begins_so : {g : List Entry} → IsProductive g → (stack copy : List Symbol) (class : ℕ) (before : List ℕ) (new : List Symbol) (after : List ℕ) → copy ≡ stack → Steps g class (reverse copy) before new after → Begins g (reverse stack) (class ∷ [])
+begins_so {g = g} p stack copy class before new after same s =
+    let it = lives p new s.followed in
+    subst (λ (l : List Symbol). Begins g (reverse l) (class ∷ [])) same
+    (record { more = it.tokens; events = (map Do s.given ++ Take class ∷ []) ++ it.events; derives = s.leads.all it.tokens it.events it.derives })
+
+pub begins_never : {g : List Entry} (stack copy : List Symbol) (class : ℕ) → copy ≡ stack → Refuses g (reverse copy) class → Begins g (reverse stack) (class ∷ []) → ⊥
+begins_never {g = g} stack copy class same never b =
+    (subst (λ (l : List Symbol). Refuses g (reverse l) class) same never) b.more b.events b.derives
 
 -- what a parser that has not refused comes to
 pub feeds : {g : List Entry} → IsProductive g → (old : Parsing) (stack : List Symbol) (refused : Option ParseFault) (class : ℕ) (before : List ℕ) (new : List Symbol) (after : List ℕ) → record { expected = stack; refused = refused } ≡ old → refused ≡ None → Steps g class stack before new after → Feeds g old class before (record { expected = new; refused = refused }) after

@@ -1,6 +1,7 @@
 -- What a parser is, and what comes of it.
 use Rattle.std.specs.Prelude.{◌≡◌, ℕ, Option, None, List, [], ◌∷◌, ◌++◌, map}
-use Rattle.grammar.specs.Derivations.{Derives, Event, Lives}
+use Rattle.std.specs.List.{Contains}
+use Rattle.grammar.specs.Derivations.{Begins, Derives, Event, Lives}
 use Rattle.grammar.specs.Derivations.Event.{Do, Take}
 use Rattle.grammar.specs.Grammars.{Entry}
 use Rattle.grammar.specs.declared.fault.ParseFault.{ParseFault}
@@ -38,6 +39,12 @@ pub record Feeds (g : List Entry) (old : Parsing) (class : ℕ) (before : List �
 -- nothing that derives from these symbols begins with a token of this class
 abbrev pub Refuses : List Entry → List Symbol → ℕ → Type 0
 Refuses g ss class = (more : List ℕ) (es : List (Event ℕ)) → Derives g ss (class ∷ more) es → ⊥
+
+-- something that derives from these symbols begins with a token of one of these classes
+pub record TakesOneOf (g : List Entry) (ss : List Symbol) (classes : List ℕ) : Type 0 where
+  pub class : ℕ
+  pub among : Contains classes class
+  pub begins : Begins g ss (class ∷ [])
 
 -- Nothing more is needed, and the last acts, which are the only events of no tokens, were added to a list.
 pub record Ends (g : List Entry) (old : Parsing) (before : List ℕ) (new : Parsing) (after : List ℕ) : Type 0 where

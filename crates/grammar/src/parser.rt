@@ -1,8 +1,9 @@
 //! The parser.
 
-ghost use Rattle.std.specs.Prelude.{◌≡◌, true, [], ◌∷◌, length, take, reverse, None, Some, Err, OnOk, IfOk, IfErr};
+ghost use Rattle.std.specs.Prelude.{◌≡◌, ◌↔◌, true, false, [], ◌∷◌, length, take, reverse, None, Some, Ok, Err, OnOk, IfOk, IfErr, IsTrue};
+ghost use Rattle.grammar.specs.Derivations.{Begins};
 ghost use Rattle.grammar.specs.Grammars.{has_rule};
-ghost use Rattle.grammar.specs.Parsing.{Ends, Feeds, NeedsMore, Refuses, expects};
+ghost use Rattle.grammar.specs.Parsing.{Ends, Feeds, NeedsMore, Refuses, TakesOneOf, expects};
 ghost use Rattle.grammar.specs.Predictions.{AreFollowed};
 ghost use Rattle.grammar.specs.Settling.{Finishes, RefusesAt, Settles, Steps, needed_first};
 ghost use Rattle.grammar.specs.declared.fault.ParseFault.{ParseFault};
@@ -55,6 +56,21 @@ fn take<T: Table>(stack: &mut Vec<Symbol>, class: u8, acts: &mut Vec<u8>) -> Res
     match next_needed::<T>(stack, class, acts)? {
         Some(needed) if needed == class => Ok(()),
         _ => Err(ParseFault::Unexpected),
+    }
+}
+
+/// Whether a token of this class would be taken. The stack stays as it is.
+fn takes<T: Table>(alloc: Global, stack: &[Symbol], class: u8) -> Result<bool, AllocError>
+    requires { AreFollowed T.grammar (reverse stack.now) }
+    ensures { IfOk result (λ takes.
+        IsTrue takes ↔ Begins T.grammar (reverse stack.now) (class ∷ [])) }
+{
+    let mut copy = Vec::from_slice(alloc, stack)?;
+    let mut acts = Vec::new(alloc);
+    match take::<T>(&mut copy, class, &mut acts) {
+        Ok(()) => Ok(true),
+        Err(ParseFault::Unexpected) => Ok(false),
+        Err(ParseFault::Memory) => Err(AllocError),
     }
 }
 
@@ -168,5 +184,24 @@ impl<T: Table> Parser<T> {
             return Err(fault);
         }
         Ok(())
+    }
+    /// Whether some sentence of the grammar goes on from what was fed with a
+    /// token of one of these classes. Nothing is fed, and it takes memory for a
+    /// copy of what is expected. A parser that has refused answers no.
+    pub fn takes_one_of(&self, alloc: Global, classes: &[u8]) -> Result<bool, AllocError>
+        ensures tells { self.now.refused ≡ None → IfOk result (λ takes.
+            IsTrue takes ↔ TakesOneOf T.grammar self.now.expected classes.now) }
+        ensures refused { (fault : ParseFault) → self.now.refused ≡ Some fault →
+            result ≡ Ok false }
+    {
+        if self.refused.is_some() {
+            return Ok(false);
+        }
+        for class in classes {
+            if takes::<T>(alloc, &self.expected, *class)? {
+                return Ok(true);
+            }
+        }
+        Ok(false)
     }
 }

@@ -1,8 +1,8 @@
 //! What the parser answers, against answers by hand.
 
-use crate::items::{Act, Class};
+use crate::items::{Act, Class, Items, Rule};
 use crate::sentence::{Event, Refusal, parse};
-use grammar::ParseFault;
+use grammar::{ParseFault, Parser};
 use std::alloc::Global;
 use std::test::Fail;
 
@@ -37,6 +37,13 @@ fn is_wrong_at(alloc: Global, classes: &[u8], place: usize) -> bool {
         fault: ParseFault::Unexpected,
         place,
     })
+}
+
+/// Whether a parser that was fed a token takes one of those next.
+fn takes_behind(alloc: Global, class: u8, asked: &[u8]) -> Result<bool, ParseFault> {
+    let mut parser = Parser::<Items>::new(alloc, Rule::Item as u16)?;
+    parser.feed(class, &mut Vec::new(alloc))?;
+    Ok(parser.takes_one_of(alloc, asked)?)
 }
 
 #[test]
@@ -82,5 +89,15 @@ fn the_first_wrong_token_is_told(rt: HostRuntime) -> Result<(), Fail> {
     assert!(rt; is_wrong_at(alloc, &[OPEN, WORD, COMMA, CLOSE], 3));
     assert!(rt; is_wrong_at(alloc, &[OPEN, WORD], 2));
     assert!(rt; is_wrong_at(alloc, &[OPEN, WORD, COLON, WORD, 99], 4));
+    Ok(())
+}
+
+#[test]
+fn it_is_told_whether_one_of_some_tokens_is_taken(rt: HostRuntime) -> Result<(), Fail> {
+    let alloc = rt.alloc();
+    assert!(rt; takes_behind(alloc, WORD, &[COMMA, COLON]) == Ok(true));
+    assert!(rt; takes_behind(alloc, WORD, &[COMMA, WORD, 99]) == Ok(false));
+    assert!(rt; takes_behind(alloc, OPEN, &[CLOSE]) == Ok(true));
+    assert!(rt; takes_behind(alloc, OPEN, &[]) == Ok(false));
     Ok(())
 }

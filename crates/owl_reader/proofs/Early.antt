@@ -6,7 +6,6 @@ use Rattle.std.specs.Str.{encode_utf8_all}
 use Rattle.std.proofs.lemmas.Bool.{eqb-true, or_cases}
 use Rattle.std.proofs.lemmas.List.{append_assoc, append-nil, get_or-append-add, length-append}
 use Rattle.std.proofs.lemmas.Str.{encodes-append}
-use Rattle.grammar.specs.Derivations.{Event}
 use Rattle.grammar.specs.Grammars.{Entry, has_rule}
 use Rattle.grammar.specs.Parsing.{Parsing}
 use Rattle.grammar.specs.Predicting.{is_predictive}
@@ -242,17 +241,17 @@ record ComesOf {T : Type 0} (spells : T → List ℕ → Type 0) (begun : Begun)
   before : List (Placed T)
   continues : Continues spells begun [] (before ++ p ∷ others) ending
 
-comes_behind : {T : Type 0} {spells : T → List ℕ → Type 0} {g : List Entry} {rules : Rules T} {b : Begun} {steps taken : List (Step T)} {p : Placed T} {others rest : List (Placed T)} {ending : Option LexFault} {r : ReadFault} → is_predictive g ≡ true → has_rule g rules.document ≡ true → Begin g rules taken → IsRefused g rules steps p.at (Some p.token) r → Continues spells b [] rest ending → Fronts steps (p ∷ others) taken rest → ComesOf spells b p others ending
+comes_behind : {T : Type 0} {spells : T → List ℕ → Type 0} {g : List Entry} {rules : Rules T} {b : Begun} {steps taken : List (Step T)} {p : Placed T} {others rest : List (Placed T)} {ending : Option LexFault} {r : ReadFault} → is_predictive g ≡ true → has_rule g rules.document ≡ true → Begin g rules taken → IsRefused g rules steps p.at (Some p) r → Continues spells b [] rest ending → Fronts steps (p ∷ others) taken rest → ComesOf spells b p others ending
 comes_behind {T} {spells = spells} {b = b} {ending = ending} predicts known begin refused k (alike tokens same) =
     record { before = []; continues = subst (λ (l : List (Placed T)). Continues spells b [] l ending) (sym same) k }
 comes_behind {T} {g = g} {rules = rules} {steps = steps} {p = p} {r = r} predicts known begin refused k (sooner front s back parts tokens first) =
     let same : p ≡ s.token = cc in
     absurd (never_taken (predictive g predicts) known steps front s back tokens (subst (Begin g rules) parts begin)
-    (subst (λ (t : Placed T). IsRefused g rules steps t.at (Some t.token) r) same refused))
+    (subst (λ (t : Placed T). IsRefused g rules steps t.at (Some t) r) same refused))
 comes_behind {T} {spells = spells} {b = b} {ending = ending} predicts known begin refused k (later front s back parts tokens first) =
     record { before = s.token ∷ tokens_in back; continues = subst (λ (l : List (Placed T)). Continues spells b [] l ending) first k }
 
-comes_of : {T S : Type 0} {spells : T → List ℕ → Type 0} {g : List Entry} {rules : Rules T} {Made : List (Event T) → S → Type 0} {lexing : Lexing} {parsing : Parsing} {made : S} {last : Option Item} {bytes : List ℕ} {r : ReadFault} → is_predictive g ≡ true → has_rule g rules.document ≡ true → IsOpen spells g rules Made lexing parsing made last bytes → (d : HasDefectBeforeSpace spells g rules bytes r) → ComesOf spells lexing.begun d.token d.others d.ending
+comes_of : {T S : Type 0} {spells : T → List ℕ → Type 0} {g : List Entry} {rules : Rules T} {Made : List (Step T) → S → Type 0} {lexing : Lexing} {parsing : Parsing} {made : S} {last : Option Item} {bytes : List ℕ} {r : ReadFault} → is_predictive g ≡ true → has_rule g rules.document ≡ true → IsOpen spells g rules Made lexing parsing made last bytes → (d : HasDefectBeforeSpace spells g rules bytes r) → ComesOf spells lexing.begun d.token d.others d.ending
 comes_of {spells = spells} {bytes = bytes} predicts known o d =
     let all = tokens_in d.steps ++ d.token ∷ d.others in
     let rest = o.gives.all [] all d.ending (subst (λ (l : List ℕ). Splits spells l all d.ending) (sym (append-nil bytes)) d.splits) in
@@ -260,7 +259,7 @@ comes_of {spells = spells} {bytes = bytes} predicts known o d =
 
 -- ---- so it is not held back
 
-begun_at : {T S : Type 0} {spells : T → List ℕ → Type 0} {g : List Entry} {rules : Rules T} {Made : List (Event T) → S → Type 0} {lexing : Lexing} {parsing : Parsing} {made : S} {last : Option Item} {bytes : List ℕ} → IsOpen spells g rules Made lexing parsing made last bytes → (e : EndWith bytes lexing.begun) → lexing.begun.at ≡ length e.front
+begun_at : {T S : Type 0} {spells : T → List ℕ → Type 0} {g : List Entry} {rules : Rules T} {Made : List (Step T) → S → Type 0} {lexing : Lexing} {parsing : Parsing} {made : S} {last : Option Item} {bytes : List ℕ} → IsOpen spells g rules Made lexing parsing made last bytes → (e : EndWith bytes lexing.begun) → lexing.begun.at ≡ length e.front
 begun_at {lexing = lexing} o e =
     let place = o.place in
     let sizes = ap (λ (l : List ℕ). length l) e.parts ∙ length-append e.front lexing.begun.held in
@@ -270,7 +269,7 @@ origin_is : (fresh : Bool) (at : ℕ) (front : List ℕ) → at ≡ length front
 origin_is true at front e none = sym (ap (λ (l : List ℕ). length l) (none refl))
 origin_is false at front e none = e
 
-no_defect : {T S : Type 0} {spells : T → List ℕ → Type 0} {g : List Entry} {rules : Rules T} {Made : List (Event T) → S → Type 0} {lexing : Lexing} {parsing : Parsing} {made : S} {last : Option Item} {bytes : List ℕ} {r : ReadFault} → is_predictive g ≡ true → has_rule g rules.document ≡ true → HoldsNoEnd spells rules.long_quotes lexing.begun → IsOpen spells g rules Made lexing parsing made last bytes → (HoldsQuotes rules bytes → ⊥) → HasDefectBeforeSpace spells g rules bytes r → ⊥
+no_defect : {T S : Type 0} {spells : T → List ℕ → Type 0} {g : List Entry} {rules : Rules T} {Made : List (Step T) → S → Type 0} {lexing : Lexing} {parsing : Parsing} {made : S} {last : Option Item} {bytes : List ℕ} {r : ReadFault} → is_predictive g ≡ true → has_rule g rules.document ≡ true → HoldsNoEnd spells rules.long_quotes lexing.begun → IsOpen spells g rules Made lexing parsing made last bytes → (HoldsQuotes rules bytes → ⊥) → HasDefectBeforeSpace spells g rules bytes r → ⊥
 no_defect {T} {spells = spells} {rules = rules} {lexing = lexing} {bytes = bytes} predicts known holds o none d =
     let b = lexing.begun in
     let e = o.ends in
@@ -289,10 +288,10 @@ no_defect {T} {spells = spells} {rules = rules} {lexing = lexing} {bytes = bytes
     holds unquoted [] tokens d.ending come.continues (w.front ++ w.spelling) space.1 space.0 (sym (append-nil b.held) ∙ space.2) space.3
     (subst (λ (n : ℕ). Ends (n + size (w.front ++ w.spelling))) (sym at) w.ends)
 
-pub none_before_space : {T S : Type 0} {spells : T → List ℕ → Type 0} {g : List Entry} {rules : Rules T} {Made : List (Event T) → S → Type 0} {lexing : Lexing} {parsing : Parsing} {made : S} {last : Option Item} {bytes : List ℕ} → is_predictive g ≡ true → has_rule g rules.document ≡ true → HoldsNoEnd spells rules.long_quotes lexing.begun → IsOpen spells g rules Made lexing parsing made last bytes → HasNoneBeforeSpace spells g rules bytes
+pub none_before_space : {T S : Type 0} {spells : T → List ℕ → Type 0} {g : List Entry} {rules : Rules T} {Made : List (Step T) → S → Type 0} {lexing : Lexing} {parsing : Parsing} {made : S} {last : Option Item} {bytes : List ℕ} → is_predictive g ≡ true → has_rule g rules.document ≡ true → HoldsNoEnd spells rules.long_quotes lexing.begun → IsOpen spells g rules Made lexing parsing made last bytes → HasNoneBeforeSpace spells g rules bytes
 none_before_space predicts known holds o unquoted refusal d = no_defect predicts known holds o unquoted d
 
-pub tells_early : {T S : Type 0} {spells : T → List ℕ → Type 0} {g : List Entry} {rules : Rules T} {Made : List (Event T) → S → Type 0} (x r : Reading S) → x ≡ r → is_predictive g ≡ true → has_rule g rules.document ≡ true → x.refused ≡ None → HoldsNoEnd spells rules.long_quotes x.lexing.begun → TellsEarly spells g rules Made r
+pub tells_early : {T S : Type 0} {spells : T → List ℕ → Type 0} {g : List Entry} {rules : Rules T} {Made : List (Step T) → S → Type 0} (x r : Reading S) → x ≡ r → is_predictive g ≡ true → has_rule g rules.document ≡ true → x.refused ≡ None → HoldsNoEnd spells rules.long_quotes x.lexing.begun → TellsEarly spells g rules Made r
 tells_early {spells = spells} {g = g} {rules = rules} {Made = Made} x r same predicts known none holds = subst (TellsEarly spells g rules Made) same (record {
   holds = holds;
   none = λ bytes h. none_before_space predicts known holds (h.open_yet none);

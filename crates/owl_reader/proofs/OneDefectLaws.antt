@@ -1,5 +1,5 @@
 -- Bytes have one first defect at most.
-use Rattle.std.proofs.Common.{◌≡◌, ℕ, ◌≤◌, true, List, [], ◌∷◌, ◌++◌, length, map, Option, None, Some, refl, sym, ◌∙◌, subst, arith}
+use Rattle.std.proofs.Common.{◌≡◌, ℕ, ◌≤◌, Bool, true, false, List, [], ◌∷◌, ◌++◌, length, map, Option, None, Some, refl, sym, ap, ◌∙◌, subst, arith}
 use Rattle.std.proofs.lemmas.List.{append-nil}
 use Rattle.grammar.specs.Derivations.{Begins, Derives, Event}
 use Rattle.grammar.specs.Derivations.Event.{Do}
@@ -18,11 +18,15 @@ use Rattle.owl_reader.specs.Defects.HasDefect.{at_end, at_token, no_token}
 use Rattle.owl_reader.specs.Defects.IsFirstDefect.{beyond, too_long, within}
 use Rattle.owl_reader.specs.Defects.IsRefused.{barred, wrong_end, wrong_token}
 use Rattle.owl_reader.specs.Faults.{fault_at, lexing_refusal}
-use Rattle.owl_reader.specs.Items.{item_start, last_item, resumes_item}
+use Rattle.owl_reader.specs.Items.{BeginsItem, item_start, last_item, resumes_item}
+use Rattle.owl_reader.specs.Items.BeginsItem.{anew, inside}
 use Rattle.owl_reader.proofs.SameStepsLaws.{follow_begins, follow_ends, same_acts_next, same_follow, same_plain, same_steps, step_follows}
-use Rattle.owl_reader.specs.Steps.{MayFollow, Step, events_of, plain, tokens_in}
+use Rattle.owl_reader.specs.Following.{MayFollow}
+use Rattle.owl_reader.specs.Steps.{Step, events_of, plain, token_in, tokens_in}
 use Rattle.owl_reader.specs.Syntaxes.{Rules}
 use Rattle.owl_reader.specs.declared.fault.ReadFault.{ReadFault}
+use Rattle.owl_reader.specs.declared.fault.ReadFault.TheVariants as read
+use Rattle.owl_reader.specs.declared.fault.Reason.TheVariants as reason
 use Rattle.owl_reader.specs.declared.fault.TokenFault.{TokenFault}
 
 -- bytes are one list of tokens, and end in one way
@@ -34,45 +38,60 @@ ComeOneWay {T} spells =
 -- acts are barred for one reason
 abbrev pub BarOneWay : {T : Type 0} → Rules T → Type 0
 BarOneWay {T} rules =
-    (events : List (Event T)) (acts : List ℕ) (next : Option T) (f h : TokenFault) →
-    rules.Bars events acts next f → rules.Bars events acts next h → f ≡ h
+    (steps : List (Step T)) (acts : List ℕ) (next : Option (Placed T)) (f h : TokenFault) →
+    rules.Bars steps acts next f → rules.Bars steps acts next h → f ≡ h
 
 -- ---- at one place
 
 -- what the acts bar is not refused by the grammar
-wrong_not_barred : {T : Type 0} {g : List Entry} {rules : Rules T} {acts : List ℕ} {next : Option T} {x : T} (steps : List (Step T)) → next ≡ Some x → (Begins g (Rule rules.document ∷ []) (map rules.class (plain steps) ++ rules.class x ∷ []) → ⊥) → MayFollow g rules (events_of steps) acts next → ⊥
-wrong_not_barred {g = g} {rules = rules} {acts = acts} steps e never f =
-    never (follow_begins steps (subst (MayFollow g rules (events_of steps) acts) e f))
+wrong_not_barred : {T : Type 0} {g : List Entry} {rules : Rules T} {acts : List ℕ} {next : Option (Placed T)} {p : Placed T} (steps : List (Step T)) → next ≡ Some p → (Begins g (Rule rules.document ∷ []) (map rules.class (plain steps) ++ rules.class p.token ∷ []) → ⊥) → MayFollow g rules (events_of steps) acts (token_in next) → ⊥
+wrong_not_barred {T} {g = g} {rules = rules} {acts = acts} steps e never f =
+    never (follow_begins steps (subst (λ (n : Option (Placed T)). MayFollow g rules (events_of steps) acts (token_in n)) e f))
 
-end_not_barred : {T : Type 0} {g : List Entry} {rules : Rules T} {acts : List ℕ} {next : Option T} (steps : List (Step T)) → next ≡ None → ((events : List (Event ℕ)) → Derives g (Rule rules.document ∷ []) (map rules.class (plain steps)) events → ⊥) → MayFollow g rules (events_of steps) acts next → ⊥
-end_not_barred {g = g} {rules = rules} {acts = acts} steps e never f =
-    never (map (lower rules.class) (events_of steps) ++ map Do acts) (follow_ends steps (subst (MayFollow g rules (events_of steps) acts) e f))
+end_not_barred : {T : Type 0} {g : List Entry} {rules : Rules T} {acts : List ℕ} {next : Option (Placed T)} (steps : List (Step T)) → next ≡ None → ((events : List (Event ℕ)) → Derives g (Rule rules.document ∷ []) (map rules.class (plain steps)) events → ⊥) → MayFollow g rules (events_of steps) acts (token_in next) → ⊥
+end_not_barred {T} {g = g} {rules = rules} {acts = acts} steps e never f =
+    never (map (lower rules.class) (events_of steps) ++ map Do acts) (follow_ends steps (subst (λ (n : Option (Placed T)). MayFollow g rules (events_of steps) acts (token_in n)) e f))
 
-one_refusal : {T : Type 0} {g : List Entry} {rules : Rules T} {steps : List (Step T)} {at : ℕ} {next : Option T} {r s : ReadFault} → IsPredictive g → has_rule g rules.document ≡ true → BarOneWay rules → IsRefused g rules steps at next r → IsRefused g rules steps at next s → r ≡ s
-one_refusal p known bars (wrong_token x e never i) (wrong_token y f nor j) = i ∙ sym j
-one_refusal p known bars (wrong_token x e never i) (wrong_end f nor j) = i ∙ sym j
-one_refusal {steps = steps} p known bars (wrong_token x e never i) (barred acts f some may bar j) =
+-- a token or the end begins an item or not
+one_begin : {T : Type 0} {g : List Entry} {rules : Rules T} {steps : List (Step T)} {next : Option T} {a b : Bool} → BeginsItem g rules steps next a → BeginsItem g rules steps next b → a ≡ b
+one_begin (anew e whole) (anew f other) = refl
+one_begin (anew e whole) (inside never) = absurd (never e whole)
+one_begin (inside never) (anew e whole) = absurd (never e whole)
+one_begin (inside never) (inside nor) = refl
+
+-- the refusal of what no document goes on with
+abbrev not_here : {T : Type 0} → Rules T → List (Step T) → ℕ → Bool → ReadFault
+not_here rules steps at begins = read.Refused (item_start begins false (last_item rules steps) at) at reason.NotHere
+
+one_refusal : {T : Type 0} {g : List Entry} {rules : Rules T} {steps : List (Step T)} {at : ℕ} {next : Option (Placed T)} {r s : ReadFault} → IsPredictive g → has_rule g rules.document ≡ true → BarOneWay rules → IsRefused g rules steps at next r → IsRefused g rules steps at next s → r ≡ s
+one_refusal {rules = rules} {steps = steps} {at = at} p known bars (wrong_token x a e never b i) (wrong_token y c f nor d j) =
+    i ∙ ap (not_here rules steps at) (one_begin b d) ∙ sym j
+one_refusal {rules = rules} {steps = steps} {at = at} p known bars (wrong_token x a e never b i) (wrong_end c f nor d j) =
+    i ∙ ap (not_here rules steps at) (one_begin b d) ∙ sym j
+one_refusal {steps = steps} p known bars (wrong_token x a e never b i) (barred acts f some may bar j) =
     absurd (wrong_not_barred steps e never may)
-one_refusal p known bars (wrong_end e never i) (wrong_token y f nor j) = i ∙ sym j
-one_refusal p known bars (wrong_end e never i) (wrong_end f nor j) = i ∙ sym j
-one_refusal {steps = steps} p known bars (wrong_end e never i) (barred acts f some may bar j) =
+one_refusal {rules = rules} {steps = steps} {at = at} p known bars (wrong_end a e never b i) (wrong_token y c f nor d j) =
+    i ∙ ap (not_here rules steps at) (one_begin b d) ∙ sym j
+one_refusal {rules = rules} {steps = steps} {at = at} p known bars (wrong_end a e never b i) (wrong_end c f nor d j) =
+    i ∙ ap (not_here rules steps at) (one_begin b d) ∙ sym j
+one_refusal {steps = steps} p known bars (wrong_end a e never b i) (barred acts f some may bar j) =
     absurd (end_not_barred steps e never may)
-one_refusal {steps = steps} p known bars (barred acts f some may bar i) (wrong_token y e never j) =
+one_refusal {steps = steps} p known bars (barred acts f some may bar i) (wrong_token y a e never b j) =
     absurd (wrong_not_barred steps e never may)
-one_refusal {steps = steps} p known bars (barred acts f some may bar i) (wrong_end e never j) =
+one_refusal {steps = steps} p known bars (barred acts f some may bar i) (wrong_end a e never b j) =
     absurd (end_not_barred steps e never may)
 one_refusal {rules = rules} {steps = steps} {at = at} {next = next} p known bars (barred acts f some may bar i) (barred others h other might ban j) =
-    let same = same_acts_next p known steps next may might in
-    let fault = bars (events_of steps) acts next f h bar (subst (λ (l : List ℕ). rules.Bars (events_of steps) l next h) (sym same) ban) in
-    i ∙ (λ k. fault_at (fault k) (item_start (resumes_item rules.mark (same k)) (last_item rules.mark steps) at) at) ∙ sym j
+    let same = same_acts_next p known steps (token_in next) may might in
+    let fault = bars steps acts next f h bar (subst (λ (l : List ℕ). rules.Bars steps l next h) (sym same) ban) in
+    i ∙ (λ k. fault_at (fault k) (item_start (rules.begins (token_in next)) (resumes_item rules.mark (same k)) (last_item rules steps) at) at) ∙ sym j
 
 -- ---- defects, whatever stands there
 
 -- behind these steps one of these tokens is refused, or the end, or there is no token
 abbrev Stops : {T : Type 0} → List Entry → Rules T → List ℕ → List (Step T) → List (Placed T) → Option LexFault → ReadFault → Type 0
-Stops g rules bytes steps (p ∷ others) ending r = IsRefused g rules steps p.at (Some p.token) r
+Stops g rules bytes steps (p ∷ others) ending r = IsRefused g rules steps p.at (Some p) r
 Stops g rules bytes steps [] None r = IsRefused g rules steps (length bytes) None r
-Stops g rules bytes steps [] (Some fault) r = r ≡ lexing_refusal fault (last_item rules.mark steps)
+Stops g rules bytes steps [] (Some fault) r = r ≡ lexing_refusal fault (last_item rules steps)
 
 record Defect {T : Type 0} (spells : T → List ℕ → Type 0) (g : List Entry) (rules : Rules T) (bytes : List ℕ) (r : ReadFault) : Type 0 where
   steps : List (Step T)
@@ -136,18 +155,18 @@ fronts (x ∷ a) b [] d e = later [] x a refl refl (sym e)
 fronts (x ∷ a) b (y ∷ c) d e = fronts_more x y a b c d (cc) (fronts a b c d (cc))
 
 -- a token that is refused behind some steps is not taken behind the same tokens
-pub never_taken : {T : Type 0} {g : List Entry} {rules : Rules T} {r : ReadFault} → IsPredictive g → has_rule g rules.document ≡ true → (steps front : List (Step T)) (s : Step T) (back : List (Step T)) → tokens_in steps ≡ tokens_in front → Begin g rules (front ++ s ∷ back) → IsRefused g rules steps s.token.at (Some s.token.token) r → ⊥
-never_taken {T} {g = g} {rules = rules} p known steps front s back e begin (wrong_token x is never i) =
-    let same : s.token.token ≡ x = cc in
-    never (subst (λ (y : T). Begins g (Rule rules.document ∷ []) (map rules.class (plain steps) ++ rules.class y ∷ [])) same
+pub never_taken : {T : Type 0} {g : List Entry} {rules : Rules T} {r : ReadFault} → IsPredictive g → has_rule g rules.document ≡ true → (steps front : List (Step T)) (s : Step T) (back : List (Step T)) → tokens_in steps ≡ tokens_in front → Begin g rules (front ++ s ∷ back) → IsRefused g rules steps s.token.at (Some s.token) r → ⊥
+never_taken {T} {g = g} {rules = rules} p known steps front s back e begin (wrong_token x begins is never b i) =
+    let same : s.token ≡ x = cc in
+    never (subst (λ (y : Placed T). Begins g (Rule rules.document ∷ []) (map rules.class (plain steps) ++ rules.class y.token ∷ [])) same
     (subst (λ (l : List T). Begins g (Rule rules.document ∷ []) (map rules.class l ++ rules.class s.token.token ∷ [])) (sym (same_plain steps front e))
     (follow_begins front (step_follows front s back begin))))
-never_taken p known steps front s back e begin (wrong_end is never i) = absurd (cc)
+never_taken p known steps front s back e begin (wrong_end begins is never b i) = absurd (cc)
 never_taken {T} {rules = rules} p known steps front s back e begin (barred acts f some may bar i) =
     let same = same_follow p known steps front e may (step_follows front s back begin) in
     begin.none_barred front back s f refl
-    (subst (λ (l : List ℕ). rules.Bars (events_of front) l (Some s.token.token) f) same.1
-    (subst (λ (l : List (Step T)). rules.Bars (events_of l) acts (Some s.token.token) f) same.0 bar))
+    (subst (λ (l : List ℕ). rules.Bars front l (Some s.token) f) same.1
+    (subst (λ (l : List (Step T)). rules.Bars l acts (Some s.token) f) same.0 bar))
 
 stops_sooner : {T : Type 0} (g : List Entry) (rules : Rules T) (r : ReadFault) → IsPredictive g → has_rule g rules.document ≡ true → (bytes : List ℕ) (steps : List (Step T)) (others : List (Placed T)) (ending : Option LexFault) → Stops g rules bytes steps others ending r → (more front : List (Step T)) (s : Step T) (back : List (Step T)) (rest : List (Placed T)) → Begin g rules more → more ≡ front ++ s ∷ back → tokens_in steps ≡ tokens_in front → others ≡ s.token ∷ rest → ⊥
 stops_sooner {T} g rules r p known bytes steps others ending stops more front s back rest begin parts e first =

@@ -4,7 +4,6 @@ use Rattle.std.proofs.lemmas.List.{append_assoc, append-nil, length-append, leng
 use Rattle.std.proofs.lemmas.Bool.{cases_lt}
 use Rattle.std.proofs.Math.Nat.{min-le_left}
 use Rattle.std.proofs.Math.Seq.{take-append-add}
-use Rattle.grammar.specs.Derivations.{Event}
 use Rattle.grammar.proofs.FeedingLaws.{fed_start}
 use Rattle.grammar.specs.Grammars.{Entry, has_rule}
 use Rattle.grammar.specs.Parsing.{Parsing, expects}
@@ -17,6 +16,7 @@ use Rattle.owl_reader.specs.Defects.HasDefect.{at_end}
 use Rattle.owl_reader.specs.Defects.IsFirstDefect.{beyond, too_long, within}
 use Rattle.owl_reader.specs.Readings.{AreAllTaken, CanRead, HasDefectAlways, HasRead, IsOpen, IsRead, Reading, Refuses}
 use Rattle.owl_reader.specs.Standing.{CanStand, Ends}
+use Rattle.owl_reader.specs.Steps.{Step}
 use Rattle.owl_reader.specs.Syntaxes.{Rules}
 use Rattle.owl_reader.specs.declared.fault.ReadFault.{ReadFault}
 use Rattle.owl_reader.specs.declared.fault.ReadFault.TheVariants as read
@@ -33,7 +33,7 @@ no_step : {X : Type 0} (before after : List X) (x : X) → [] ≡ before ++ x �
 no_step [] after x e = cc
 no_step (y ∷ before) after x e = cc
 
-open_at_first : {T S : Type 0} {spells : T → List ℕ → Type 0} {g : List Entry} {rules : Rules T} {Made : List (Event T) → S → Type 0} → is_predictive g ≡ true → is_productive g ≡ true → has_rule g rules.document ≡ true → (made : S) → Made [] made → IsOpen spells g rules Made (record { begun = nothing_fed; refused = None }) (expects (Rule rules.document ∷ [])) made None []
+open_at_first : {T S : Type 0} {spells : T → List ℕ → Type 0} {g : List Entry} {rules : Rules T} {Made : List (Step T) → S → Type 0} → is_predictive g ≡ true → is_productive g ≡ true → has_rule g rules.document ≡ true → (made : S) → Made [] made → IsOpen spells g rules Made (record { begun = nothing_fed; refused = None }) (expects (Rule rules.document ∷ [])) made None []
 open_at_first {rules = rules} predicts produces known made by = record {
   steps = [];
   lexer_open = refl;
@@ -49,7 +49,7 @@ open_at_first {rules = rules} predicts produces known made by = record {
   };
 }
 
-pub nothing_open : {T S : Type 0} {spells : T → List ℕ → Type 0} {g : List Entry} {rules : Rules T} {Made : List (Event T) → S → Type 0} → is_predictive g ≡ true → is_productive g ≡ true → has_rule g rules.document ≡ true → (made : S) → Made [] made → (lexing : Lexing) → lexing ≡ record { begun = nothing_fed; refused = None } → (start : ℕ) → start ≡ rules.document → (parsing : Parsing) → parsing ≡ expects (Rule start ∷ []) → IsOpen spells g rules Made lexing parsing made None []
+pub nothing_open : {T S : Type 0} {spells : T → List ℕ → Type 0} {g : List Entry} {rules : Rules T} {Made : List (Step T) → S → Type 0} → is_predictive g ≡ true → is_productive g ≡ true → has_rule g rules.document ≡ true → (made : S) → Made [] made → (lexing : Lexing) → lexing ≡ record { begun = nothing_fed; refused = None } → (start : ℕ) → start ≡ rules.document → (parsing : Parsing) → parsing ≡ expects (Rule start ∷ []) → IsOpen spells g rules Made lexing parsing made None []
 nothing_open {spells = spells} {g = g} {rules = rules} {Made = Made} predicts produces known made by lexing l start s parsing e =
     subst (λ (x : Lexing). IsOpen spells g rules Made x parsing made None []) (sym l)
     (subst (λ (p : Parsing). IsOpen spells g rules Made (record { begun = nothing_fed; refused = None }) p made None []) (sym (e ∙ ap (λ (n : ℕ). expects (Rule n ∷ [])) s))
@@ -106,13 +106,13 @@ piece_fits bytes piece fed e few = subst (λ (n : ℕ). n ≤ most_bytes) (sym (
 
 -- ---- a reader
 
-pub moved : {T S : Type 0} {spells : T → List ℕ → Type 0} {g : List Entry} {rules : Rules T} {Made : List (Event T) → S → Type 0} (x r : Reading S) (bytes : List ℕ) → x ≡ r → HasRead spells g rules Made r bytes → HasRead spells g rules Made x bytes
+pub moved : {T S : Type 0} {spells : T → List ℕ → Type 0} {g : List Entry} {rules : Rules T} {Made : List (Step T) → S → Type 0} (x r : Reading S) (bytes : List ℕ) → x ≡ r → HasRead spells g rules Made r bytes → HasRead spells g rules Made x bytes
 moved {spells = spells} {g = g} {rules = rules} {Made = Made} x r bytes e h = subst (λ (y : Reading _). HasRead spells g rules Made y bytes) (sym e) h
 
-pub read_nothing : {T S : Type 0} {spells : T → List ℕ → Type 0} {g : List Entry} {rules : Rules T} {Made : List (Event T) → S → Type 0} (r : Reading S) → IsOpen spells g rules Made r.lexing r.parsing r.made r.last [] → r.fed ≡ 0 → r.refused ≡ None → HasRead spells g rules Made r []
+pub read_nothing : {T S : Type 0} {spells : T → List ℕ → Type 0} {g : List Entry} {rules : Rules T} {Made : List (Step T) → S → Type 0} (r : Reading S) → IsOpen spells g rules Made r.lexing r.parsing r.made r.last [] → r.fed ≡ 0 → r.refused ≡ None → HasRead spells g rules Made r []
 read_nothing r o fed none = record { open_yet = λ n. o; fed = λ n. fed; refuses = λ f e other. absurd (none_kept r.refused f none e) }
 
-pub can_read : {T S : Type 0} {spells : T → List ℕ → Type 0} {g : List Entry} {rules : Rules T} {Made : List (Event T) → S → Type 0} (r : Reading S) (lexing : Lexing) (parsing : Parsing) (made : S) (last : Option Item) (piece : List ℕ) (refused : Option ReadFault) → CanRead spells g rules Made r → ((bytes : List ℕ) → IsOpen spells g rules Made r.lexing r.parsing r.made r.last bytes → IsOpen spells g rules Made lexing parsing made last (bytes ++ piece)) → r.fed + length piece ≤ most_bytes → CanRead spells g rules Made (record { lexing = lexing; parsing = parsing; made = made; last = last; fed = r.fed + length piece; refused = refused })
+pub can_read : {T S : Type 0} {spells : T → List ℕ → Type 0} {g : List Entry} {rules : Rules T} {Made : List (Step T) → S → Type 0} (r : Reading S) (lexing : Lexing) (parsing : Parsing) (made : S) (last : Option Item) (piece : List ℕ) (refused : Option ReadFault) → CanRead spells g rules Made r → ((bytes : List ℕ) → IsOpen spells g rules Made r.lexing r.parsing r.made r.last bytes → IsOpen spells g rules Made lexing parsing made last (bytes ++ piece)) → r.fed + length piece ≤ most_bytes → CanRead spells g rules Made (record { lexing = lexing; parsing = parsing; made = made; last = last; fed = r.fed + length piece; refused = refused })
 can_read r lexing parsing made last piece refused c reads few = record {
   bytes = c.bytes ++ piece;
   open_yet = reads c.bytes c.open_yet;
@@ -120,7 +120,7 @@ can_read r lexing parsing made last piece refused c reads few = record {
   few = few;
 }
 
-pub reads_more : {T S : Type 0} {spells : T → List ℕ → Type 0} {g : List Entry} {rules : Rules T} {Made : List (Event T) → S → Type 0} (r : Reading S) (lexing : Lexing) (parsing : Parsing) (made : S) (last : Option Item) (bytes piece : List ℕ) → r.refused ≡ None → HasRead spells g rules Made r bytes → ((some : List ℕ) → IsOpen spells g rules Made r.lexing r.parsing r.made r.last some → IsOpen spells g rules Made lexing parsing made last (some ++ piece)) → HasRead spells g rules Made (record { lexing = lexing; parsing = parsing; made = made; last = last; fed = r.fed + length piece; refused = r.refused }) (bytes ++ piece)
+pub reads_more : {T S : Type 0} {spells : T → List ℕ → Type 0} {g : List Entry} {rules : Rules T} {Made : List (Step T) → S → Type 0} (r : Reading S) (lexing : Lexing) (parsing : Parsing) (made : S) (last : Option Item) (bytes piece : List ℕ) → r.refused ≡ None → HasRead spells g rules Made r bytes → ((some : List ℕ) → IsOpen spells g rules Made r.lexing r.parsing r.made r.last some → IsOpen spells g rules Made lexing parsing made last (some ++ piece)) → HasRead spells g rules Made (record { lexing = lexing; parsing = parsing; made = made; last = last; fed = r.fed + length piece; refused = r.refused }) (bytes ++ piece)
 reads_more r lexing parsing made last bytes piece none h reads = record {
   open_yet = λ n. reads bytes (h.open_yet none);
   fed = λ n. ap (λ (n : ℕ). n + length piece) (h.fed none) ∙ sym (length-append bytes piece);
@@ -135,11 +135,11 @@ few_of bytes fed e few = subst (λ (n : ℕ). n ≤ most_bytes) e few
 pub now_refused : {T : Type 0} {spells : T → List ℕ → Type 0} {g : List Entry} {rules : Rules T} (bytes : List ℕ) (r : ReadFault) → Refuses spells g rules bytes r → IsFirstDefect spells g rules bytes r
 now_refused {spells = spells} {g = g} {rules = rules} bytes r h = subst (λ (l : List ℕ). IsFirstDefect spells g rules l r) (append-nil bytes) (h [])
 
-pub can_end : {T S : Type 0} {spells : T → List ℕ → Type 0} {g : List Entry} {rules : Rules T} {Made : List (Event T) → S → Type 0} {parsing : Parsing} {made : S} {last : Option Item} {bytes : List ℕ} → AreAllTaken spells g rules Made parsing made last bytes → CanStand g rules Made parsing made last
+pub can_end : {T S : Type 0} {spells : T → List ℕ → Type 0} {g : List Entry} {rules : Rules T} {Made : List (Step T) → S → Type 0} {parsing : Parsing} {made : S} {last : Option Item} {bytes : List ℕ} → AreAllTaken spells g rules Made parsing made last bytes → CanStand g rules Made parsing made last
 can_end a = record { steps = a.steps; stands = a.stands }
 
-pub refused_end : {T S : Type 0} {spells : T → List ℕ → Type 0} {g : List Entry} {rules : Rules T} {Made : List (Event T) → S → Type 0} {parsing : Parsing} {made : S} {last : Option Item} {bytes : List ℕ} (fed : ℕ) (r : ReadFault) → (a : AreAllTaken spells g rules Made parsing made last bytes) → fed ≡ length bytes → IsRefused g rules a.steps fed None r → HasDefect spells g rules bytes r
+pub refused_end : {T S : Type 0} {spells : T → List ℕ → Type 0} {g : List Entry} {rules : Rules T} {Made : List (Step T) → S → Type 0} {parsing : Parsing} {made : S} {last : Option Item} {bytes : List ℕ} (fed : ℕ) (r : ReadFault) → (a : AreAllTaken spells g rules Made parsing made last bytes) → fed ≡ length bytes → IsRefused g rules a.steps fed None r → HasDefect spells g rules bytes r
 refused_end {g = g} {rules = rules} fed r a e refused = at_end a.steps a.splits (begun a.stands) (subst (λ (n : ℕ). IsRefused g rules a.steps n None r) e refused)
 
-pub is_read : {T S : Type 0} {spells : T → List ℕ → Type 0} {g : List Entry} {rules : Rules T} {Made Whole : List (Event T) → S → Type 0} {parsing : Parsing} {made other : S} {last : Option Item} {bytes : List ℕ} → (a : AreAllTaken spells g rules Made parsing made last bytes) → length bytes ≤ most_bytes → Ends g rules Whole other a.steps → IsRead spells g rules Whole bytes other
+pub is_read : {T S : Type 0} {spells : T → List ℕ → Type 0} {g : List Entry} {rules : Rules T} {Made : List (Step T) → S → Type 0} {Whole : List (Step T) → List ℕ → S → Type 0} {parsing : Parsing} {made other : S} {last : Option Item} {bytes : List ℕ} → (a : AreAllTaken spells g rules Made parsing made last bytes) → length bytes ≤ most_bytes → Ends g rules Whole other a.steps → IsRead spells g rules Whole bytes other
 is_read a few ends = record { steps = a.steps; few = few; splits = a.splits; none_barred = a.stands.none_barred; ends = ends }

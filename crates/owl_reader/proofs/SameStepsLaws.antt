@@ -14,7 +14,8 @@ use Rattle.grammar.proofs.PredictiveLaws.{followed_row, followed_start, one_way,
 use Rattle.grammar.specs.declared.symbol.Symbol.{Symbol}
 use Rattle.grammar.specs.declared.symbol.Symbol.TheVariants.{Rule}
 use Rattle.owl_reader.specs.Defects.{Begin}
-use Rattle.owl_reader.specs.Steps.{ComesNext, MayFollow, Step, events_of, plain, tokens_in}
+use Rattle.owl_reader.specs.Following.{ComesNext, MayFollow}
+use Rattle.owl_reader.specs.Steps.{Step, events_of, plain, tokens_in}
 use Rattle.owl_reader.specs.Syntaxes.{Rules}
 
 -- ---- events that begin alike

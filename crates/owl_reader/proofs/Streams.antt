@@ -3,7 +3,6 @@ use Rattle.std.proofs.Common.{◌≡◌, ℕ, ◌+◌, Bool, true, false, ◌-�
 use Rattle.std.proofs.lemmas.List.{append_assoc, append-nil, length-append, length-drop, length-take-le, map-append, take-append-drop, take_rest}
 use Rattle.std.proofs.Math.Seq.{take-add}
 use Rattle.std.specs.Prelude.{IfSome, IsTrue}
-use Rattle.grammar.specs.Derivations.{Event}
 use Rattle.grammar.specs.Grammars.{Entry}
 use Rattle.grammar.specs.Parsing.{Parsing}
 use Rattle.owl_lexer.specs.Lexing.{Adds, AddsLast, AddsToEnd, Begun, Continues, EndsAt, Gives, KeepsEnd, Lexing, end_of, nothing_fed, taken_of}
@@ -52,7 +51,7 @@ split_behind {T} {spells = spells} b bytes piece more xs ys ending g k =
 given_are : {T : Type 0} {xs ys before after : List (Placed T)} → after ≡ before ++ xs → before ≡ [] → ys ≡ after → xs ≡ ys
 given_are {T} {xs = xs} e none f = sym (f ∙ e ∙ ap (λ (l : List (Placed T)). l ++ xs) none)
 
-pub open_more : {T S : Type 0} {spells : T → List ℕ → Type 0} {g : List Entry} {rules : Rules T} {Made : List (Event T) → S → Type 0} {old new : Lexing} {parsing after : Parsing} {made other : S} {item last : Option Item} {bytes piece : List ℕ} {before tokens : List (Placed T)} → (o : IsOpen spells g rules Made old parsing made item bytes) → before ≡ [] → Adds spells old.begun piece before tokens new.begun → new.refused ≡ None → end_of new.begun ≡ end_of old.begun + length piece → KeepsEnd old.begun piece new.begun → StandsWith g rules Made after other last o.steps tokens → IsOpen spells g rules Made new after other last (bytes ++ piece)
+pub open_more : {T S : Type 0} {spells : T → List ℕ → Type 0} {g : List Entry} {rules : Rules T} {Made : List (Step T) → S → Type 0} {old new : Lexing} {parsing after : Parsing} {made other : S} {item last : Option Item} {bytes piece : List ℕ} {before tokens : List (Placed T)} → (o : IsOpen spells g rules Made old parsing made item bytes) → before ≡ [] → Adds spells old.begun piece before tokens new.begun → new.refused ≡ None → end_of new.begun ≡ end_of old.begun + length piece → KeepsEnd old.begun piece new.begun → StandsWith g rules Made after other last o.steps tokens → IsOpen spells g rules Made new after other last (bytes ++ piece)
 open_more {T} {spells = spells} {old = old} {new = new} {bytes = bytes} {piece = piece} {tokens = tokens} o none adds still place ends s =
     let given : adds.given ≡ tokens = given_are adds.added none refl in
     record {
@@ -84,7 +83,7 @@ refused_at {T} {spells = spells} {steps = steps} {tokens = tokens} {bytes = byte
     at_token (steps ++ a.more) a.token (a.others ++ s.others) s.ending (subst (λ (l : List (Placed T)). Splits spells bytes l s.ending) parts s.splits) a.begin a.refused
 
 -- among the tokens that a piece gives
-pub refused_among : {T S : Type 0} {spells : T → List ℕ → Type 0} {g : List Entry} {rules : Rules T} {Made : List (Event T) → S → Type 0} {old : Lexing} {now : Begun} {parsing : Parsing} {made : S} {item : Option Item} {bytes piece : List ℕ} {before tokens : List (Placed T)} {r : ReadFault} → ComesAlways spells → (o : IsOpen spells g rules Made old parsing made item bytes) → before ≡ [] → Adds spells old.begun piece before tokens now → IsRefusedAmong g rules o.steps tokens r → HasDefectAlways spells g rules (bytes ++ piece) r
+pub refused_among : {T S : Type 0} {spells : T → List ℕ → Type 0} {g : List Entry} {rules : Rules T} {Made : List (Step T) → S → Type 0} {old : Lexing} {now : Begun} {parsing : Parsing} {made : S} {item : Option Item} {bytes piece : List ℕ} {before tokens : List (Placed T)} {r : ReadFault} → ComesAlways spells → (o : IsOpen spells g rules Made old parsing made item bytes) → before ≡ [] → Adds spells old.begun piece before tokens now → IsRefusedAmong g rules o.steps tokens r → HasDefectAlways spells g rules (bytes ++ piece) r
 refused_among {T} {spells = spells} {old = old} {now = now} {bytes = bytes} {piece = piece} {tokens = tokens} always o none adds a more =
     let given : adds.given ≡ tokens = given_are adds.added none refl in
     let rest = always now more in
@@ -96,7 +95,7 @@ refused_among {T} {spells = spells} {old = old} {now = now} {bytes = bytes} {pie
     })
 
 -- among those before a byte where no token begins
-pub refused_before : {T S : Type 0} {spells : T → List ℕ → Type 0} {g : List Entry} {rules : Rules T} {Made : List (Event T) → S → Type 0} {old : Lexing} {parsing : Parsing} {made : S} {item : Option Item} {bytes piece : List ℕ} {before tokens : List (Placed T)} {fault : LexFault} {r : ReadFault} → (o : IsOpen spells g rules Made old parsing made item bytes) → before ≡ [] → EndsAt spells old.begun piece before tokens fault → IsRefusedAmong g rules o.steps tokens r → HasDefectAlways spells g rules (bytes ++ piece) r
+pub refused_before : {T S : Type 0} {spells : T → List ℕ → Type 0} {g : List Entry} {rules : Rules T} {Made : List (Step T) → S → Type 0} {old : Lexing} {parsing : Parsing} {made : S} {item : Option Item} {bytes piece : List ℕ} {before tokens : List (Placed T)} {fault : LexFault} {r : ReadFault} → (o : IsOpen spells g rules Made old parsing made item bytes) → before ≡ [] → EndsAt spells old.begun piece before tokens fault → IsRefusedAmong g rules o.steps tokens r → HasDefectAlways spells g rules (bytes ++ piece) r
 refused_before {T} {spells = spells} {old = old} {bytes = bytes} {piece = piece} {tokens = tokens} {fault = fault} o none ends a more =
     let given : ends.given ≡ tokens = given_are ends.added none refl in
     let all = split_behind old.begun bytes piece more (tokens_in o.steps) ends.given (Some fault) o.gives (ends.ends more) in
@@ -107,7 +106,7 @@ refused_before {T} {spells = spells} {old = old} {bytes = bytes} {piece = piece}
     })
 
 -- where all before it are taken, it is the defect
-pub stopped_there : {T S : Type 0} {spells : T → List ℕ → Type 0} {g : List Entry} {rules : Rules T} {Made : List (Event T) → S → Type 0} {old : Lexing} {parsing after : Parsing} {made other : S} {item last : Option Item} {bytes piece : List ℕ} {before tokens : List (Placed T)} {fault : LexFault} {r : ReadFault} → (o : IsOpen spells g rules Made old parsing made item bytes) → before ≡ [] → EndsAt spells old.begun piece before tokens fault → StandsWith g rules Made after other last o.steps tokens → r ≡ lexing_refusal fault last → HasDefectAlways spells g rules (bytes ++ piece) r
+pub stopped_there : {T S : Type 0} {spells : T → List ℕ → Type 0} {g : List Entry} {rules : Rules T} {Made : List (Step T) → S → Type 0} {old : Lexing} {parsing after : Parsing} {made other : S} {item last : Option Item} {bytes piece : List ℕ} {before tokens : List (Placed T)} {fault : LexFault} {r : ReadFault} → (o : IsOpen spells g rules Made old parsing made item bytes) → before ≡ [] → EndsAt spells old.begun piece before tokens fault → StandsWith g rules Made after other last o.steps tokens → r ≡ lexing_refusal fault last → HasDefectAlways spells g rules (bytes ++ piece) r
 stopped_there {T} {spells = spells} {old = old} {bytes = bytes} {piece = piece} {tokens = tokens} {fault = fault} o none ends s e more =
     let given : ends.given ≡ tokens = given_are ends.added none refl in
     let all = split_behind old.begun bytes piece more (tokens_in o.steps) ends.given (Some fault) o.gives (ends.ends more) in
@@ -121,7 +120,7 @@ stopped_there {T} {spells = spells} {old = old} {bytes = bytes} {piece = piece} 
 split_last : {T : Type 0} {spells : T → List ℕ → Type 0} (b : Begun) (bytes : List ℕ) (xs ys : List (Placed T)) (ending : Option LexFault) → Gives spells nothing_fed bytes xs b → Continues spells b [] ys ending → Splits spells bytes (xs ++ ys) ending
 split_last {T} {spells = spells} b bytes xs ys ending g k = subst (λ (l : List ℕ). Splits spells l (xs ++ ys) ending) (append-nil bytes) (g.only [] ys ending k)
 
-pub open_ends : {T S : Type 0} {spells : T → List ℕ → Type 0} {g : List Entry} {rules : Rules T} {Made : List (Event T) → S → Type 0} {lexing : Lexing} {parsing : Parsing} {made : S} {item : Option Item} {bytes : List ℕ} → IsOpen spells g rules Made lexing parsing made item bytes → IsEnding spells g rules Made lexing parsing made item bytes
+pub open_ends : {T S : Type 0} {spells : T → List ℕ → Type 0} {g : List Entry} {rules : Rules T} {Made : List (Step T) → S → Type 0} {lexing : Lexing} {parsing : Parsing} {made : S} {item : Option Item} {bytes : List ℕ} → IsOpen spells g rules Made lexing parsing made item bytes → IsEnding spells g rules Made lexing parsing made item bytes
 open_ends {lexing = lexing} {bytes = bytes} o = record {
   steps = o.steps;
   lexer_open = o.lexer_open;
@@ -129,7 +128,7 @@ open_ends {lexing = lexing} {bytes = bytes} o = record {
   stands = o.stands;
 }
 
-pub ends_more : {T S : Type 0} {spells : T → List ℕ → Type 0} {g : List Entry} {rules : Rules T} {Made : List (Event T) → S → Type 0} {old new : Lexing} {parsing after : Parsing} {made other : S} {item last : Option Item} {bytes : List ℕ} {before tokens : List (Placed T)} → (o : IsEnding spells g rules Made old parsing made item bytes) → before ≡ [] → AddsToEnd spells old.begun before tokens new.begun → new.refused ≡ None → StandsWith g rules Made after other last o.steps tokens → IsEnding spells g rules Made new after other last bytes
+pub ends_more : {T S : Type 0} {spells : T → List ℕ → Type 0} {g : List Entry} {rules : Rules T} {Made : List (Step T) → S → Type 0} {old new : Lexing} {parsing after : Parsing} {made other : S} {item last : Option Item} {bytes : List ℕ} {before tokens : List (Placed T)} → (o : IsEnding spells g rules Made old parsing made item bytes) → before ≡ [] → AddsToEnd spells old.begun before tokens new.begun → new.refused ≡ None → StandsWith g rules Made after other last o.steps tokens → IsEnding spells g rules Made new after other last bytes
 ends_more {T} {spells = spells} {bytes = bytes} {tokens = tokens} o none adds still s =
     let given : adds.given ≡ tokens = given_are adds.added none refl in
     record {
@@ -143,7 +142,7 @@ ends_more {T} {spells = spells} {bytes = bytes} {tokens = tokens} o none adds st
     }
 
 -- among a portion of the last tokens
-pub refused_more : {T S : Type 0} {spells : T → List ℕ → Type 0} {g : List Entry} {rules : Rules T} {Made : List (Event T) → S → Type 0} {old : Lexing} {now : Begun} {parsing : Parsing} {made : S} {item : Option Item} {bytes : List ℕ} {before tokens : List (Placed T)} {r : ReadFault} → ComesAlways spells → (o : IsEnding spells g rules Made old parsing made item bytes) → before ≡ [] → AddsToEnd spells old.begun before tokens now → IsRefusedAmong g rules o.steps tokens r → HasDefect spells g rules bytes r
+pub refused_more : {T S : Type 0} {spells : T → List ℕ → Type 0} {g : List Entry} {rules : Rules T} {Made : List (Step T) → S → Type 0} {old : Lexing} {now : Begun} {parsing : Parsing} {made : S} {item : Option Item} {bytes : List ℕ} {before tokens : List (Placed T)} {r : ReadFault} → ComesAlways spells → (o : IsEnding spells g rules Made old parsing made item bytes) → before ≡ [] → AddsToEnd spells old.begun before tokens now → IsRefusedAmong g rules o.steps tokens r → HasDefect spells g rules bytes r
 refused_more {T} {spells = spells} {now = now} {bytes = bytes} {tokens = tokens} always o none adds a =
     let given : adds.given ≡ tokens = given_are adds.added none refl in
     let rest = always now [] in
@@ -154,7 +153,7 @@ refused_more {T} {spells = spells} {now = now} {bytes = bytes} {tokens = tokens}
       splits = subst (λ (l : List (Placed T)). Splits spells bytes l rest.1) (ap (λ (l : List (Placed T)). tokens_in o.steps ++ (l ++ rest.0)) given ∙ sym (append_assoc (tokens_in o.steps) tokens rest.0)) all;
     })
 
-pub all_taken : {T S : Type 0} {spells : T → List ℕ → Type 0} {g : List Entry} {rules : Rules T} {Made : List (Event T) → S → Type 0} {old : Lexing} {parsing after : Parsing} {made other : S} {item last : Option Item} {bytes : List ℕ} {before tokens : List (Placed T)} → (o : IsEnding spells g rules Made old parsing made item bytes) → before ≡ [] → AddsLast spells old.begun before tokens None → StandsWith g rules Made after other last o.steps tokens → AreAllTaken spells g rules Made after other last bytes
+pub all_taken : {T S : Type 0} {spells : T → List ℕ → Type 0} {g : List Entry} {rules : Rules T} {Made : List (Step T) → S → Type 0} {old : Lexing} {parsing after : Parsing} {made other : S} {item last : Option Item} {bytes : List ℕ} {before tokens : List (Placed T)} → (o : IsEnding spells g rules Made old parsing made item bytes) → before ≡ [] → AddsLast spells old.begun before tokens None → StandsWith g rules Made after other last o.steps tokens → AreAllTaken spells g rules Made after other last bytes
 all_taken {T} {spells = spells} {bytes = bytes} o none adds s =
     let given = given_are adds.added none refl in
     record {
@@ -163,7 +162,7 @@ all_taken {T} {spells = spells} {bytes = bytes} o none adds s =
       stands = s.stands;
     }
 
-pub refused_last : {T S : Type 0} {spells : T → List ℕ → Type 0} {g : List Entry} {rules : Rules T} {Made : List (Event T) → S → Type 0} {old : Lexing} {parsing : Parsing} {made : S} {item : Option Item} {bytes : List ℕ} {before tokens : List (Placed T)} {ending : Option LexFault} {r : ReadFault} → (o : IsEnding spells g rules Made old parsing made item bytes) → before ≡ [] → AddsLast spells old.begun before tokens ending → IsRefusedAmong g rules o.steps tokens r → HasDefect spells g rules bytes r
+pub refused_last : {T S : Type 0} {spells : T → List ℕ → Type 0} {g : List Entry} {rules : Rules T} {Made : List (Step T) → S → Type 0} {old : Lexing} {parsing : Parsing} {made : S} {item : Option Item} {bytes : List ℕ} {before tokens : List (Placed T)} {ending : Option LexFault} {r : ReadFault} → (o : IsEnding spells g rules Made old parsing made item bytes) → before ≡ [] → AddsLast spells old.begun before tokens ending → IsRefusedAmong g rules o.steps tokens r → HasDefect spells g rules bytes r
 refused_last {T} {spells = spells} {bytes = bytes} {tokens = tokens} {ending = ending} o none adds a =
     let given = given_are adds.added none refl in
     let all = o.splits adds.given ending adds.continues in
@@ -173,7 +172,7 @@ refused_last {T} {spells = spells} {bytes = bytes} {tokens = tokens} {ending = e
       splits = subst (λ (l : List (Placed T)). Splits spells bytes l ending) (ap (λ (l : List (Placed T)). tokens_in o.steps ++ l) given ∙ sym (append-nil (tokens_in o.steps ++ tokens))) all;
     })
 
-pub stopped_last : {T S : Type 0} {spells : T → List ℕ → Type 0} {g : List Entry} {rules : Rules T} {Made : List (Event T) → S → Type 0} {old : Lexing} {parsing after : Parsing} {made other : S} {item last : Option Item} {bytes : List ℕ} {before tokens : List (Placed T)} {fault : LexFault} {r : ReadFault} → (o : IsEnding spells g rules Made old parsing made item bytes) → before ≡ [] → AddsLast spells old.begun before tokens (Some fault) → StandsWith g rules Made after other last o.steps tokens → r ≡ lexing_refusal fault last → HasDefect spells g rules bytes r
+pub stopped_last : {T S : Type 0} {spells : T → List ℕ → Type 0} {g : List Entry} {rules : Rules T} {Made : List (Step T) → S → Type 0} {old : Lexing} {parsing after : Parsing} {made other : S} {item last : Option Item} {bytes : List ℕ} {before tokens : List (Placed T)} {fault : LexFault} {r : ReadFault} → (o : IsEnding spells g rules Made old parsing made item bytes) → before ≡ [] → AddsLast spells old.begun before tokens (Some fault) → StandsWith g rules Made after other last o.steps tokens → r ≡ lexing_refusal fault last → HasDefect spells g rules bytes r
 stopped_last {T} {spells = spells} {bytes = bytes} {fault = fault} o none adds s e =
     let given = given_are adds.added none refl in
     let all = o.splits adds.given (Some fault) adds.continues in
@@ -182,7 +181,7 @@ stopped_last {T} {spells = spells} {bytes = bytes} {fault = fault} o none adds s
     (begun s.stands) (e ∙ ap (λ (i : Option Item). lexing_refusal fault i) s.stands.last_is)
 
 -- where a portion of the last tokens is taken, or all of them
-pub ending_refused : {T S : Type 0} {spells : T → List ℕ → Type 0} {g : List Entry} {rules : Rules T} {Made : List (Event T) → S → Type 0} {old : Lexing} {now : Begun} {parsing : Parsing} {made : S} {item : Option Item} {bytes : List ℕ} {before tokens : List (Placed T)} {r : ReadFault} → (done : Bool) → ComesAlways spells → (o : IsEnding spells g rules Made old parsing made item bytes) → before ≡ [] → (IsTrue done → AddsLast spells old.begun before tokens None) → (done ≡ false → AddsToEnd spells old.begun before tokens now) → IsRefusedAmong g rules o.steps tokens r → HasDefect spells g rules bytes r
+pub ending_refused : {T S : Type 0} {spells : T → List ℕ → Type 0} {g : List Entry} {rules : Rules T} {Made : List (Step T) → S → Type 0} {old : Lexing} {now : Begun} {parsing : Parsing} {made : S} {item : Option Item} {bytes : List ℕ} {before tokens : List (Placed T)} {r : ReadFault} → (done : Bool) → ComesAlways spells → (o : IsEnding spells g rules Made old parsing made item bytes) → before ≡ [] → (IsTrue done → AddsLast spells old.begun before tokens None) → (done ≡ false → AddsToEnd spells old.begun before tokens now) → IsRefusedAmong g rules o.steps tokens r → HasDefect spells g rules bytes r
 ending_refused true always o none all more a = refused_last o none (all refl) a
 ending_refused false always o none all more a = refused_more always o none (more refl) a
 
@@ -201,12 +200,12 @@ front_refused {spells = spells} {g = g} {rules = rules} {r = r} bytes left piece
     (h (o.0 ++ more))
 
 -- the piece so far was taken
-pub record TakesSoFar {T S : Type 0} (spells : T → List ℕ → Type 0) (g : List Entry) (rules : Rules T) (Made : List (Event T) → S → Type 0) (old : Lexing) (parsing : Parsing) (made : S) (item : Option Item) (now : Lexing) (after : Parsing) (other : S) (last : Option Item) (piece : List ℕ) (place : ℕ) : Type 0 where
+pub record TakesSoFar {T S : Type 0} (spells : T → List ℕ → Type 0) (g : List Entry) (rules : Rules T) (Made : List (Step T) → S → Type 0) (old : Lexing) (parsing : Parsing) (made : S) (item : Option Item) (now : Lexing) (after : Parsing) (other : S) (last : Option Item) (piece : List ℕ) (place : ℕ) : Type 0 where
   pub within : place ≤ length piece
   pub room : HasRoom spells g rules Made now after other last (length piece - place)
   pub takes : (bytes : List ℕ) → IsOpen spells g rules Made old parsing made item bytes → IsOpen spells g rules Made now after other last (bytes ++ take place piece)
 
-pub none_so_far : {T S : Type 0} {spells : T → List ℕ → Type 0} {g : List Entry} {rules : Rules T} {Made : List (Event T) → S → Type 0} {old : Lexing} {parsing : Parsing} {made : S} {item : Option Item} (piece : List ℕ) → HasRoom spells g rules Made old parsing made item (length piece) → TakesSoFar spells g rules Made old parsing made item old parsing made item piece 0
+pub none_so_far : {T S : Type 0} {spells : T → List ℕ → Type 0} {g : List Entry} {rules : Rules T} {Made : List (Step T) → S → Type 0} {old : Lexing} {parsing : Parsing} {made : S} {item : Option Item} (piece : List ℕ) → HasRoom spells g rules Made old parsing made item (length piece) → TakesSoFar spells g rules Made old parsing made item old parsing made item piece 0
 none_so_far {spells = spells} {g = g} {rules = rules} {Made = Made} {old = old} {parsing = parsing} {made = made} {item = item} piece room = record {
   within = omega arith;
   room = record { bytes = room.bytes; open_yet = room.open_yet; few = let few = room.few in omega arith };
@@ -220,7 +219,7 @@ rest_from piece place = take (length piece - place) (drop place piece)
 rest_length : (piece : List ℕ) (place : ℕ) → length (rest_from piece place) ≡ length piece - place
 rest_length piece place = ap (λ (l : List ℕ). length l) (take_rest piece place) ∙ length-drop place piece
 
-pub more_so_far : {T S : Type 0} {spells : T → List ℕ → Type 0} {g : List Entry} {rules : Rules T} {Made : List (Event T) → S → Type 0} {old now new : Lexing} {parsing mid after : Parsing} {made half other : S} {item between last : Option Item} (piece : List ℕ) (place count : ℕ) → TakesSoFar spells g rules Made old parsing made item now mid half between piece place → count ≤ length (rest_from piece place) → ((bytes : List ℕ) → IsOpen spells g rules Made now mid half between bytes → IsOpen spells g rules Made new after other last (bytes ++ take count (rest_from piece place))) → TakesSoFar spells g rules Made old parsing made item new after other last piece (place + count)
+pub more_so_far : {T S : Type 0} {spells : T → List ℕ → Type 0} {g : List Entry} {rules : Rules T} {Made : List (Step T) → S → Type 0} {old now new : Lexing} {parsing mid after : Parsing} {made half other : S} {item between last : Option Item} (piece : List ℕ) (place count : ℕ) → TakesSoFar spells g rules Made old parsing made item now mid half between piece place → count ≤ length (rest_from piece place) → ((bytes : List ℕ) → IsOpen spells g rules Made now mid half between bytes → IsOpen spells g rules Made new after other last (bytes ++ take count (rest_from piece place))) → TakesSoFar spells g rules Made old parsing made item new after other last piece (place + count)
 more_so_far {spells = spells} {g = g} {rules = rules} {Made = Made} {new = new} {after = after} {other = other} {last = last} piece place count s few takes =
     let left = rest_length piece place in
     let within = s.within in
@@ -242,35 +241,35 @@ pub whole_piece : (bytes piece : List ℕ) (place : ℕ) → (bytes ++ take plac
 whole_piece bytes piece place = append_assoc bytes (take place piece) (rest_from piece place) ∙ ap (λ (l : List ℕ). bytes ++ l) (ap (λ (l : List ℕ). take place piece ++ l) (take_rest piece place) ∙ take-append-drop place piece)
 
 -- what is begun stands within the bytes that a document may have
-pub begins_within : {T S : Type 0} {spells : T → List ℕ → Type 0} {g : List Entry} {rules : Rules T} {Made : List (Event T) → S → Type 0} {now : Lexing} {mid : Parsing} {half : S} {between : Option Item} {room : ℕ} → HasRoom spells g rules Made now mid half between room → now.begun.at ≤ most_bytes
+pub begins_within : {T S : Type 0} {spells : T → List ℕ → Type 0} {g : List Entry} {rules : Rules T} {Made : List (Step T) → S → Type 0} {now : Lexing} {mid : Parsing} {half : S} {between : Option Item} {room : ℕ} → HasRoom spells g rules Made now mid half between room → now.begun.at ≤ most_bytes
 begins_within h = let place = h.open_yet.place in let few = h.few in omega arith
 
 pub rest_refused : {T : Type 0} {spells : T → List ℕ → Type 0} {g : List Entry} {rules : Rules T} {r : ReadFault} (bytes piece : List ℕ) (place : ℕ) → HasDefectAlways spells g rules ((bytes ++ take place piece) ++ rest_from piece place) r → HasDefectAlways spells g rules (bytes ++ piece) r
 rest_refused {spells = spells} {g = g} {rules = rules} {r = r} bytes piece place h = subst (λ (l : List ℕ). HasDefectAlways spells g rules l r) (whole_piece bytes piece place) h
 
-pub all_so_far : {T S : Type 0} {spells : T → List ℕ → Type 0} {g : List Entry} {rules : Rules T} {Made : List (Event T) → S → Type 0} {old now new : Lexing} {parsing mid after : Parsing} {made half other : S} {item between last : Option Item} (piece : List ℕ) (place : ℕ) → TakesSoFar spells g rules Made old parsing made item now mid half between piece place → ((bytes : List ℕ) → IsOpen spells g rules Made now mid half between bytes → IsOpen spells g rules Made new after other last (bytes ++ rest_from piece place)) → (bytes : List ℕ) → IsOpen spells g rules Made old parsing made item bytes → IsOpen spells g rules Made new after other last (bytes ++ piece)
+pub all_so_far : {T S : Type 0} {spells : T → List ℕ → Type 0} {g : List Entry} {rules : Rules T} {Made : List (Step T) → S → Type 0} {old now new : Lexing} {parsing mid after : Parsing} {made half other : S} {item between last : Option Item} (piece : List ℕ) (place : ℕ) → TakesSoFar spells g rules Made old parsing made item now mid half between piece place → ((bytes : List ℕ) → IsOpen spells g rules Made now mid half between bytes → IsOpen spells g rules Made new after other last (bytes ++ rest_from piece place)) → (bytes : List ℕ) → IsOpen spells g rules Made old parsing made item bytes → IsOpen spells g rules Made new after other last (bytes ++ piece)
 all_so_far {spells = spells} {g = g} {rules = rules} {Made = Made} {new = new} {after = after} {other = other} {last = last} piece place s takes bytes o =
     subst (λ (l : List ℕ). IsOpen spells g rules Made new after other last l) (whole_piece bytes piece place) (takes (bytes ++ take place piece) (s.takes bytes o))
 
 -- as a call answers it
 
-pub more_left : {T S : Type 0} {spells : T → List ℕ → Type 0} {g : List Entry} {rules : Rules T} {Made : List (Event T) → S → Type 0} {old now new : Lexing} {parsing mid after : Parsing} {made half other : S} {item between last : Option Item} (piece : List ℕ) (place count : ℕ) (left : Option ℕ) → left ≡ Some count → TakesSoFar spells g rules Made old parsing made item now mid half between piece place → IfSome left (λ n. n ≤ length (rest_from piece place)) → ((bytes : List ℕ) → IsOpen spells g rules Made now mid half between bytes → IsOpen spells g rules Made new after other last (bytes ++ taken_of left (rest_from piece place))) → TakesSoFar spells g rules Made old parsing made item new after other last piece (place + count)
+pub more_left : {T S : Type 0} {spells : T → List ℕ → Type 0} {g : List Entry} {rules : Rules T} {Made : List (Step T) → S → Type 0} {old now new : Lexing} {parsing mid after : Parsing} {made half other : S} {item between last : Option Item} (piece : List ℕ) (place count : ℕ) (left : Option ℕ) → left ≡ Some count → TakesSoFar spells g rules Made old parsing made item now mid half between piece place → IfSome left (λ n. n ≤ length (rest_from piece place)) → ((bytes : List ℕ) → IsOpen spells g rules Made now mid half between bytes → IsOpen spells g rules Made new after other last (bytes ++ taken_of left (rest_from piece place))) → TakesSoFar spells g rules Made old parsing made item new after other last piece (place + count)
 more_left {spells = spells} {g = g} {rules = rules} {Made = Made} {new = new} {after = after} {other = other} {last = last} piece place count left e s within takes =
     more_so_far piece place count s (subst (λ (o : Option ℕ). IfSome o (λ n. n ≤ length (rest_from piece place))) e within)
     (λ bytes o. subst (λ (l : Option ℕ). IsOpen spells g rules Made new after other last (bytes ++ taken_of l (rest_from piece place))) e (takes bytes o))
 
-pub all_left : {T S : Type 0} {spells : T → List ℕ → Type 0} {g : List Entry} {rules : Rules T} {Made : List (Event T) → S → Type 0} {old now new : Lexing} {parsing mid after : Parsing} {made half other : S} {item between last : Option Item} (piece : List ℕ) (place : ℕ) (left : Option ℕ) → left ≡ None → TakesSoFar spells g rules Made old parsing made item now mid half between piece place → ((bytes : List ℕ) → IsOpen spells g rules Made now mid half between bytes → IsOpen spells g rules Made new after other last (bytes ++ taken_of left (rest_from piece place))) → (bytes : List ℕ) → IsOpen spells g rules Made old parsing made item bytes → IsOpen spells g rules Made new after other last (bytes ++ piece)
+pub all_left : {T S : Type 0} {spells : T → List ℕ → Type 0} {g : List Entry} {rules : Rules T} {Made : List (Step T) → S → Type 0} {old now new : Lexing} {parsing mid after : Parsing} {made half other : S} {item between last : Option Item} (piece : List ℕ) (place : ℕ) (left : Option ℕ) → left ≡ None → TakesSoFar spells g rules Made old parsing made item now mid half between piece place → ((bytes : List ℕ) → IsOpen spells g rules Made now mid half between bytes → IsOpen spells g rules Made new after other last (bytes ++ taken_of left (rest_from piece place))) → (bytes : List ℕ) → IsOpen spells g rules Made old parsing made item bytes → IsOpen spells g rules Made new after other last (bytes ++ piece)
 all_left {spells = spells} {g = g} {rules = rules} {Made = Made} {new = new} {after = after} {other = other} {last = last} piece place left e s takes =
     all_so_far piece place s (λ bytes o. subst (λ (l : Option ℕ). IsOpen spells g rules Made new after other last (bytes ++ taken_of l (rest_from piece place))) e (takes bytes o))
 
 -- ---- portions of the last tokens
 
-pub record EndsSoFar {T S : Type 0} (spells : T → List ℕ → Type 0) (g : List Entry) (rules : Rules T) (Made : List (Event T) → S → Type 0) (old : Lexing) (parsing : Parsing) (made : S) (item : Option Item) (now : Lexing) (after : Parsing) (other : S) (last : Option Item) : Type 0 where
+pub record EndsSoFar {T S : Type 0} (spells : T → List ℕ → Type 0) (g : List Entry) (rules : Rules T) (Made : List (Step T) → S → Type 0) (old : Lexing) (parsing : Parsing) (made : S) (item : Option Item) (now : Lexing) (after : Parsing) (other : S) (last : Option Item) : Type 0 where
   pub can : CanEnd spells g rules Made now after other last
   pub takes : (bytes : List ℕ) → IsEnding spells g rules Made old parsing made item bytes → IsEnding spells g rules Made now after other last bytes
 
-pub none_ended : {T S : Type 0} {spells : T → List ℕ → Type 0} {g : List Entry} {rules : Rules T} {Made : List (Event T) → S → Type 0} {old : Lexing} {parsing : Parsing} {made : S} {item : Option Item} {room : ℕ} → HasRoom spells g rules Made old parsing made item room → EndsSoFar spells g rules Made old parsing made item old parsing made item
+pub none_ended : {T S : Type 0} {spells : T → List ℕ → Type 0} {g : List Entry} {rules : Rules T} {Made : List (Step T) → S → Type 0} {old : Lexing} {parsing : Parsing} {made : S} {item : Option Item} {room : ℕ} → HasRoom spells g rules Made old parsing made item room → EndsSoFar spells g rules Made old parsing made item old parsing made item
 none_ended h = record { can = record { bytes = h.bytes; ending = open_ends h.open_yet }; takes = λ bytes o. o }
 
-pub more_ended : {T S : Type 0} {spells : T → List ℕ → Type 0} {g : List Entry} {rules : Rules T} {Made : List (Event T) → S → Type 0} {old now new : Lexing} {parsing mid after : Parsing} {made half other : S} {item between last : Option Item} → EndsSoFar spells g rules Made old parsing made item now mid half between → ((bytes : List ℕ) → IsEnding spells g rules Made now mid half between bytes → IsEnding spells g rules Made new after other last bytes) → EndsSoFar spells g rules Made old parsing made item new after other last
+pub more_ended : {T S : Type 0} {spells : T → List ℕ → Type 0} {g : List Entry} {rules : Rules T} {Made : List (Step T) → S → Type 0} {old now new : Lexing} {parsing mid after : Parsing} {made half other : S} {item between last : Option Item} → EndsSoFar spells g rules Made old parsing made item now mid half between → ((bytes : List ℕ) → IsEnding spells g rules Made now mid half between bytes → IsEnding spells g rules Made new after other last bytes) → EndsSoFar spells g rules Made old parsing made item new after other last
 more_ended h takes = record { can = record { bytes = h.can.bytes; ending = takes h.can.bytes h.can.ending }; takes = λ bytes o. takes bytes (h.takes bytes o) }

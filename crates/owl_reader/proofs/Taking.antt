@@ -1,13 +1,15 @@
 -- What comes of one token more.
-use Rattle.std.proofs.Common.{◌≡◌, ◌≢◌, ℕ, Bool, Option, None, Some, List, [], ◌∷◌, ◌++◌, map, refl, sym, ap, ◌∙◌, subst}
+use Rattle.std.proofs.Common.{◌≡◌, ◌≢◌, ◌↔◌, ℕ, Bool, true, false, IsTrue, Result, Ok, Err, IfOk, Option, None, Some, List, [], ◌∷◌, ◌++◌, map, refl, sym, ap, ◌∙◌, subst}
+use Rattle.std.specs.List.{Contains}
+use Rattle.std.proofs.lemmas.Bool.{false≢true}
 use Rattle.std.proofs.lemmas.List.{append_assoc, append-nil, map-append}
 use Rattle.grammar.specs.Derivations.{Derives, DerivesOf, Event}
 use Rattle.grammar.specs.Derivations.Event.{Do, Take}
-use Rattle.grammar.proofs.FeedingLaws.{fed_ends, fed_more, fed_needs, fed_refuses}
+use Rattle.grammar.proofs.FeedingLaws.{fed_ends, fed_goes_on, fed_more, fed_needs, fed_refuses, fed_takes}
 use Rattle.grammar.specs.Grammars.{Entry}
 use Rattle.grammar.specs.Lowering.{lower}
 use Rattle.grammar.specs.Parsing as parsing
-use Rattle.grammar.specs.Parsing.{Feeds, NeedsMore, Parsing, Refuses}
+use Rattle.grammar.specs.Parsing.{Feeds, NeedsMore, Parsing, Refuses, TakesOneOf}
 use Rattle.grammar.specs.TokenFeeding.{FedTokens}
 use Rattle.grammar.proofs.TokenFeedingLaws.{fed_token, tokens_derive}
 use Rattle.grammar.specs.declared.fault.ParseFault.{ParseFault}
@@ -17,20 +19,22 @@ use Rattle.owl_lexer.specs.declared.placed.Placed.{Placed}
 use Rattle.owl_reader.specs.Defects.{Begin, IsRefused, NoneBarred}
 use Rattle.owl_reader.specs.Defects.IsRefused.{barred, wrong_end, wrong_token}
 use Rattle.owl_reader.specs.Faults.{fault_at, parse_refusal}
-use Rattle.owl_reader.specs.Items.{ends_item, item_start, item_with, last_item_from, resumes_item}
+use Rattle.owl_reader.specs.Items.{BeginsItem, ends_item, item_start, item_with, last_item_from, resumes_item}
+use Rattle.owl_reader.specs.Items.BeginsItem.{anew, inside}
 use Rattle.owl_reader.specs.Standing.{CanStand, Ends, Stands, StandsWith}
-use Rattle.owl_reader.specs.Steps.{MayFollow, MayTake, Step, events_of, plain}
+use Rattle.owl_reader.specs.Following.{MayFollow, MayTake}
+use Rattle.owl_reader.specs.Steps.{Step, events_of, plain, token_in}
 use Rattle.owl_reader.specs.Syntaxes.{Rules}
 use Rattle.owl_reader.specs.declared.fault.ReadFault.{ReadFault}
 use Rattle.owl_reader.specs.declared.fault.ReadFault.TheVariants as read
 use Rattle.owl_reader.specs.declared.fault.TokenFault.{TokenFault}
 use Rattle.owl_reader.specs.declared.fault.TokenFault.TheVariants as token
 use Rattle.owl_reader.specs.declared.item.Item.{Item}
-use Rattle.owl_reader.specs.declared.item.Mark.{Mark}
+use Rattle.owl_reader.proofs.EventLaws.{events-append}
 use Rattle.owl_reader.proofs.Lists.{last_parts}
 use Rattle.owl_reader.proofs.Lists.LastParts.{last, sooner}
 
-pub begun : {T S : Type 0} {g : List Entry} {rules : Rules T} {Made : List (Event T) → S → Type 0} {parsing : Parsing} {made : S} {item : Option Item} {steps : List (Step T)} → Stands g rules Made parsing made item steps → Begin g rules steps
+pub begun : {T S : Type 0} {g : List Entry} {rules : Rules T} {Made : List (Step T) → S → Type 0} {parsing : Parsing} {made : S} {item : Option Item} {steps : List (Step T)} → Stands g rules Made parsing made item steps → Begin g rules steps
 begun s = record {
   more = s.fed.fed.lives.tokens;
   rest = s.fed.fed.lives.events;
@@ -38,41 +42,63 @@ begun s = record {
   none_barred = s.none_barred;
 }
 
-pub refused : {T S : Type 0} {g : List Entry} {rules : Rules T} {Made : List (Event T) → S → Type 0} {parsing : Parsing} {made : S} {item : Option Item} {steps : List (Step T)} → Stands g rules Made parsing made item steps → (at : ℕ) (x : T) (class : ℕ) → class ≡ rules.class x → (f : ParseFault) (r : ReadFault) → (f ≡ parse.Unexpected → Refuses g parsing.expected class) → r ≡ parse_refusal f item at → r ≢ read.Memory → IsRefused g rules steps at (Some x) r
-refused {g = g} {parsing = parsing} s at x class k parse.Unexpected r never e other =
-    wrong_token x refl (fed_refuses s.fed.fed _ (subst (Refuses g parsing.expected) k (never refl))) (e ∙ ap (λ (i : Option Item). parse_refusal parse.Unexpected i at) s.last_is)
-refused s at x class k parse.Memory r never e other = absurd (other e)
+-- what a parser tells of the class of a token that may stand behind an item
+pub begins_if : {T S : Type 0} {g : List Entry} {rules : Rules T} {Made : List (Step T) → S → Type 0} {parsing : Parsing} {made : S} {item : Option Item} (steps : List (Step T)) → Stands g rules Made parsing made item steps → (next : Option T) (classes : List ℕ) (takes : Bool) → rules.begins next ≡ true → classes ≡ rules.behind → IsTrue takes ↔ TakesOneOf g parsing.expected classes → BeginsItem g rules steps next takes
+begins_if {g = g} {rules = rules} steps s next classes true begins same takes =
+    let it = takes.0 refl in
+    anew begins (record { class = it.class; behind = subst (λ (l : List ℕ). Contains l it.class) same it.among; goes_on = fed_takes s.fed.fed it.class it.begins })
+begins_if {g = g} {parsing = parsing} steps s next classes false begins same takes = inside (λ _ whole.
+    absurd (false≢true (takes.1 (record {
+      class = whole.class;
+      among = subst (λ (l : List ℕ). Contains l whole.class) (sym same) whole.behind;
+      begins = fed_goes_on s.fed.fed whole.class whole.goes_on;
+    }))))
 
-pub refused_end : {T S : Type 0} {g : List Entry} {rules : Rules T} {Made : List (Event T) → S → Type 0} {parsing : Parsing} {made : S} {item : Option Item} {steps : List (Step T)} → Stands g rules Made parsing made item steps → (at : ℕ) (f : ParseFault) (r : ReadFault) → (f ≡ parse.Unexpected → NeedsMore g parsing.expected) → r ≡ parse_refusal f item at → r ≢ read.Memory → IsRefused g rules steps at None r
-refused_end s at parse.Unexpected r never e other =
-    wrong_end refl (fed_needs s.fed.fed (never refl)) (e ∙ ap (λ (i : Option Item). parse_refusal parse.Unexpected i at) s.last_is)
-refused_end s at parse.Memory r never e other = absurd (other e)
+pub anew_if : {T S E : Type 0} (g : List Entry) (rules : Rules T) (Made : List (Step T) → S → Type 0) (parsing : Parsing) (made : S) (item : Option Item) (begins : Bool) (classes : List ℕ) (r : Result Bool E) → begins ≡ true → classes ≡ rules.behind → (parsing.refused ≡ None → IfOk r (λ takes. IsTrue takes ↔ TakesOneOf g parsing.expected classes)) → IfOk r (λ is. (steps : List (Step T)) → Stands g rules Made parsing made item steps → (next : Option T) → begins ≡ rules.begins next → BeginsItem g rules steps next is)
+anew_if g rules Made parsing made item begins classes (Ok takes) may same tells = λ steps s next e. begins_if steps s next classes takes (sym e ∙ may) same (tells s.open_yet)
+anew_if g rules Made parsing made item begins classes (Err fault) may same tells = tt
 
-same_refusal : {T : Type 0} (rules : Rules T) (at : ℕ) (acts : List ℕ) (item : Option Item) (f : TokenFault) (r : ReadFault) → r ≡ fault_at f (item_start (resumes_item rules.mark acts) item at) at → r ≢ read.Memory → f ≢ token.Memory
-same_refusal rules at acts item f r e other m = other (e ∙ ap (λ (g : TokenFault). fault_at g (item_start (resumes_item rules.mark acts) item at) at) m)
+pub begins_none : {T : Type 0} {g : List Entry} {rules : Rules T} (steps : List (Step T)) (next : Option T) → rules.begins next ≡ false → BeginsItem g rules steps next false
+begins_none steps next none = inside (λ begins _. absurd (false≢true (sym none ∙ begins)))
+
+pub refused : {T S : Type 0} {g : List Entry} {rules : Rules T} {Made : List (Step T) → S → Type 0} {parsing : Parsing} {made : S} {item : Option Item} {steps : List (Step T)} → Stands g rules Made parsing made item steps → (at : ℕ) (p : Placed T) (class : ℕ) → class ≡ rules.class p.token → (begins : Bool) → BeginsItem g rules steps (Some p.token) begins → (f : ParseFault) (r : ReadFault) → (f ≡ parse.Unexpected → Refuses g parsing.expected class) → r ≡ parse_refusal f begins item at → r ≢ read.Memory → IsRefused g rules steps at (Some p) r
+refused {g = g} {parsing = parsing} s at p class k begins b parse.Unexpected r never e other =
+    wrong_token p begins refl (fed_refuses s.fed.fed _ (subst (Refuses g parsing.expected) k (never refl))) b (e ∙ ap (λ (i : Option Item). parse_refusal parse.Unexpected begins i at) s.last_is)
+refused s at p class k begins b parse.Memory r never e other = absurd (other e)
+
+pub refused_end : {T S : Type 0} {g : List Entry} {rules : Rules T} {Made : List (Step T) → S → Type 0} {parsing : Parsing} {made : S} {item : Option Item} {steps : List (Step T)} → Stands g rules Made parsing made item steps → (at : ℕ) (begins : Bool) → BeginsItem g rules steps None begins → (f : ParseFault) (r : ReadFault) → (f ≡ parse.Unexpected → NeedsMore g parsing.expected) → r ≡ parse_refusal f begins item at → r ≢ read.Memory → IsRefused g rules steps at None r
+refused_end s at begins b parse.Unexpected r never e other =
+    wrong_end begins refl (fed_needs s.fed.fed (never refl)) b (e ∙ ap (λ (i : Option Item). parse_refusal parse.Unexpected begins i at) s.last_is)
+refused_end s at begins b parse.Memory r never e other = absurd (other e)
+
+same_refusal : (at start : ℕ) (f : TokenFault) (r : ReadFault) → r ≡ fault_at f start at → r ≢ read.Memory → f ≢ token.Memory
+same_refusal at start f r e other m = other (e ∙ ap (λ (g : TokenFault). fault_at g start at) m)
 
 -- acts are barred in front of what comes
-pub stopped : {T S : Type 0} {g : List Entry} {rules : Rules T} {Made : List (Event T) → S → Type 0} {parsing : Parsing} {made : S} {item : Option Item} {steps : List (Step T)} → Stands g rules Made parsing made item steps → (at : ℕ) (next : Option T) (acts : List ℕ) (f : TokenFault) (r : ReadFault) → MayFollow g rules (events_of steps) acts next → (f ≢ token.Memory → rules.Bars (events_of steps) acts next f) → r ≡ fault_at f (item_start (resumes_item rules.mark acts) item at) at → r ≢ read.Memory → IsRefused g rules steps at next r
+pub stopped : {T S : Type 0} {g : List Entry} {rules : Rules T} {Made : List (Step T) → S → Type 0} {parsing : Parsing} {made : S} {item : Option Item} {steps : List (Step T)} → Stands g rules Made parsing made item steps → (at : ℕ) (next : Option (Placed T)) (acts : List ℕ) (f : TokenFault) (r : ReadFault) → MayFollow g rules (events_of steps) acts (token_in next) → (f ≢ token.Memory → rules.Bars steps acts next f) → r ≡ fault_at f (item_start (rules.begins (token_in next)) (resumes_item rules.mark acts) item at) at → r ≢ read.Memory → IsRefused g rules steps at next r
 stopped {rules = rules} {item = item} s at next acts f r follow bars e other =
-    let real = same_refusal rules at acts item f r e other in
-    barred acts f real follow (bars real) (e ∙ ap (λ (i : Option Item). fault_at f (item_start (resumes_item rules.mark acts) i at) at) s.last_is)
+    let begins = rules.begins (token_in next) in
+    let resumes = resumes_item rules.mark acts in
+    let real = same_refusal at (item_start begins resumes item at) f r e other in
+    barred acts f real follow (bars real) (e ∙ ap (λ (i : Option Item). fault_at f (item_start begins resumes i at) at) s.last_is)
 
 -- the acts that were added to none
 pub acts_are : {g : List Entry} {old new : Parsing} {class : ℕ} {before after : List ℕ} → (f : Feeds g old class before new after) → before ≡ [] → (acts : List ℕ) → acts ≡ after → f.given ≡ acts
 acts_are f none acts e = sym (e ∙ f.added ∙ ap (λ (l : List ℕ). l ++ f.given) none)
 
 -- the byte at which the item begins, by what was computed
-pub same_start : {T : Type 0} (rules : Rules T) (item : Option Item) (at start : ℕ) (acts others : List ℕ) (resumes : Bool) → start ≡ item_start resumes item at → resumes ≡ resumes_item rules.mark others → others ≡ acts → start ≡ item_start (resumes_item rules.mark acts) item at
-same_start rules item at start acts others resumes s r o =
-    s ∙ ap (λ (b : Bool). item_start b item at) (r ∙ ap (λ (l : List ℕ). resumes_item rules.mark l) o)
+pub same_start : {T : Type 0} (rules : Rules T) (item : Option Item) (next : Option T) (at start : ℕ) (acts others : List ℕ) (begins resumes : Bool) → start ≡ item_start begins resumes item at → begins ≡ rules.begins next → resumes ≡ resumes_item rules.mark others → others ≡ acts → start ≡ item_start (rules.begins next) (resumes_item rules.mark acts) item at
+same_start rules item next at start acts others begins resumes s b r o =
+    let same : resumes ≡ resumes_item rules.mark acts = r ∙ ap (λ (l : List ℕ). resumes_item rules.mark l) o in
+    s ∙ (λ i. item_start (b i) (same i) item at)
 
-pub same_item : {T : Type 0} (rules : Rules T) (item : Option Item) (p : Placed T) (start : ℕ) (acts others : List ℕ) (whole : Bool) → start ≡ item_start (resumes_item rules.mark acts) item p.at → whole ≡ ends_item rules.mark others → others ≡ acts → Some (record { at = start; is_whole = whole }) ≡ Some (item_with rules.mark item (record { acts = acts; token = p }))
+pub same_item : {T : Type 0} (rules : Rules T) (item : Option Item) (p : Placed T) (start : ℕ) (acts others : List ℕ) (whole : Bool) → start ≡ item_start (rules.begins (Some p.token)) (resumes_item rules.mark acts) item p.at → whole ≡ ends_item rules.mark others → others ≡ acts → Some (record { at = start; is_whole = whole }) ≡ Some (item_with rules item (record { acts = acts; token = p }))
 same_item rules item p start acts others whole s w o =
     let ends : whole ≡ ends_item rules.mark acts = w ∙ ap (λ (l : List ℕ). ends_item rules.mark l) o in
     λ i. Some (record { at = s i; is_whole = ends i })
 
 -- what was fed may follow what was fed before
-pub follows : {T S : Type 0} {g : List Entry} {rules : Rules T} {Made : List (Event T) → S → Type 0} {old new : Parsing} {made : S} {item : Option Item} {steps : List (Step T)} {before after : List ℕ} → Stands g rules Made old made item steps → (x : T) → (f : Feeds g old (rules.class x) before new after) → MayFollow g rules (events_of steps) f.given (Some x)
+pub follows : {T S : Type 0} {g : List Entry} {rules : Rules T} {Made : List (Step T) → S → Type 0} {old new : Parsing} {made : S} {item : Option Item} {steps : List (Step T)} {before after : List ℕ} → Stands g rules Made old made item steps → (x : T) → (f : Feeds g old (rules.class x) before new after) → MayFollow g rules (events_of steps) f.given (Some x)
 follows {g = g} {rules = rules} {steps = steps} s x f =
     let fed = fed_more s.fed.fed f in
     let es = map (lower rules.class) (events_of steps) in
@@ -99,12 +125,12 @@ was_fed {g = g} {old = old} {new = new} {before = before} {after = after} f x k 
     let same = subst (λ (c : ℕ). Feeds g old c before new after) k f in
     record { before = before; after = after; feeds = same; are = acts_are same none acts e }
 
-pub fed_follows : {T S : Type 0} {g : List Entry} {rules : Rules T} {Made : List (Event T) → S → Type 0} {old new : Parsing} {made : S} {item : Option Item} {steps : List (Step T)} {x : T} {acts : List ℕ} → Stands g rules Made old made item steps → Fed g rules old new x acts → MayFollow g rules (events_of steps) acts (Some x)
+pub fed_follows : {T S : Type 0} {g : List Entry} {rules : Rules T} {Made : List (Step T) → S → Type 0} {old new : Parsing} {made : S} {item : Option Item} {steps : List (Step T)} {x : T} {acts : List ℕ} → Stands g rules Made old made item steps → Fed g rules old new x acts → MayFollow g rules (events_of steps) acts (Some x)
 fed_follows {g = g} {rules = rules} {steps = steps} {x = x} s f = subst (λ (now : List ℕ). MayFollow g rules (events_of steps) now (Some x)) f.are (follows s x f.feeds)
 
-pub may_take : {T S : Type 0} {spells : T → List ℕ → Type 0} {g : List Entry} {rules : Rules T} {Made : List (Event T) → S → Type 0} {old new : Parsing} {made : S} {item : Option Item} {x : T} {acts : List ℕ} → CanStand g rules Made old made item → (spelling : List ℕ) × spells x spelling → Fed g rules old new x acts → MayTake spells g rules Made made acts (Some x)
+pub may_take : {T S : Type 0} {spells : T → List ℕ → Type 0} {g : List Entry} {rules : Rules T} {Made : List (Step T) → S → Type 0} {old new : Parsing} {made : S} {item : Option Item} {p : Placed T} {acts : List ℕ} → CanStand g rules Made old made item → (spelling : List ℕ) × spells p.token spelling → Fed g rules old new p.token acts → MayTake spells g rules Made made acts (Some p)
 may_take can spelled f = record {
-  events = events_of can.steps;
+  steps = can.steps;
   made_by = can.stands.made_by;
   follow = fed_follows can.stands f;
   spelled = spelled;
@@ -122,7 +148,7 @@ pub record FedEnd (g : List Entry) (old new : Parsing) (acts : List ℕ) : Type 
 pub was_ended : {g : List Entry} {old new : Parsing} {before after : List ℕ} → parsing.Ends g old before new after → before ≡ [] → (acts : List ℕ) → acts ≡ after → FedEnd g old new acts
 was_ended {before = before} {after = after} f none acts e = record { before = before; after = after; ends = f; are = sym (e ∙ f.added ∙ ap (λ (l : List ℕ). l ++ f.given) none) }
 
-pub end_follows : {T S : Type 0} {g : List Entry} {rules : Rules T} {Made : List (Event T) → S → Type 0} {old new : Parsing} {made : S} {item : Option Item} {steps : List (Step T)} {acts : List ℕ} → Stands g rules Made old made item steps → FedEnd g old new acts → MayFollow g rules (events_of steps) acts None
+pub end_follows : {T S : Type 0} {g : List Entry} {rules : Rules T} {Made : List (Step T) → S → Type 0} {old new : Parsing} {made : S} {item : Option Item} {steps : List (Step T)} {acts : List ℕ} → Stands g rules Made old made item steps → FedEnd g old new acts → MayFollow g rules (events_of steps) acts None
 end_follows {g = g} {rules = rules} {steps = steps} {acts = acts} s f = record {
   classes = map rules.class (plain steps);
   rest = [];
@@ -132,15 +158,15 @@ end_follows {g = g} {rules = rules} {steps = steps} {acts = acts} s f = record {
   comes = refl;
 }
 
-pub may_end : {T S : Type 0} {spells : T → List ℕ → Type 0} {g : List Entry} {rules : Rules T} {Made : List (Event T) → S → Type 0} {old new : Parsing} {made : S} {item : Option Item} {acts : List ℕ} → CanStand g rules Made old made item → FedEnd g old new acts → MayTake spells g rules Made made acts None
+pub may_end : {T S : Type 0} {spells : T → List ℕ → Type 0} {g : List Entry} {rules : Rules T} {Made : List (Step T) → S → Type 0} {old new : Parsing} {made : S} {item : Option Item} {acts : List ℕ} → CanStand g rules Made old made item → FedEnd g old new acts → MayTake spells g rules Made made acts None
 may_end can f = record {
-  events = events_of can.steps;
+  steps = can.steps;
   made_by = can.stands.made_by;
   follow = end_follows can.stands f;
   spelled = tt;
 }
 
-pub ends_so : {T S : Type 0} {g : List Entry} {rules : Rules T} {Made Whole : List (Event T) → S → Type 0} {old new : Parsing} {made other : S} {item : Option Item} {steps : List (Step T)} (acts : List ℕ) → Stands g rules Made old made item steps → FedEnd g old new acts → Whole (events_of steps ++ map Do acts) other → ((fault : TokenFault) → rules.Bars (events_of steps) acts None fault → ⊥) → Ends g rules Whole other steps
+pub ends_so : {T S : Type 0} {g : List Entry} {rules : Rules T} {Made : List (Step T) → S → Type 0} {Whole : List (Step T) → List ℕ → S → Type 0} {old new : Parsing} {made other : S} {item : Option Item} {steps : List (Step T)} (acts : List ℕ) → Stands g rules Made old made item steps → FedEnd g old new acts → Whole steps acts other → ((fault : TokenFault) → rules.Bars steps acts None fault → ⊥) → Ends g rules Whole other steps
 ends_so {g = g} {rules = rules} {steps = steps} acts s f by free = record {
   acts = acts;
   derives = subst (λ (l : List ℕ). DerivesOf rules.class g (Rule rules.document ∷ []) (plain steps) (events_of steps ++ map Do l)) f.are (tokens_derive s.fed f.ends);
@@ -150,23 +176,17 @@ ends_so {g = g} {rules = rules} {steps = steps} acts s f by free = record {
 
 -- ---- one step more
 
-pub events-append : {T : Type 0} (xs ys : List (Step T)) → events_of (xs ++ ys) ≡ events_of xs ++ events_of ys
-events-append [] ys = refl
-events-append {T} (s ∷ xs) ys =
-    ap (λ (l : List (Event T)). map Do s.acts ++ (Take s.token.token ∷ l)) (events-append xs ys)
-    ∙ sym (append_assoc (map Do s.acts) (Take s.token.token ∷ events_of xs) (events_of ys))
+item_last : {T : Type 0} (rules : Rules T) (before : Option Item) (steps : List (Step T)) (s : Step T) → last_item_from rules before (steps ++ s ∷ []) ≡ Some (item_with rules (last_item_from rules before steps) s)
+item_last rules before [] s = refl
+item_last rules before (r ∷ steps) s = item_last rules (Some (item_with rules before r)) steps s
 
-item_last : {T : Type 0} (mark : ℕ → Mark) (before : Option Item) (steps : List (Step T)) (s : Step T) → last_item_from mark before (steps ++ s ∷ []) ≡ Some (item_with mark (last_item_from mark before steps) s)
-item_last mark before [] s = refl
-item_last mark before (r ∷ steps) s = item_last mark (Some (item_with mark before r)) steps s
-
-none_more : {T : Type 0} (rules : Rules T) (steps : List (Step T)) (s : Step T) → NoneBarred rules steps → ((f : TokenFault) → rules.Bars (events_of steps) s.acts (Some s.token.token) f → ⊥) → NoneBarred rules (steps ++ s ∷ [])
+none_more : {T : Type 0} (rules : Rules T) (steps : List (Step T)) (s : Step T) → NoneBarred rules steps → ((f : TokenFault) → rules.Bars steps s.acts (Some s.token) f → ⊥) → NoneBarred rules (steps ++ s ∷ [])
 none_more rules steps s none free before after t f e bars = elim (last_parts steps s before t after e) [
-  | last front middle ↦ free f (subst (λ (l : List (Step _)). rules.Bars (events_of l) s.acts (Some s.token.token) f) front (subst (λ (u : Step _). rules.Bars (events_of before) u.acts (Some u.token.token) f) middle bars))
+  | last front middle ↦ free f (subst (λ (l : List (Step _)). rules.Bars l s.acts (Some s.token) f) front (subst (λ (u : Step _). rules.Bars before u.acts (Some u.token) f) middle bars))
   | sooner back parts ↦ none before back t f parts bars
 ]
 
-pub stands_more : {T S : Type 0} {g : List Entry} {rules : Rules T} {Made : List (Event T) → S → Type 0} {old new : Parsing} {made other : S} {item : Option Item} {steps : List (Step T)} → Stands g rules Made old made item steps → (p : Placed T) (acts : List ℕ) → Fed g rules old new p.token acts → Made (events_of steps ++ (map Do acts ++ Take p.token ∷ [])) other → ((fault : TokenFault) → rules.Bars (events_of steps) acts (Some p.token) fault → ⊥) → (last_now : Option Item) → last_now ≡ Some (item_with rules.mark item (record { acts = acts; token = p })) → StandsWith g rules Made new other last_now steps (p ∷ [])
+pub stands_more : {T S : Type 0} {g : List Entry} {rules : Rules T} {Made : List (Step T) → S → Type 0} {old new : Parsing} {made other : S} {item : Option Item} {steps : List (Step T)} → Stands g rules Made old made item steps → (p : Placed T) (acts : List ℕ) → Fed g rules old new p.token acts → Made (steps ++ record { acts = acts; token = p } ∷ []) other → ((fault : TokenFault) → rules.Bars steps acts (Some p) fault → ⊥) → (last_now : Option Item) → last_now ≡ Some (item_with rules item (record { acts = acts; token = p })) → StandsWith g rules Made new other last_now steps (p ∷ [])
 stands_more {T} {g = g} {rules = rules} {Made = Made} {new = new} {other = other} {steps = steps} s p acts f by free last_now e =
     let step : Step T = record { acts = acts; token = p } in
     record {
@@ -180,7 +200,7 @@ stands_more {T} {g = g} {rules = rules} {Made = Made} {new = new} {other = other
             (subst (λ (now : List ℕ). FedTokens rules.class g (Rule rules.document ∷ []) (plain steps ++ p.token ∷ []) (events_of steps ++ (map Do now ++ Take p.token ∷ [])) new.expected) f.are
             (fed_token s.fed p.token f.feeds)));
         none_barred = none_more rules steps step s.none_barred free;
-        made_by = subst (λ (es : List (Event T)). Made es other) (sym (events-append steps (step ∷ []))) by;
-        last_is = e ∙ ap (λ (i : Option Item). Some (item_with rules.mark i step)) s.last_is ∙ sym (item_last rules.mark None steps step);
+        made_by = by;
+        last_is = e ∙ ap (λ (i : Option Item). Some (item_with rules i step)) s.last_is ∙ sym (item_last rules None steps step);
       };
     }

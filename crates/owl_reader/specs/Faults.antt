@@ -1,5 +1,5 @@
 -- The refusal of a document where a token is not taken.
-use Rattle.std.specs.Prelude.{ℕ, false, Option}
+use Rattle.std.specs.Prelude.{ℕ, Bool, false, Option}
 use Rattle.grammar.specs.declared.fault.ParseFault.{ParseFault}
 use Rattle.grammar.specs.declared.fault.ParseFault.TheVariants as parse
 use Rattle.owl_lexer.specs.declared.fault.LexFault.{LexFault}
@@ -21,13 +21,13 @@ fault_at token.NumberTooLarge item_at at = read.NumberTooLarge
 fault_at token.TooMany item_at at = read.TooMany
 fault_at token.Memory item_at at = read.Memory
 
--- where a parser refuses the token or the end at a byte, behind this last item
-abbrev pub parse_refusal : ParseFault → Option Item → ℕ → ReadFault
-parse_refusal parse.Unexpected last at = read.Refused (item_start false last at) at reason.NotHere
-parse_refusal parse.Memory last at = read.Memory
+-- where a parser refuses the token or the end at a byte, which begins an item or not, behind this last item
+abbrev pub parse_refusal : ParseFault → Bool → Option Item → ℕ → ReadFault
+parse_refusal parse.Unexpected begins last at = read.Refused (item_start begins false last at) at reason.NotHere
+parse_refusal parse.Memory begins last at = read.Memory
 
 -- the refusal at a byte where no character, or no token begins
 abbrev pub lexing_refusal : LexFault → Option Item → ReadFault
-lexing_refusal (lex.BadUtf8 at) last = read.Refused (item_start false last at) at reason.BadUtf8
-lexing_refusal (lex.BadToken at) last = read.Refused (item_start false last at) at reason.BadToken
+lexing_refusal (lex.BadUtf8 at) last = read.Refused (item_start false false last at) at reason.BadUtf8
+lexing_refusal (lex.BadToken at) last = read.Refused (item_start false false last at) at reason.BadToken
 lexing_refusal lex.Memory last = read.Memory

@@ -1,5 +1,8 @@
-pub mod Syntaxes
 pub mod Steps
+pub mod Syntaxes
+pub mod Following
+pub mod Events
+pub mod Computing
 pub mod Items
 pub mod Faults
 pub mod Defects

@@ -1,6 +1,5 @@
 -- What a reader is, and how it stands to the bytes that it was fed.
 use Rattle.std.specs.Prelude.{◌≡◌, ◌≢◌, ◌+◌, ◌≤◌, ℕ, List, [], ◌++◌, length, Option, None, Some}
-use Rattle.grammar.specs.Derivations.{Event}
 use Rattle.grammar.specs.Grammars.{Entry}
 use Rattle.grammar.specs.Parsing.{Parsing}
 use Rattle.owl_characters.specs.Limit.{most_bytes}
@@ -26,7 +25,7 @@ pub record Reading (S : Type 0) : Type 0 where
   pub refused : Option ReadFault
 
 -- Tokens were given by these bytes, whatever follows, and all were taken.
-pub record IsOpen {T S : Type 0} (spells : T → List ℕ → Type 0) (g : List Entry) (rules : Rules T) (Made : List (Event T) → S → Type 0) (lexing : Lexing) (parsing : Parsing) (made : S) (last : Option Item) (bytes : List ℕ) : Type 0 where
+pub record IsOpen {T S : Type 0} (spells : T → List ℕ → Type 0) (g : List Entry) (rules : Rules T) (Made : List (Step T) → S → Type 0) (lexing : Lexing) (parsing : Parsing) (made : S) (last : Option Item) (bytes : List ℕ) : Type 0 where
   pub steps : List (Step T)
   pub lexer_open : lexing.refused ≡ None
   pub gives : Gives spells nothing_fed bytes (tokens_in steps) lexing.begun
@@ -35,25 +34,25 @@ pub record IsOpen {T S : Type 0} (spells : T → List ℕ → Type 0) (g : List 
   pub stands : Stands g rules Made parsing made last steps
 
 -- and so many bytes are there yet
-pub record HasRoom {T S : Type 0} (spells : T → List ℕ → Type 0) (g : List Entry) (rules : Rules T) (Made : List (Event T) → S → Type 0) (lexing : Lexing) (parsing : Parsing) (made : S) (last : Option Item) (room : ℕ) : Type 0 where
+pub record HasRoom {T S : Type 0} (spells : T → List ℕ → Type 0) (g : List Entry) (rules : Rules T) (Made : List (Step T) → S → Type 0) (lexing : Lexing) (parsing : Parsing) (made : S) (last : Option Item) (room : ℕ) : Type 0 where
   pub bytes : List ℕ
   pub open_yet : IsOpen spells g rules Made lexing parsing made last bytes
   pub few : length bytes + room ≤ most_bytes
 
 -- The end behind the bytes was told, and some of their tokens were taken: those that come of the lexer follow them.
-pub record IsEnding {T S : Type 0} (spells : T → List ℕ → Type 0) (g : List Entry) (rules : Rules T) (Made : List (Event T) → S → Type 0) (lexing : Lexing) (parsing : Parsing) (made : S) (last : Option Item) (bytes : List ℕ) : Type 0 where
+pub record IsEnding {T S : Type 0} (spells : T → List ℕ → Type 0) (g : List Entry) (rules : Rules T) (Made : List (Step T) → S → Type 0) (lexing : Lexing) (parsing : Parsing) (made : S) (last : Option Item) (bytes : List ℕ) : Type 0 where
   pub steps : List (Step T)
   pub lexer_open : lexing.refused ≡ None
   pub splits : (tokens : List (Placed T)) (ending : Option LexFault) → Continues spells lexing.begun [] tokens ending → Splits spells bytes (tokens_in steps ++ tokens) ending
   pub stands : Stands g rules Made parsing made last steps
 
 -- some bytes end so
-pub record CanEnd {T S : Type 0} (spells : T → List ℕ → Type 0) (g : List Entry) (rules : Rules T) (Made : List (Event T) → S → Type 0) (lexing : Lexing) (parsing : Parsing) (made : S) (last : Option Item) : Type 0 where
+pub record CanEnd {T S : Type 0} (spells : T → List ℕ → Type 0) (g : List Entry) (rules : Rules T) (Made : List (Step T) → S → Type 0) (lexing : Lexing) (parsing : Parsing) (made : S) (last : Option Item) : Type 0 where
   pub bytes : List ℕ
   pub ending : IsEnding spells g rules Made lexing parsing made last bytes
 
 -- All tokens of the bytes were taken.
-pub record AreAllTaken {T S : Type 0} (spells : T → List ℕ → Type 0) (g : List Entry) (rules : Rules T) (Made : List (Event T) → S → Type 0) (parsing : Parsing) (made : S) (last : Option Item) (bytes : List ℕ) : Type 0 where
+pub record AreAllTaken {T S : Type 0} (spells : T → List ℕ → Type 0) (g : List Entry) (rules : Rules T) (Made : List (Step T) → S → Type 0) (parsing : Parsing) (made : S) (last : Option Item) (bytes : List ℕ) : Type 0 where
   pub steps : List (Step T)
   pub splits : Splits spells bytes (tokens_in steps) None
   pub stands : Stands g rules Made parsing made last steps
@@ -67,20 +66,20 @@ abbrev pub Refuses : {T : Type 0} → (T → List ℕ → Type 0) → List Entry
 Refuses spells g rules bytes refusal = (more : List ℕ) → IsFirstDefect spells g rules (bytes ++ more) refusal
 
 -- A reader that has not refused took all tokens of these bytes; one that has keeps their first defect.
-pub record HasRead {T S : Type 0} (spells : T → List ℕ → Type 0) (g : List Entry) (rules : Rules T) (Made : List (Event T) → S → Type 0) (r : Reading S) (bytes : List ℕ) : Type 0 where
+pub record HasRead {T S : Type 0} (spells : T → List ℕ → Type 0) (g : List Entry) (rules : Rules T) (Made : List (Step T) → S → Type 0) (r : Reading S) (bytes : List ℕ) : Type 0 where
   pub open_yet : r.refused ≡ None → IsOpen spells g rules Made r.lexing r.parsing r.made r.last bytes
   pub fed : r.refused ≡ None → r.fed ≡ length bytes
   pub refuses : (refusal : ReadFault) → r.refused ≡ Some refusal → refusal ≢ read.Memory → Refuses spells g rules bytes refusal
 
 -- Some bytes were read that are not too many.
-pub record CanRead {T S : Type 0} (spells : T → List ℕ → Type 0) (g : List Entry) (rules : Rules T) (Made : List (Event T) → S → Type 0) (r : Reading S) : Type 0 where
+pub record CanRead {T S : Type 0} (spells : T → List ℕ → Type 0) (g : List Entry) (rules : Rules T) (Made : List (Step T) → S → Type 0) (r : Reading S) : Type 0 where
   pub bytes : List ℕ
   pub open_yet : IsOpen spells g rules Made r.lexing r.parsing r.made r.last bytes
   pub fed : r.fed ≡ length bytes
   pub few : r.fed ≤ most_bytes
 
 -- The bytes are a whole document, of which this was made.
-pub record IsRead {T S : Type 0} (spells : T → List ℕ → Type 0) (g : List Entry) (rules : Rules T) (Whole : List (Event T) → S → Type 0) (bytes : List ℕ) (made : S) : Type 0 where
+pub record IsRead {T S : Type 0} (spells : T → List ℕ → Type 0) (g : List Entry) (rules : Rules T) (Whole : List (Step T) → List ℕ → S → Type 0) (bytes : List ℕ) (made : S) : Type 0 where
   pub steps : List (Step T)
   pub few : length bytes ≤ most_bytes
   pub splits : Splits spells bytes (tokens_in steps) None

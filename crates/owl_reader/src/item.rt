@@ -38,12 +38,13 @@ pub fn resumes_item<S: Syntax>(acts: &[u8]) -> bool
     acts.iter().any(|act| S::mark_of(*act) == Mark::Again)
 }
 
-/// The byte at which the item begins that a token at this byte belongs to.
-pub fn item_start(resumes: bool, last: Option<Item>, at: u64) -> u64
-    ensures { result ≡ item_start resumes last at }
+/// The byte at which the item begins that a token at this byte belongs to, which
+/// begins one or not.
+pub fn item_start(begins: bool, resumes: bool, last: Option<Item>, at: u64) -> u64
+    ensures { result ≡ item_start begins resumes last at }
 {
     match last {
-        Some(item) if resumes || !item.is_whole => item.at,
+        Some(item) if !begins && (resumes || !item.is_whole) => item.at,
         _ => at,
     }
 }

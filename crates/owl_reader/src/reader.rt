@@ -209,6 +209,6 @@ fn end<S: Syntax>(
     let mut lexer = lexer;
     let mut progress = progress;
     take_last(alloc, &mut lexer, &mut progress)?;
-    progress.end(fed)?;
+    progress.end(alloc, fed)?;
     Ok(progress.syntax)
 }

@@ -20,12 +20,12 @@ fn refusal_of(fault: LexFault, last: Option<Item>) -> ReadFault
 {
     match fault {
         LexFault::BadUtf8 { at } => ReadFault::Refused {
-            item_at: item_start(false, last, at),
+            item_at: item_start(false, false, last, at),
             at,
             reason: Reason::BadUtf8,
         },
         LexFault::BadToken { at } => ReadFault::Refused {
-            item_at: item_start(false, last, at),
+            item_at: item_start(false, false, last, at),
             at,
             reason: Reason::BadToken,
         },
@@ -62,12 +62,12 @@ fn take_some<S: Syntax>(
     let mut tokens = Vec::new(alloc);
     match lexer.feed_some(piece, &mut tokens) {
         Ok(left) => {
-            progress.take_all(tokens)?;
+            progress.take_all(alloc, tokens)?;
             Ok(left)
         }
         Err(LexFault::Memory) => Err(ReadFault::Memory),
         Err(fault) => {
-            progress.take_all(tokens)?;
+            progress.take_all(alloc, tokens)?;
             Err(refusal_of(fault, progress.last))
         }
     }
@@ -131,12 +131,12 @@ fn take_some_last<S: Syntax>(
     let mut tokens = Vec::new(alloc);
     match lexer.finish_some(&mut tokens) {
         Ok(done) => {
-            progress.take_all(tokens)?;
+            progress.take_all(alloc, tokens)?;
             Ok(done)
         }
         Err(LexFault::Memory) => Err(ReadFault::Memory),
         Err(fault) => {
-            progress.take_all(tokens)?;
+            progress.take_all(alloc, tokens)?;
             Err(refusal_of(fault, progress.last))
         }
     }

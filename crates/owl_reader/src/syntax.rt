@@ -1,10 +1,10 @@
 //! Syntaxes of documents.
 
-ghost use Rattle.std.specs.Prelude.{◌≡◌, ◌≢◌, ℕ, List, Option, IfErr, OnOk, true};
-ghost use Rattle.grammar.specs.Derivations.{Event};
+ghost use Rattle.std.specs.Prelude.{◌≡◌, ◌≢◌, ℕ, List, Option, None, Some, IfErr, OnOk, true};
 ghost use Rattle.grammar.specs.Grammars.{has_rule};
 ghost use Rattle.owl_lexer.specs.Languages.{IsPrompt};
-ghost use Rattle.owl_reader.specs.Steps.{GoesOn, MayFollow, MayTake};
+ghost use Rattle.owl_reader.specs.Following.{GoesOn, MayFollow, MayTake};
+ghost use Rattle.owl_reader.specs.Steps.{Step, events_of, token_in};
 ghost use Rattle.owl_reader.specs.declared.fault.TokenFault.{TokenFault};
 ghost use Rattle.owl_reader.specs.declared.fault.TokenFault.TheVariants.{Memory};
 ghost use Rattle.owl_reader.specs.Syntaxes.{Rules};
@@ -12,7 +12,7 @@ ghost use Rattle.owl_reader.specs.Syntaxes.{Rules};
 use crate::fault::TokenFault;
 use crate::item::Mark;
 use grammar::Table;
-use owl_lexer::TokenLanguage;
+use owl_lexer::{Placed, TokenLanguage};
 
 /// A syntax of documents: its tokens, its grammar, and what is made of a
 /// document while its tokens come.
@@ -24,11 +24,12 @@ pub trait Syntax: Drop {
     /// What the syntax tells of its tokens.
     ghost rules: { Rules Self.Language.Token };
 
-    /// This was made by these events.
-    ghost Made: { List (Event Self.Language.Token) → Self → Type 0 };
+    /// This was made by these steps.
+    ghost Made: { List (Step Self.Language.Token) → Self → Type 0 };
 
-    /// This was made by the events of a whole document.
-    ghost Whole: { List (Event Self.Language.Token) → Self → Type 0 };
+    /// This was made by the steps of a whole document, and the acts behind the
+    /// last token.
+    ghost Whole: { List (Step Self.Language.Token) → List ℕ → Self → Type 0 };
 
     /// The rule of documents.
     fn document() -> u16
@@ -42,6 +43,19 @@ pub trait Syntax: Drop {
     fn mark_of(act: u8) -> Mark
         ensures { result ≡ rules.mark act };
 
+    /// Whether a token begins an item.
+    fn begins_item(token: &<Self::Language as TokenLanguage>::Token) -> bool
+        ensures { result ≡ rules.begins (Some token.now) };
+
+    /// Whether the end does, behind a whole item.
+    fn end_begins_item() -> bool
+        ensures { result ≡ rules.begins None };
+
+    /// The classes of tokens of which one may stand behind each whole item,
+    /// where items begin at tokens.
+    fn behind_items() -> &'static [u8]
+        ensures { result.now ≡ rules.behind };
+
     /// Does the acts that stand in front of this token or of the end, in turn.
     ///
     /// Refuses exactly where the rules of the syntax bar them, with the fault
@@ -50,20 +64,20 @@ pub trait Syntax: Drop {
     fn take(
         &mut self,
         acts: &[u8],
-        next: Option<<Self::Language as TokenLanguage>::Token>,
+        next: Option<Placed<<Self::Language as TokenLanguage>::Token>>,
     ) -> Result<(), TokenFault>
         requires { MayTake Self.Language.spells Self.Grammar.grammar rules Made
             self.old acts.now next }
-        ensures takes { OnOk result ((events : List (Event Self.Language.Token)) → Made events self.old
-            → MayFollow Self.Grammar.grammar rules events acts.now next
-            → GoesOn Made Whole events acts.now next self.new) }
-        ensures free { OnOk result ((events : List (Event Self.Language.Token)) → Made events self.old
-            → MayFollow Self.Grammar.grammar rules events acts.now next
-            → (fault : TokenFault) → rules.Bars events acts.now next fault → ⊥) }
+        ensures takes { OnOk result ((steps : List (Step Self.Language.Token)) → Made steps self.old
+            → MayFollow Self.Grammar.grammar rules (events_of steps) acts.now (token_in next)
+            → GoesOn Made Whole steps acts.now next self.new) }
+        ensures free { OnOk result ((steps : List (Step Self.Language.Token)) → Made steps self.old
+            → MayFollow Self.Grammar.grammar rules (events_of steps) acts.now (token_in next)
+            → (fault : TokenFault) → rules.Bars steps acts.now next fault → ⊥) }
         ensures barred { IfErr result (λ fault. fault ≢ Memory
-            → (events : List (Event Self.Language.Token)) → Made events self.old
-            → MayFollow Self.Grammar.grammar rules events acts.now next
-            → rules.Bars events acts.now next fault) };
+            → (steps : List (Step Self.Language.Token)) → Made steps self.old
+            → MayFollow Self.Grammar.grammar rules (events_of steps) acts.now (token_in next)
+            → rules.Bars steps acts.now next fault) };
 
     ghost has_document: { has_rule Self.Grammar.grammar rules.document ≡ true };
 

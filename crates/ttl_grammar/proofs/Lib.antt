@@ -1,10 +1,8 @@
-pub mod Defects
 pub mod DocumentLaws
 pub mod LabelLaws
 pub mod PageLaws
 pub mod PageTable
 pub mod Refusals
 pub mod RunLaws
-pub mod TypedLiteralLaws
 pub mod Words
 pub mod WorkedCases

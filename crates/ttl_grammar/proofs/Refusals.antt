@@ -11,8 +11,11 @@ use Rattle.owl_atom.specs.declared.prefixes.Prefix.{Prefix}
 use Rattle.owl_lexer.specs.Splitting.{Splits}
 use Rattle.owl_lexer.specs.declared.placed.Placed.{Placed}
 use Rattle.owl_reader.proofs.AlikeLaws.{defect_alike}
+use Rattle.owl_reader.proofs.EventLaws.{events_with}
+use Rattle.owl_reader.proofs.NoDefectLaws.{read_has_no_defect}
 use Rattle.owl_reader.specs.Defects.{NoneBarred}
 use Rattle.owl_reader.specs.Defects.IsFirstDefect.{beyond, too_long, within}
+use Rattle.owl_reader.specs.Events.{WholeByEvents}
 use Rattle.owl_reader.specs.Readings.{IsRead}
 use Rattle.owl_reader.specs.Steps.{Step, events_of, plain, tokens_in}
 use Rattle.owl_reader.specs.declared.fault.ReadFault.{ReadFault}
@@ -33,7 +36,6 @@ use Rattle.ttl_grammar.specs.Runs.{and_then, limited, run}
 use Rattle.ttl_grammar.specs.StartLaws.{has_document}
 use Rattle.ttl_grammar.specs.States.{State, start}
 use Rattle.ttl_grammar.specs.Table.{turtle}
-use Rattle.ttl_grammar.proofs.Defects.{read_has_no_defect}
 
 -- ---- events as steps
 
@@ -90,12 +92,6 @@ events_in_parts (t ∷ before) s after more =
     ∙ ap (λ (l : List (Event Token)). map Do t.acts ++ Take t.token.token ∷ l) (events_in_parts before s after more)
     ∙ sym (append_assoc (map Do t.acts) (Take t.token.token ∷ events_of (before ++ s ∷ [])) (events_of after ++ more))
 
-events_with : (before : List (Step Token)) (s : Step Token) → events_of (before ++ s ∷ []) ≡ events_of before ++ (map Do s.acts ++ Take s.token.token ∷ [])
-events_with [] s = refl
-events_with (t ∷ before) s =
-    ap (λ (l : List (Event Token)). map Do t.acts ++ Take t.token.token ∷ l) (events_with before s)
-    ∙ sym (append_assoc (map Do t.acts) (Take t.token.token ∷ events_of before) (map Do s.acts ++ Take s.token.token ∷ []))
-
 -- the fault of a front is that of the whole
 front_fails : (front : List (Step Token)) (more : List (Event Token)) (state : State) (f : TokenFault) → run (events_of front ++ more) start ≡ Ok state → run (events_of front) start ≡ Err f → ⊥
 front_fails front more state f h e =
@@ -130,7 +126,7 @@ end_is_free events state f runs few e =
 abbrev LeadTo : List (Event Token) → State → Type 0
 LeadTo events state = run events start ≡ Ok state
 
-read_is_read : (bytes : List ℕ) (p : List Prefix) (g : List Triple) (d : ReadsTurtle bytes p g) → IsRead tokens.Spells turtle turtle_rules LeadTo bytes d.spells.state
+read_is_read : (bytes : List ℕ) (p : List Prefix) (g : List Triple) (d : ReadsTurtle bytes p g) → IsRead tokens.Spells turtle turtle_rules (WholeByEvents LeadTo) bytes d.spells.state
 read_is_read bytes p g d =
     let it = stepped d.placed d.spells.events (taken d.spells.derives) in
     let runs = sym (ap (λ (l : List (Event Token)). run l start) it.events_are) ∙ d.spells.states in

@@ -2,7 +2,6 @@ pub mod Classes
 pub mod Acts
 pub mod Page
 pub mod Table
-pub mod TypedLiterals
 pub mod States
 pub mod Labels
 pub mod Runs

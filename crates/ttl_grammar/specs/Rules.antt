@@ -1,6 +1,7 @@
 -- What Turtle tells of its tokens and acts.
-use Rattle.std.specs.Prelude.{◌≡◌, ◌==◌, ℕ, List, Option, Err, if◌then◌else◌}
+use Rattle.std.specs.Prelude.{◌≡◌, ◌==◌, ℕ, false, List, [], Option, Err, if◌then◌else◌}
 use Rattle.grammar.specs.Derivations.{Event}
+use Rattle.owl_reader.specs.Events.{BarsByEvents}
 use Rattle.owl_reader.specs.Syntaxes.{Rules}
 use Rattle.owl_reader.specs.declared.fault.TokenFault.{TokenFault}
 use Rattle.owl_reader.specs.declared.item.Mark.{Mark}
@@ -23,4 +24,12 @@ abbrev pub Bars : List (Event Token) → List ℕ → Option Token → TokenFaul
 Bars events acts next fault = answer events acts next ≡ Err fault
 
 abbrev pub turtle_rules : Rules Token
-turtle_rules = record { class = class_of; document = rule_number document; mark = mark_of; Bars = Bars; long_quotes = long_quotes }
+turtle_rules = record {
+  class = class_of;
+  document = rule_number document;
+  mark = mark_of;
+  begins = λ next. false;
+  behind = [];
+  Bars = BarsByEvents Bars;
+  long_quotes = long_quotes;
+}

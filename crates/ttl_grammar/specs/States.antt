@@ -13,7 +13,7 @@ use Rattle.rdf_terms.specs.Vocabulary.{rdf, xsd}
 use Rattle.ttl_tokens.specs.declared.token.Token.{Token}
 use Rattle.ttl_tokens.specs.declared.token.Token.TheVariants as token
 use Rattle.ttl_tokens.specs.declared.token.Symbol.TheVariants as symbol
-use Rattle.ttl_grammar.specs.TypedLiterals.{typed_literal}
+use Rattle.lexical_values.specs.TypedLiterals.{typed_literal}
 use Rattle.ttl_grammar.specs.declared.act.Act.{Act}
 use Rattle.ttl_grammar.specs.declared.act.Act.TheVariants as act
 use Rattle.ttl_grammar.specs.declared.node.Nest.{Nest}

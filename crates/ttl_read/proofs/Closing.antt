@@ -12,7 +12,7 @@ use Rattle.ttl_grammar.specs.Labels.{graph_of}
 use Rattle.ttl_grammar.specs.Runs.{limited}
 use Rattle.ttl_grammar.specs.States.{Facts, State}
 use Rattle.ttl_grammar.specs.declared.node.NodeTriple.{NodeTriple}
-use Rattle.ttl_read.specs.Computing.{TurnsTo}
+use Rattle.owl_reader.specs.Computing.{TurnsTo}
 use Rattle.ttl_read.specs.Keeping.{AreHeld, AreKept}
 use Rattle.ttl_read.specs.Refusals.{of_graph}
 use Rattle.ttl_read.specs.Showing.{Holds, Shows}

@@ -2,6 +2,7 @@
 use Rattle.std.proofs.Common.{◌≡◌, ◌≤◌, ℕ, List, [], ◌∷◌, length, refl, sym, ap, subst}
 use Rattle.owl_atom.specs.declared.prefixes.Prefix.{Prefix}
 use Rattle.grammar.proofs.AlikeLaws.{derives_alike}
+use Rattle.owl_reader.specs.Events.{WholeByEvents}
 use Rattle.owl_reader.specs.Readings.{IsRead}
 use Rattle.owl_reader.specs.Steps.{Step, plain, tokens_in}
 use Rattle.rdf_graph.specs.Graphs.{most_triples}
@@ -20,7 +21,7 @@ plain_tokens : (steps : List (Step Token)) → plain steps ≡ tokens_of (tokens
 plain_tokens [] = refl
 plain_tokens (s ∷ steps) = ap (λ (l : List Token). s.token.token ∷ l) (plain_tokens steps)
 
-pub reads : (bytes : List ℕ) (a : Assembler) → IsRead tokens.Spells turtle turtle_rules Whole bytes a → (prefixes : List Prefix) → prefixes ≡ a.names.prefixes → ReadsTurtle bytes prefixes a.graph
+pub reads : (bytes : List ℕ) (a : Assembler) → IsRead tokens.Spells turtle turtle_rules (WholeByEvents Whole) bytes a → (prefixes : List Prefix) → prefixes ≡ a.names.prefixes → ReadsTurtle bytes prefixes a.graph
 reads bytes a r prefixes e =
     let it = r.ends.made_by in
     let spells : SpellsTurtle prefixes a.graph (plain r.steps) = record {
@@ -39,5 +40,5 @@ reads bytes a r prefixes e =
       spells = subst (λ (l : List Token). SpellsTurtle prefixes a.graph l) (plain_tokens r.steps) spells;
     }
 
-pub plain_prefixes : (bytes : List ℕ) (a : Assembler) → IsRead tokens.Spells turtle turtle_rules Whole bytes a → (prefixes : List Prefix) → prefixes ≡ a.names.prefixes → ArePlain prefixes
+pub plain_prefixes : (bytes : List ℕ) (a : Assembler) → IsRead tokens.Spells turtle turtle_rules (WholeByEvents Whole) bytes a → (prefixes : List Prefix) → prefixes ≡ a.names.prefixes → ArePlain prefixes
 plain_prefixes bytes a r prefixes e = subst ArePlain (sym e) r.ends.made_by.holds.names.plain

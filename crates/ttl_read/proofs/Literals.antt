@@ -6,8 +6,8 @@ use Rattle.rdf_terms.specs.declared.fault.LiteralFault.TheVariants as literal
 use Rattle.owl_reader.specs.declared.fault.TokenFault.{TokenFault}
 use Rattle.owl_reader.specs.declared.fault.TokenFault.TheVariants.{Memory}
 use Rattle.ttl_grammar.specs.States.{literal_term}
-use Rattle.ttl_grammar.proofs.TypedLiteralLaws.{nothing_is_denoted}
-use Rattle.ttl_grammar.specs.TypedLiterals.{typed_literal}
+use Rattle.lexical_values.proofs.TypedLiteralLaws.{nothing_is_denoted}
+use Rattle.lexical_values.specs.TypedLiterals.{typed_literal}
 use Rattle.ttl_read.specs.Refusals.{of_literal}
 
 -- a form is refused where it denotes nothing

@@ -6,7 +6,7 @@ use Rattle.owl_reader.specs.declared.fault.TokenFault.{TokenFault}
 use Rattle.ttl_grammar.specs.States.{Facts, State, cell_added, forming, reading, stating}
 use Rattle.ttl_grammar.specs.declared.node.NodeTriple.{NodeTriple}
 use Rattle.ttl_grammar.specs.declared.node.Object.{Object}
-use Rattle.ttl_read.specs.Computing.{Turns, TurnsTo}
+use Rattle.owl_reader.specs.Computing.{Turns, TurnsTo}
 use Rattle.ttl_read.specs.Keeping.{AreHeld, AreSame, most_nodes}
 use Rattle.ttl_read.specs.Showing.{Shows}
 use Rattle.ttl_read.specs.declared.assembler.Assembler.{Assembler}

@@ -11,7 +11,7 @@ use Rattle.owl_characters.specs.OrderLaws.{equal}
 use Rattle.owl_reader.specs.declared.fault.TokenFault.{TokenFault}
 use Rattle.ttl_grammar.specs.Documents.{AreNamespaces}
 use Rattle.ttl_grammar.specs.States.{Names, Namespace, namespace_in, with_base, with_namespace, with_prefix}
-use Rattle.ttl_read.specs.Computing.{TurnsTo}
+use Rattle.owl_reader.specs.Computing.{TurnsTo}
 use Rattle.ttl_read.specs.NameTables.{AreNames, ArePlain, IsPlain, NameTable}
 
 -- the prefix that is declared was named

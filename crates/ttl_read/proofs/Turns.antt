@@ -1,12 +1,13 @@
 -- Acts in turn, and what a reader makes of them.
 use Rattle.std.proofs.Common.{◌≡◌, ◌≢◌, ℕ, Bool, true, false, List, [], ◌∷◌, ◌++◌, map, Option, None, Some, Result, Ok, Err, sym, ap, ◌∙◌}
 use Rattle.std.specs.Prelude.{IfErr, IfSome, OnOk, is_some, nat_lt, not, length, if◌then◌else◌}
-use Rattle.std.specs.Result.{IsErrAnd}
 use Rattle.std.proofs.lemmas.Bool.{true≢false}
 use Rattle.std.proofs.lemmas.List.{append_assoc}
 use Rattle.grammar.specs.Derivations.{Event}
 use Rattle.grammar.specs.Derivations.Event.{Do, Take}
-use Rattle.owl_reader.specs.Steps.{GoesOn}
+use Rattle.owl_lexer.specs.declared.placed.Placed.{Placed}
+use Rattle.owl_reader.proofs.EventLaws.{EventsGoOn}
+use Rattle.owl_reader.specs.Steps.{token_in}
 use Rattle.owl_reader.specs.declared.fault.TokenFault.{TokenFault}
 use Rattle.owl_reader.specs.declared.fault.TokenFault.TheVariants.{Memory, TooMany}
 use Rattle.ttl_tokens.proofs.TokenFormLaws.{tokens_formed}
@@ -18,21 +19,15 @@ use Rattle.ttl_grammar.specs.Labels.{graph_of}
 use Rattle.ttl_grammar.proofs.RunLaws.{run_acts, run_last, run_nothing}
 use Rattle.ttl_grammar.specs.Runs.{all_done, and_then, answer, limited, run}
 use Rattle.ttl_grammar.specs.States.{State, start}
-use Rattle.ttl_read.specs.Computing.{TurnsTo}
+use Rattle.owl_reader.specs.Computing.{TurnsTo}
 use Rattle.ttl_read.specs.Showing.{Made, Shows, TakesNext, Whole}
 use Rattle.ttl_read.specs.declared.assembler.Assembler.{Assembler}
 
--- ---- leaving early
-
-pub turned_early : {A B : Type 0} (Shown : B → A → Type 0) (r : Result (Unit {0}) TokenFault) (fault : TokenFault) (new : B) (wanted : Result A TokenFault) → IsErrAnd r (λ e. e ≡ fault) → (fault ≢ Memory → wanted ≡ Err fault) → TurnsTo Shown r new wanted
-turned_early Shown (Ok x) fault new wanted is h = absurd is
-turned_early Shown (Err e) fault new wanted is h = λ other. h (λ same. other (is ∙ same)) ∙ ap Err (sym is)
-
 -- ---- tokens
 
-pub next_formed : (next : Option Token) → IfSome next (λ x. (spelling : List ℕ) × Spells x spelling) → IfSome next IsFormed
+pub next_formed : (next : Option (Placed Token)) → IfSome next (λ p. (spelling : List ℕ) × Spells p.token spelling) → IfSome (token_in next) IsFormed
 next_formed None h = tt
-next_formed (Some x) h = tokens_formed x h.0 h.1
+next_formed (Some p) h = tokens_formed p.token h.0 h.1
 
 -- ---- behind the events that made an assembler
 
@@ -58,7 +53,7 @@ within : (r : Result State TokenFault) (t : State) → and_then r limited ≡ Ok
 within (Ok s) t e = ap Ok (limited_is s t e)
 within (Err fault) t e = absurd (cc)
 
-goes_on_by : (events : List (Event Token)) (acts : List ℕ) (next : Option Token) (old new : Assembler) (m : Made events old) → TakesNext acts next m.state (Ok tt) new → GoesOn Made Whole events acts next new
+goes_on_by : (events : List (Event Token)) (acts : List ℕ) (next : Option Token) (old new : Assembler) (m : Made events old) → TakesNext acts next m.state (Ok tt) new → EventsGoOn Made Whole events acts next new
 goes_on_by events acts (Some x) old new m h = record {
   state = h.0;
   leads = λ more.
@@ -74,7 +69,7 @@ goes_on_by events acts None old new m h = record {
 
 -- ---- the clauses of a syntax
 
-pub goes_on : (F : List (Event Token) → Type 0) (acts : List ℕ) (next : Option Token) (old new : Assembler) (r : Result (Unit {0}) TokenFault) → ((state : State) → Shows old state → TakesNext acts next state r new) → OnOk r ((events : List (Event Token)) → Made events old → F events → GoesOn Made Whole events acts next new)
+pub goes_on : (F : List (Event Token) → Type 0) (acts : List ℕ) (next : Option Token) (old new : Assembler) (r : Result (Unit {0}) TokenFault) → ((state : State) → Shows old state → TakesNext acts next state r new) → OnOk r ((events : List (Event Token)) → Made events old → F events → EventsGoOn Made Whole events acts next new)
 goes_on F acts next old new (Ok done) h = λ events m f. goes_on_by events acts next old new m (h m.state m.shows)
 goes_on F acts next old new (Err fault) h = tt
 

@@ -1,5 +1,4 @@
 pub mod Refusals
-pub mod Computing
 pub mod NameTables
 pub mod Keeping
 pub mod Showing

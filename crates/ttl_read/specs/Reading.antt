@@ -1,6 +1,7 @@
 -- How a reader of Turtle stands to the bytes that it was fed.
 use Rattle.std.specs.Prelude.{ℕ, List}
 use Rattle.owl_reader.specs.Early as early
+use Rattle.owl_reader.specs.Events.{MadeByEvents}
 use Rattle.owl_reader.specs.Readings as readings
 use Rattle.owl_reader.specs.declared.fault.ReadFault.{ReadFault}
 use Rattle.ttl_tokens.specs.TurtleSpellings.{Spells}
@@ -15,8 +16,8 @@ Refuses bytes fault = readings.Refuses Spells turtle_page turtle_rules bytes fau
 
 -- the reader was fed these bytes
 abbrev pub HasRead : readings.Reading Assembler → List ℕ → Type 0
-HasRead r bytes = readings.HasRead Spells turtle_page turtle_rules Made r bytes
+HasRead r bytes = readings.HasRead Spells turtle_page turtle_rules (MadeByEvents Made) r bytes
 
 -- No defect before white space is left among them, where they hold neither `"""` nor `'''`.
 abbrev pub TellsEarly : readings.Reading Assembler → Type 0
-TellsEarly r = early.TellsEarly Spells turtle_page turtle_rules Made r
+TellsEarly r = early.TellsEarly Spells turtle_page turtle_rules (MadeByEvents Made) r

@@ -7,7 +7,7 @@ use Rattle.ttl_tokens.specs.declared.token.Token.{Token}
 use Rattle.ttl_grammar.specs.Labels.{graph_of}
 use Rattle.ttl_grammar.specs.Runs.{all_done, and_then, limited, run}
 use Rattle.ttl_grammar.specs.States.{State, start}
-use Rattle.ttl_read.specs.Computing.{TurnsTo}
+use Rattle.owl_reader.specs.Computing.{TurnsTo}
 use Rattle.ttl_read.specs.Keeping.{AreSame, most_nodes}
 use Rattle.ttl_read.specs.NameTables.{AreNames}
 use Rattle.ttl_read.specs.declared.assembler.Assembler.{Assembler}

@@ -10,7 +10,7 @@ ghost use Rattle.owl_reader.specs.declared.fault.TokenFault as fault;
 ghost use Rattle.ttl_grammar.specs.declared.act.Act.TheVariants as act;
 ghost use Rattle.ttl_grammar.specs.declared.node.Object as node;
 ghost use Rattle.ttl_tokens.specs.declared.token.Token as lexeme;
-ghost use Rattle.ttl_read.specs.Computing.{Computes, TurnsTo};
+ghost use Rattle.owl_reader.specs.Computing.{Computes, TurnsTo};
 ghost use Rattle.ttl_read.specs.Keeping.{most_nodes};
 ghost use Rattle.ttl_read.specs.Showing.{Holds, Made, Shows, TakesNext};
 

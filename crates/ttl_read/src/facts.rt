@@ -3,7 +3,7 @@
 ghost use Rattle.std.specs.Prelude.{◌≡◌, ◌↔◌, ◌+◌, ◌-◌, ◌∷◌, ◌++◌, [], length, take, None, Ok, Some, IfErr, IfOk, IsTrue, OnOk};
 ghost use Rattle.ttl_grammar.specs.States as stated;
 ghost use Rattle.ttl_grammar.specs.States.{bracket_opened, cell_added, closed, collection_closed, collection_opened, element_added, iri_in, last_nest, no_nest, node_in, node_term, opened, start, with_object, with_predicate, with_subject, with_triple};
-ghost use Rattle.ttl_read.specs.Computing.{Turns, TurnsTo};
+ghost use Rattle.owl_reader.specs.Computing.{Turns, TurnsTo};
 ghost use Rattle.ttl_read.specs.Keeping.{AreKept, AreSame, IsNear, IsNearNode};
 
 use indexmap::IndexSet;

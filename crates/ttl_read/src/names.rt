@@ -8,7 +8,7 @@ ghost use Rattle.owl_characters.specs.Iri.{AllAre, is_iri_character};
 ghost use Rattle.ttl_tokens.specs.TokenForms.{IsFormed};
 ghost use Rattle.ttl_grammar.specs.States as stated;
 ghost use Rattle.ttl_grammar.specs.States.{against, iri_of, known_iri, namespace_in, prefix_in, prefixed_iri, reference_iri, start, with_base, with_namespace, with_prefix};
-ghost use Rattle.ttl_read.specs.Computing.{Computes, TurnsTo};
+ghost use Rattle.owl_reader.specs.Computing.{Computes, TurnsTo};
 ghost use Rattle.ttl_read.specs.NameTables.{AreNames};
 
 use crate::refusals::{of_expanding, of_resolving};

@@ -1,8 +1,9 @@
 //! Turtle as a syntax of readers.
 
 ghost use Rattle.std.specs.Prelude.{◌≡◌, ◌≢◌, List, IfErr, OnOk};
-ghost use Rattle.grammar.specs.Derivations.{Event};
-ghost use Rattle.owl_reader.specs.Steps.{GoesOn, MayFollow, MayTake};
+ghost use Rattle.owl_reader.specs.Events.{BarsByEvents, MadeByEvents, WholeByEvents};
+ghost use Rattle.owl_reader.specs.Following.{GoesOn, MayFollow, MayTake};
+ghost use Rattle.owl_reader.specs.Steps.{Step, events_of, token_in};
 ghost use Rattle.owl_reader.specs.declared.fault.TokenFault as token;
 ghost use Rattle.ttl_tokens.specs.TurtleSpellingLaws.{turtle_is_prompt};
 ghost use Rattle.ttl_tokens.specs.TurtleSpellings.{Spells};
@@ -13,6 +14,7 @@ ghost use Rattle.ttl_grammar.specs.Table.{turtle};
 ghost use Rattle.ttl_read.specs.Showing.{Made, Whole};
 
 use crate::assembler::Assembler;
+use owl_lexer::Placed;
 use owl_reader::{Mark, Syntax, TokenFault};
 use ttl_tokens::Token;
 
@@ -26,9 +28,9 @@ impl Syntax for Assembler {
 
     ghost rules = { turtle_rules };
 
-    ghost Made = { Made };
+    ghost Made = { MadeByEvents Made };
 
-    ghost Whole = { Whole };
+    ghost Whole = { WholeByEvents Whole };
 
     fn document() -> u16 {
         0
@@ -45,20 +47,34 @@ impl Syntax for Assembler {
         }
     }
 
-    fn take(&mut self, acts: &[u8], next: Option<Token>) -> Result<(), TokenFault>
-        requires { MayTake Spells turtle turtle_rules Made self.old acts.now next }
-        ensures takes { OnOk result ((events : List (Event lexeme.Token)) → Made events self.old
-            → MayFollow turtle turtle_rules events acts.now next
-            → GoesOn Made Whole events acts.now next self.new) }
-        ensures free { OnOk result ((events : List (Event lexeme.Token)) → Made events self.old
-            → MayFollow turtle turtle_rules events acts.now next
-            → (fault : token.TokenFault) → Bars events acts.now next fault → ⊥) }
+    fn begins_item(_token: &Token) -> bool {
+        false
+    }
+
+    fn end_begins_item() -> bool {
+        false
+    }
+
+    fn behind_items() -> &'static [u8] {
+        &[]
+    }
+
+    fn take(&mut self, acts: &[u8], next: Option<Placed<Token>>) -> Result<(), TokenFault>
+        requires { MayTake Spells turtle turtle_rules (MadeByEvents Made) self.old acts.now next }
+        ensures takes { OnOk result ((steps : List (Step lexeme.Token))
+            → MadeByEvents Made steps self.old
+            → MayFollow turtle turtle_rules (events_of steps) acts.now (token_in next)
+            → GoesOn (MadeByEvents Made) (WholeByEvents Whole) steps acts.now next self.new) }
+        ensures free { OnOk result ((steps : List (Step lexeme.Token))
+            → MadeByEvents Made steps self.old
+            → MayFollow turtle turtle_rules (events_of steps) acts.now (token_in next)
+            → (fault : token.TokenFault) → BarsByEvents Bars steps acts.now next fault → ⊥) }
         ensures barred { IfErr result (λ fault. fault ≢ token.TokenFault.Memory
-            → (events : List (Event lexeme.Token)) → Made events self.old
-            → MayFollow turtle turtle_rules events acts.now next
-            → Bars events acts.now next fault) }
+            → (steps : List (Step lexeme.Token)) → MadeByEvents Made steps self.old
+            → MayFollow turtle turtle_rules (events_of steps) acts.now (token_in next)
+            → BarsByEvents Bars steps acts.now next fault) }
     {
-        self.take_next(acts, next)
+        self.take_next(acts, next.map(|placed| placed.token))
     }
 
     ghost has_document = { has_document };

@@ -11,8 +11,8 @@ ghost use Rattle.ttl_grammar.specs.States as stated;
 ghost use Rattle.ttl_grammar.specs.States.{form_in, iri_of, iri_term, label_term, literal_term, of_xsd, shorthand_term, tagged_term, typed_term};
 ghost use Rattle.ttl_grammar.specs.declared.node.Node.TheVariants as node;
 ghost use Rattle.ttl_grammar.specs.declared.node.Object.TheVariants as object;
-ghost use Rattle.ttl_grammar.specs.TypedLiterals.{typed_literal};
-ghost use Rattle.ttl_read.specs.Computing.{Computes};
+ghost use Rattle.lexical_values.specs.TypedLiterals.{typed_literal};
+ghost use Rattle.owl_reader.specs.Computing.{Computes};
 ghost use Rattle.ttl_read.specs.NameTables.{AreNames};
 
 use crate::names::Names;

@@ -24,7 +24,7 @@ use Rattle.ttl_grammar.specs.Classes.{class_number, class_of}
 use Rattle.ttl_grammar.specs.declared.class.Class.TheVariants.{AtBase, AtPrefix, Language}
 use Rattle.ttl_grammar.specs.Documents.{AreNamespaces}
 use Rattle.ttl_grammar.specs.States.{Names, Namespace, State, iri_of, iri_term, literal_term, prefixed_iri, reading, typed_term}
-use Rattle.ttl_grammar.proofs.TypedLiteralLaws.{denoted_is_found}
+use Rattle.lexical_values.proofs.TypedLiteralLaws.{denoted_is_found}
 use Rattle.ttl_grammar.specs.declared.node.Nest.{Nest}
 use Rattle.ttl_grammar.specs.declared.node.Node.TheVariants as node
 use Rattle.ttl_grammar.specs.declared.node.NodeTriple.{NodeTriple}

@@ -4,7 +4,7 @@ use Rattle.std.specs.Str.{chars}
 use Rattle.owl_reader.specs.declared.fault.Reason.TheVariants.{BadIri}
 use Rattle.owl_reader.specs.declared.fault.TokenFault.TheVariants.{Defect}
 use Rattle.ttl_grammar.specs.States.{against}
-use Rattle.ttl_read.specs.Computing.{Computes}
+use Rattle.owl_reader.specs.Computing.{Computes}
 use Rattle.ttl_read.proofs.Characters.{all_told, none_told}
 use Rattle.ttl_read.proofs.names.known_iri.Goals as goal
 

@@ -2,8 +2,8 @@ use Rattle.std.proofs.Common.{ℕ, List, codes, refl, subst}
 use Rattle.owl_characters.proofs.AsciiLaws.{ascii_chars}
 use Rattle.rdf_terms.specs.Vocabulary.{xsd}
 use Rattle.ttl_grammar.specs.States.{literal_term}
-use Rattle.ttl_grammar.specs.TypedLiterals.{typed_literal}
-use Rattle.ttl_read.specs.Computing.{Computes}
+use Rattle.lexical_values.specs.TypedLiterals.{typed_literal}
+use Rattle.owl_reader.specs.Computing.{Computes}
 use Rattle.ttl_read.proofs.terms.false_term.Goals as goal
 
 pub returns : goal.returns

@@ -1,7 +1,7 @@
 use Rattle.std.proofs.Common.{Err, ap}
 use Rattle.std.specs.Str.{chars}
 use Rattle.ttl_grammar.specs.States.{literal_term}
-use Rattle.ttl_grammar.proofs.TypedLiteralLaws.{denoted_is_found}
+use Rattle.lexical_values.proofs.TypedLiteralLaws.{denoted_is_found}
 use Rattle.ttl_read.proofs.Literals.{refused}
 use Rattle.ttl_read.proofs.terms.typed.Goals as goal
 

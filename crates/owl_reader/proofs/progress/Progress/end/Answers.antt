@@ -5,7 +5,7 @@ use Rattle.owl_reader.proofs.progress.Progress.end.Goals as goal
 
 pub returns-in-Err-clause-refuses : goal.returns-in-Err-clause-refuses
 returns-in-Err-clause-refuses g c = λ other steps s.
-    refused_end s c.args.at c.in-Err.fault c.refusal_of.result (c.in-Err.ensures.refuses s.open_yet) c.refusal_of.ensures other
+    refused_end s c.args.at c.in_ok-anew.anew (c.in_ok-anew.ensures steps s _ c.end_begins_item-begins.ensures) c.in-Err.fault c.refusal_of.result (c.in-Err.ensures.refuses s.open_yet) c.refusal_of.ensures other
 
 pub take-requires : goal.take-requires
 take-requires g c = may_end c.requires.stands (was_ended c.in_default.ensures.ends c.clear.ensures.items c.deref-2.result.now c.deref-2.ensures.value)
@@ -17,6 +17,6 @@ returns-in-Ok-clause-ends g c = λ steps s.
 
 pub returns-in-Err-take-clause-refuses : goal.returns-in-Err-take-clause-refuses
 returns-in-Err-take-clause-refuses g c = λ other steps s.
-    let start = same_start g.S.Syntax.rules c.args.self.now.last c.args.at c.item_start-start.result c.deref-2.result.now c.deref.result.now c.resumes_item.result c.item_start-start.ensures c.resumes_item.ensures (c.deref.ensures.value ∙ sym c.deref-2.ensures.value) in
+    let start = same_start g.S.Syntax.rules c.args.self.now.last None c.args.at c.item_start-start.result c.deref-2.result.now c.deref.result.now c.end_begins_item-begins.result c.resumes_item.result c.item_start-start.ensures c.end_begins_item-begins.ensures c.resumes_item.ensures (c.deref.ensures.value ∙ sym c.deref-2.ensures.value) in
     let f = was_ended c.in_default.ensures.ends c.clear.ensures.items c.deref-2.result.now c.deref-2.ensures.value in
     stopped s c.args.at None c.deref-2.result.now c.in-Err-take.fault c.at.result (end_follows s f) (λ real. c.in-Err-take.ensures.barred real _ s.made_by (end_follows s f)) (c.at.ensures ∙ ap (λ (n : ℕ). fault_at c.in-Err-take.fault n c.args.at) start) other

@@ -4,9 +4,9 @@ use Rattle.std.proofs.lemmas.List.Sums.{fold_more}
 use Rattle.std.proofs.lemmas.List.{take_all}
 use Rattle.ttl_grammar.specs.Acts.{act_numbered}
 use Rattle.ttl_grammar.specs.Runs.{all_done, done, done_next}
-use Rattle.ttl_read.specs.Computing.{TurnsTo}
+use Rattle.owl_reader.specs.Computing.{TurnsTo}
 use Rattle.ttl_read.specs.Showing.{Shows}
-use Rattle.ttl_read.proofs.Turns.{turned_early}
+use Rattle.owl_reader.proofs.ComputingLaws.{turned_early}
 use Rattle.ttl_read.proofs.assembler.Assembler.do_all.Goals as goal
 
 pub loop-act-preserved : goal.loop-act-preserved

@@ -3,7 +3,7 @@ use Rattle.rdf_terms.specs.Vocabulary.{rdf}
 use Rattle.ttl_grammar.specs.States.{acted, bracket_opened, closed, collection_closed, collection_opened, element_added, with_object, with_predicate, with_subject}
 use Rattle.ttl_grammar.specs.declared.node.Node.TheVariants as node
 use Rattle.ttl_grammar.specs.declared.node.Object.TheVariants as object
-use Rattle.ttl_read.specs.Computing.{TurnsTo}
+use Rattle.owl_reader.specs.Computing.{TurnsTo}
 use Rattle.ttl_read.specs.Showing.{Shows}
 use Rattle.ttl_read.proofs.SameFacts.{bracket_passes, bracket_plain, collection_passes, collection_turn, element_turn, object_turn, predicate_plain, subject_plain}
 use Rattle.ttl_read.proofs.Shown.{cell_turned, exactly_turned, facts_passed, facts_turned}

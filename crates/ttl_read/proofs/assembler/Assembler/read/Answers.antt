@@ -1,5 +1,5 @@
 use Rattle.std.proofs.Common.{subst}
-use Rattle.ttl_read.specs.Computing.{Computes}
+use Rattle.owl_reader.specs.Computing.{Computes}
 use Rattle.ttl_read.proofs.Shown.{term_shown}
 use Rattle.ttl_read.proofs.assembler.Assembler.read.Goals as goal
 

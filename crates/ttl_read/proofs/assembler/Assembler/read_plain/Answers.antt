@@ -1,7 +1,7 @@
 use Rattle.std.proofs.Common.{Ok, subst}
 use Rattle.rdf_terms.specs.Literals.{of_datatype, string}
 use Rattle.ttl_grammar.specs.declared.node.Object.TheVariants as object
-use Rattle.ttl_read.specs.Computing.{Computes}
+use Rattle.owl_reader.specs.Computing.{Computes}
 use Rattle.ttl_read.proofs.assembler.Assembler.read_plain.Goals as goal
 
 pub returns : goal.returns

@@ -1,6 +1,6 @@
 use Rattle.std.proofs.Common.{subst}
 use Rattle.ttl_grammar.specs.Runs.{all_done}
-use Rattle.ttl_read.specs.Computing.{TurnsTo}
+use Rattle.owl_reader.specs.Computing.{TurnsTo}
 use Rattle.ttl_read.specs.Showing.{Shows}
 use Rattle.ttl_read.proofs.Turns.{token_taken}
 use Rattle.ttl_read.proofs.assembler.Assembler.take_next.Goals as goal

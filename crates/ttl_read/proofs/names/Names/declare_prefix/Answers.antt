@@ -1,6 +1,6 @@
 use Rattle.std.proofs.Common.{refl, sym, subst}
 use Rattle.ttl_grammar.specs.States.{iri_of}
-use Rattle.ttl_read.specs.Computing.{Computes}
+use Rattle.owl_reader.specs.Computing.{Computes}
 use Rattle.ttl_read.specs.NameTables.{AreNames}
 use Rattle.ttl_read.proofs.Tables.{prefix_declared}
 use Rattle.ttl_read.proofs.names.Names.declare_prefix.Goals as goal

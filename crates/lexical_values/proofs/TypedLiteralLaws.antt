@@ -11,7 +11,7 @@ use Rattle.owl_characters.specs.Order.{text_eq}
 use Rattle.owl_characters.specs.OrderLaws.{equal, unequal}
 use Rattle.owl_characters.specs.Subtags.{tag_fits}
 use Rattle.rdf_terms.specs.Literals.{DenotesTyped, LiteralParts, PlainForm, PlainParts, lang_string, of_datatype, plain_literal, with_tag}
-use Rattle.ttl_grammar.specs.TypedLiterals.{Halves, halves, or_here, plain_form, typed_literal, with_rest}
+use Rattle.lexical_values.specs.TypedLiterals.{Halves, halves, or_here, plain_form, typed_literal, with_rest}
 
 -- ---- halves
 

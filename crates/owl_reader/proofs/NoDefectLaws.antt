@@ -12,12 +12,13 @@ use Rattle.owl_lexer.specs.declared.placed.Placed.{Placed}
 use Rattle.owl_reader.specs.Defects.{Begin, HasDefect, IsRefused}
 use Rattle.owl_reader.specs.Defects.HasDefect.{at_end, at_token, no_token}
 use Rattle.owl_reader.specs.Defects.IsRefused.{barred, wrong_end, wrong_token}
+use Rattle.owl_reader.specs.Following.{MayFollow}
 use Rattle.owl_reader.proofs.OneDefectLaws.{ComeOneWay, Fronts, fronts, never_taken}
 use Rattle.owl_reader.proofs.OneDefectLaws.Fronts.{alike, later, sooner}
 use Rattle.owl_reader.specs.Readings.{IsRead}
 use Rattle.owl_reader.proofs.SameStepsLaws.{same_acts_next, same_steps}
 use Rattle.owl_reader.specs.Standing.{Ends}
-use Rattle.owl_reader.specs.Steps.{MayFollow, Step, events_of, plain, tokens_in}
+use Rattle.owl_reader.specs.Steps.{Step, events_of, plain, tokens_in}
 use Rattle.owl_reader.specs.Syntaxes.{Rules}
 use Rattle.owl_reader.specs.declared.fault.ReadFault.{ReadFault}
 
@@ -27,15 +28,15 @@ acts_lowered class (a ∷ acts) = ap (λ (l : List (Event ℕ)). Do a ∷ l) (ac
 
 -- ---- a token
 
-token_is_right : {T : Type 0} {g : List Entry} {rules : Rules T} → IsPredictive g → has_rule g rules.document ≡ true → (steps document : List (Step T)) (p : Placed T) (others : List (Placed T)) (r : ReadFault) → Begin g rules document → IsRefused g rules steps p.at (Some p.token) r → Fronts steps (p ∷ others) document [] → ⊥
+token_is_right : {T : Type 0} {g : List Entry} {rules : Rules T} → IsPredictive g → has_rule g rules.document ≡ true → (steps document : List (Step T)) (p : Placed T) (others : List (Placed T)) (r : ReadFault) → Begin g rules document → IsRefused g rules steps p.at (Some p) r → Fronts steps (p ∷ others) document [] → ⊥
 token_is_right predicts known steps document p others r begin refused (alike tokens e) = cc
 token_is_right {T = T} {g = g} {rules = rules} predicts known steps document p others r begin refused (sooner front s back parts tokens first) =
     let same : p ≡ s.token = cc in
     never_taken predicts known steps front s back tokens (subst (Begin g rules) parts begin)
-    (subst (λ (q : Placed T). IsRefused g rules steps q.at (Some q.token) r) same refused)
+    (subst (λ (q : Placed T). IsRefused g rules steps q.at (Some q) r) same refused)
 token_is_right predicts known steps document p others r begin refused (later front s back parts tokens e) = cc
 
-module _ {T S : Type 0} {g : List Entry} {rules : Rules T} {Whole : List (Event T) → S → Type 0} {made : S} (predicts : IsPredictive g) (known : has_rule g rules.document ≡ true) where
+module _ {T S : Type 0} {g : List Entry} {rules : Rules T} {Whole : List (Step T) → List ℕ → S → Type 0} {made : S} (predicts : IsPredictive g) (known : has_rule g rules.document ≡ true) where
   -- ---- the classes of a document
 
   ends_derive : (steps : List (Step T)) (ends : Ends g rules Whole made steps) → Derives g (Rule rules.document ∷ []) (map rules.class (plain steps)) (map (lower rules.class) (events_of steps) ++ map Do ends.acts)
@@ -45,7 +46,7 @@ module _ {T S : Type 0} {g : List Entry} {rules : Rules T} {Whole : List (Event 
       ∙ ap (λ (l : List (Event ℕ)). map (lower rules.class) (events_of steps) ++ l) (acts_lowered rules.class ends.acts))
       (lowered ends.derives)
 
-  ends_follow : (steps : List (Step T)) (ends : Ends g rules Whole made steps) → MayFollow g rules (events_of steps) ends.acts None
+  pub ends_follow : (steps : List (Step T)) (ends : Ends g rules Whole made steps) → MayFollow g rules (events_of steps) ends.acts None
   ends_follow steps ends = record {
     classes = map rules.class (plain steps);
     rest = [];
@@ -55,7 +56,7 @@ module _ {T S : Type 0} {g : List Entry} {rules : Rules T} {Whole : List (Event 
     comes = refl;
   }
 
-  read_begins : {spells : T → List ℕ → Type 0} {bytes : List ℕ} (d : IsRead spells g rules Whole bytes made) → Begin g rules d.steps
+  pub read_begins : {spells : T → List ℕ → Type 0} {bytes : List ℕ} (d : IsRead spells g rules Whole bytes made) → Begin g rules d.steps
   read_begins d = record {
     more = [];
     rest = map Do d.ends.acts;
@@ -68,12 +69,12 @@ module _ {T S : Type 0} {g : List Entry} {rules : Rules T} {Whole : List (Event 
   -- ---- the end
 
   end_is_right : (steps : List (Step T)) (at : ℕ) (r : ReadFault) → Ends g rules Whole made steps → IsRefused g rules steps at None r → ⊥
-  end_is_right steps at r ends (wrong_token x e never is) = cc
-  end_is_right steps at r ends (wrong_end e never is) =
+  end_is_right steps at r ends (wrong_token p begins e never b is) = cc
+  end_is_right steps at r ends (wrong_end begins e never b is) =
       never (map (lower rules.class) (events_of steps) ++ map Do ends.acts) (ends_derive steps ends)
   end_is_right steps at r ends (barred acts f some may bars is) =
       let same = same_acts_next predicts known steps None may (ends_follow steps ends) in
-      ends.free f (subst (λ (l : List ℕ). rules.Bars (events_of steps) l None f) same bars)
+      ends.free f (subst (λ (l : List ℕ). rules.Bars steps l None f) same bars)
 
   -- ---- the law
 

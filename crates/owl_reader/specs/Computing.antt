@@ -1,4 +1,4 @@
--- What calls answer, beside that memory runs out.
+-- What calls of a syntax answer, beside that memory runs out.
 use Rattle.std.specs.Prelude.{◌≡◌, ◌≢◌, Result, Ok, Err}
 use Rattle.owl_reader.specs.declared.fault.TokenFault.{TokenFault}
 use Rattle.owl_reader.specs.declared.fault.TokenFault.TheVariants.{Memory}

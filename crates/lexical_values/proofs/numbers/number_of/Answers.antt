@@ -1,5 +1,5 @@
-use Rattle.fss_acts.proofs.Numbers.{number_large, number_value}
-use Rattle.fss_acts.proofs.tokens.value.Goals as goal
+use Rattle.lexical_values.proofs.Digits.{number_large, number_value}
+use Rattle.lexical_values.proofs.numbers.number_of.Goals as goal
 
 pub returns-in-Ok : goal.returns-in-Ok
 returns-in-Ok c =

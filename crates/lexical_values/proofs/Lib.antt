@@ -1,0 +1,2 @@
+pub mod TypedLiteralLaws
+mod Digits

@@ -1,0 +1,6 @@
+-- A form alone denotes a string.
+use Rattle.std.proofs.Common.{Err, ap, refl}
+use Rattle.lexical_values.proofs.literals.plain_literal.Goals as goal
+
+pub unreachable-requires : goal.unreachable-requires
+unreachable-requires c = c.in-Err-BadLiteral.ensures.bad.0 (ap Err c.in-Err-BadLiteral.field-0-is) _ refl
