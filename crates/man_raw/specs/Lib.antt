@@ -1,0 +1,4 @@
+pub mod Raws
+pub mod Documents
+pub mod Opened
+pub mod Listed
