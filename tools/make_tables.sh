@@ -28,6 +28,8 @@ make_grammar() {
 
 make_grammar crates/grammar_tests/items.grammar grammar_tests items ItemsTable items_table
 make_grammar tools/turtle.grammar ttl_grammar turtle Table table
+make_grammar tools/manchester.grammar man_grammar manchester Table table
+python3 tools/make_page.py ${check:+"$check"} tools/manchester.grammar crates/man_grammar
 
 # The grammar of Functional-Style Syntax follows from the rows of tags.
 functional=$(mktemp)

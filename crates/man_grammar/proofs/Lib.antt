@@ -1,0 +1,5 @@
+mod Words
+mod PageTable
+pub mod PageLaws
+pub mod RunLaws
+pub mod DocumentLaws

@@ -1,0 +1,10 @@
+pub mod ClassNumbers
+pub mod Classes
+pub mod Acts
+pub mod Page
+pub mod Table
+pub mod States
+pub mod Runs
+pub mod Rules
+pub mod Documents
+pub mod StartLaws
