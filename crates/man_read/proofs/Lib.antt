@@ -1,0 +1,5 @@
+mod NameLaws
+mod FormLaws
+mod ShowingLaws
+mod Taking
+mod Finished

@@ -1,0 +1,23 @@
+use Rattle.std.proofs.Common.{subst, sym}
+use Rattle.std.proofs.lemmas.Result.{IfErr-weaker, on_ok_weaker}
+use Rattle.owl_reader.proofs.AlikeLaws.{early_alike, read_alike, refuses_alike}
+use Rattle.owl_reader.proofs.FedLaws.{fed}
+use Rattle.owl_reader.specs.Readings.{Reading}
+use Rattle.man_grammar.proofs.PageLaws.{page_to_table, table_to_page}
+use Rattle.man_read.specs.Reading.{HasRead}
+use Rattle.man_read.proofs.reader.Reader.feed.Goals as goal
+
+pub returns-clause-reads : goal.returns-clause-reads
+returns-clause-reads c = λ bytes h.
+    read_alike table_to_page
+    (fed c.feed.result _ _ _ bytes c.feed.ensures.reads c.feed.ensures.refuses c.feed.ensures.keeps
+    (read_alike page_to_table (subst (λ (r : Reading _). HasRead r bytes) (sym c.self.view_is) h)))
+
+pub returns-clause-refuses : goal.returns-clause-refuses
+returns-clause-refuses c = IfErr-weaker c.feed.result _ _
+    (λ e refuses other bytes h. refuses_alike _ table_to_page
+    (refuses other bytes (read_alike page_to_table (subst (λ (r : Reading _). HasRead r bytes) (sym c.self.view_is) h))))
+    c.feed.ensures.refuses
+
+pub returns-clause-early : goal.returns-clause-early
+returns-clause-early c = on_ok_weaker c.feed.result (early_alike table_to_page) c.feed.ensures.early
