@@ -1,0 +1,9 @@
+pub mod Faults
+pub mod Places
+pub mod Expressions
+pub mod Items
+pub mod Resolved
+pub mod Building
+pub mod Making
+pub mod Limits
+pub mod Fitting
