@@ -10,11 +10,11 @@ use Rattle.owl_command.specs.declared.command.Action.TheVariants.{Translate, Che
 use Rattle.owl_command.specs.declared.command.Profile.{Profile}
 use Rattle.owl_command.specs.declared.command.Target.{Target as Syntax}
 use Rattle.owl_command.specs.declared.command.Target.TheVariants.{Fss, Ttl}
-use Rattle.owl_documents.specs.Documents.{IsSame, Parsed, Said, a_graph, an_ontology}
+use Rattle.owl_documents.specs.Documents.{IsSame, Parsed, Said, a_graph, an_ontology, the_frames}
 use Rattle.owl_documents.specs.OneWay.{IsSameParsed}
 use Rattle.owl_kind.specs.Kinds.{Entity}
 use Rattle.owl_tree.proofs.OntologyLaws.{same_ontology_sym, same_ontology_trans}
-use Rattle.rdf_reverse.specs.declared.fault.ReverseFault.{ReverseFault}
+use Rattle.owl_messages.specs.declared.unsaid.UnsaidFault.{UnsaidFault}
 use Rattle.owl_answer.specs.Checks.{IsChecked}
 use Rattle.owl_answer.specs.KindsAt.{AreClosureKinds}
 use Rattle.owl_answer.specs.Outcome.{IsComparison, agree, differ, heads_in}
@@ -25,7 +25,8 @@ use Rattle.owl_answer.proofs.Closures.{closure_once, own_once}
 use Rattle.owl_answer.proofs.Same.{never_says_both, parsed_back, parsed_refl, says_once, says_same, unsaid_once, unsaid_same}
 use Rattle.owl_answer.proofs.TurtleOnce.{functional_once, functional_same, shown_same, translation_alike, translation_once, translation_same}
 use Rattle.owl_answer.proofs.Wanting.{limited_more, limited_once}
-use Rattle.owl_messages.specs.Outcome.{Outcome, missing_import, shown, translation, unsaid_outcome}
+use Rattle.owl_messages.specs.Outcome.{Outcome, missing_import, shown, translation}
+use Rattle.owl_messages.specs.Unsaid.{unsaid_outcome}
 
 -- a document that is read as the same stands at this place, and is read under these kinds
 pub record IsReadAlike (request : Request) (others : List Parsed) (place : ℕ) (parsed : Parsed) (kinds : List Entity) : Type 0 where
@@ -45,7 +46,12 @@ told_same : (target : Syntax) (p q : Parsed) (kinds : List Entity) (a b : Said) 
 told_same Fss (an_ontology x) (an_ontology y) kinds a b outcome s t h = limited_more _ _ (λ o k. k ∙ translation_same a b t) outcome h
 told_same Fss (an_ontology x) (a_graph y) kinds a b outcome s t h = absurd s
 told_same Fss (a_graph x) (an_ontology y) kinds a b outcome s t h = absurd s
+told_same Fss (an_ontology x) (the_frames y) kinds a b outcome s t h = absurd s
+told_same Fss (a_graph x) (the_frames y) kinds a b outcome s t h = absurd s
+told_same Fss (the_frames x) (an_ontology y) kinds a b outcome s t h = absurd s
+told_same Fss (the_frames x) (a_graph y) kinds a b outcome s t h = absurd s
 told_same Fss (a_graph x) (a_graph y) kinds a b outcome s t h = functional_same kinds a b outcome t h
+told_same Fss (the_frames x) (the_frames y) kinds a b outcome s t h = functional_same kinds a b outcome t h
 told_same Ttl p q kinds a b outcome s t h = translation_alike kinds kinds a b outcome (λ kind iri. (λ k. k, λ k. k)) t h
 
 comparison_same : (a b c d : Said) → IsSame a c → IsSame b d → (outcome : Outcome) → IsComparison a b outcome → IsComparison c d outcome
@@ -64,6 +70,7 @@ translation_told_once : (target : Syntax) (p : Parsed) (kinds : List Entity) (ma
 translation_told_once Fss (an_ontology x) kinds main a b h k =
     limited_once (λ o. o ≡ translation main) (λ o. o ≡ translation main) (λ x y p q. p ∙ sym q) a b h k
 translation_told_once Fss (a_graph x) kinds main a b h k = functional_once kinds main a b h k
+translation_told_once Fss (the_frames x) kinds main a b h k = functional_once kinds main a b h k
 translation_told_once Ttl p kinds main a b h k = translation_once kinds main a b h k
 
 -- what becomes of the same by an action is the same, and one
@@ -83,7 +90,7 @@ acted_once documents Show p kinds main a b h k =
 -- what is concluded of some documents is concluded of others that agree
 
 module _ (request : Request) (ds es : List Parsed) (there : Agree request ds es) where
-  unsaid_there : (place : ℕ) (fault : ReverseFault) → IsUnsaidAt request ds place fault → IsUnsaidAt request es place fault
+  unsaid_there : (place : ℕ) (fault : UnsaidFault) → IsUnsaidAt request ds place fault → IsUnsaidAt request es place fault
   unsaid_there place fault u =
       let alike = there.read place u.parsed u.kinds u.read in
       record { parsed = alike.other; kinds = u.kinds; read = alike.read; unsaid = unsaid_same u.kinds u.parsed alike.other alike.same fault u.unsaid }
@@ -145,7 +152,7 @@ answers_there (compares first second) ds es there back outcome h =
     two_there (compares first second) ds es there _ (λ a b c d s t w. limited_more _ _ (λ o k. comparison_same a b c d s t o k) outcome w) h
 
 module _ (request : Request) (ds es : List Parsed) (there : Agree request ds es) (back : Agree request es ds) where
-  first_there : (place : ℕ) (fault : ReverseFault) → IsFirstUnsaid request ds place fault → IsFirstUnsaid request es place fault
+  first_there : (place : ℕ) (fault : UnsaidFault) → IsFirstUnsaid request ds place fault → IsFirstUnsaid request es place fault
   first_there place fault h = record {
     unsaid = unsaid_there request ds es there place fault h.unsaid;
     first = λ other theirs u. h.first other theirs (unsaid_there request es ds back other theirs u);
@@ -192,24 +199,24 @@ module _ (request : Request) (documents : List Parsed) where
       let one = read_once place h.parsed k.parsed h.kinds k.kinds h.read k.read in
       says_once k.kinds k.parsed a b (subst (λ (p : Parsed). SaysUnder k.kinds p a) one.parsed (subst (λ (l : List Entity). SaysUnder l h.parsed a) one.kinds h.says)) k.says
 
-  pub says_or_not : (place : ℕ) (a : Said) (fault : ReverseFault) → SaysAt request documents place a → IsUnsaidAt request documents place fault → ⊥
+  pub says_or_not : (place : ℕ) (a : Said) (fault : UnsaidFault) → SaysAt request documents place a → IsUnsaidAt request documents place fault → ⊥
   says_or_not place a fault h u =
       let one = read_once place h.parsed u.parsed h.kinds u.kinds h.read u.read in
       never_says_both u.kinds u.parsed a fault (subst (λ (p : Parsed). SaysUnder u.kinds p a) one.parsed (subst (λ (l : List Entity). SaysUnder l h.parsed a) one.kinds h.says)) u.unsaid
 
-  fault_at_once : (place other : ℕ) (e f : ReverseFault) → place ≡ other → IsUnsaidAt request documents place e → IsUnsaidAt request documents other f → e ≡ f
+  fault_at_once : (place other : ℕ) (e f : UnsaidFault) → place ≡ other → IsUnsaidAt request documents place e → IsUnsaidAt request documents other f → e ≡ f
   fault_at_once place other e f same here there =
       let h = subst (λ (p : ℕ). IsUnsaidAt request documents p e) same here in
       let one = read_once other h.parsed there.parsed h.kinds there.kinds h.read there.read in
       unsaid_once there.kinds there.parsed e f (subst (λ (p : Parsed). IsUnsaidUnder there.kinds p e) one.parsed (subst (λ (l : List Entity). IsUnsaidUnder l h.parsed e) one.kinds h.unsaid)) there.unsaid
 
-  first_once : (place other : ℕ) (e f : ReverseFault) → IsFirstUnsaid request documents place e → IsFirstUnsaid request documents other f → place ≡ other
+  first_once : (place other : ℕ) (e f : UnsaidFault) → IsFirstUnsaid request documents place e → IsFirstUnsaid request documents other f → place ≡ other
   first_once place other e f h k =
       let lower = h.first other f k.unsaid in
       let upper = k.first place e h.unsaid in
       omega arith
 
-  all_or_not : AllSay request documents → (place : ℕ) (fault : ReverseFault) → IsUnsaidAt request documents place fault → ⊥
+  all_or_not : AllSay request documents → (place : ℕ) (fault : UnsaidFault) → IsUnsaidAt request documents place fault → ⊥
   all_or_not all place fault u =
       let said = all place u.parsed u.kinds u.read in
       never_says_both u.kinds u.parsed said.0 fault said.1 u.unsaid

@@ -28,6 +28,7 @@ use Rattle.owl_answer.specs.UnderKinds.{AllSay, SaysAt, SaysUnder}
 use Rattle.owl_answer.proofs.Checks.{form_at, forms_canonical}
 use Rattle.owl_answer.proofs.Closures.{closure_once}
 use Rattle.owl_answer.proofs.Lines.{refused_fails, unsaid_fails}
+use Rattle.owl_answer.proofs.Same.{is_proper}
 
 -- what a profile asks besides OWL 2 DL is kept exactly where none of its rules is broken
 further_kept : (o : Option Further) (closure : Ontologies) → KeepsFurther o closure ↔ AreThose (BreaksSo closure) (sites (further_rules o) closure.all) []
@@ -67,7 +68,7 @@ module _ (contents : Contents) (profile : Profile) (partial : Bool) (names : Lis
   yes_within outcome (all_read documents read (misses_import asked place iri name m at e)) done =
       absurd (subst (λ (o : Outcome). IsSuccess o.status) e (done_succeeds outcome.status done))
   yes_within outcome (all_read documents read (says_nothing imports place fault name u at e)) done =
-      absurd (unsaid_fails name fault (subst (λ (o : Outcome). IsSuccess o.status) e (done_succeeds outcome.status done)))
+      absurd (unsaid_fails name fault (is_proper u.unsaid.kinds u.unsaid.parsed fault u.unsaid.unsaid) (subst (λ (o : Outcome). IsSuccess o.status) e (done_succeeds outcome.status done)))
   yes_within outcome (all_read documents read (all_say imports all w)) done =
       let none = checked_done profile documents outcome w.holds done in
       record {

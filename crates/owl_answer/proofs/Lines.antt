@@ -10,7 +10,7 @@ use Rattle.owl_kind.specs.Kinds.{Entity}
 use Rattle.owl_command.specs.declared.command.Target.{Target}
 use Rattle.owl_command.specs.declared.command.Target.TheVariants.{Fss, Ttl}
 use Rattle.owl_command.specs.declared.status.Status.TheVariants.{Done}
-use Rattle.owl_documents.specs.Documents.{Parsed, Said, a_graph, an_ontology, IsProperRefusal}
+use Rattle.owl_documents.specs.Documents.{Parsed, Said, a_graph, an_ontology, the_frames, IsProperRefusal}
 use Rattle.owl_documents.specs.declared.trouble.Refusal.{Refusal}
 use Rattle.owl_documents.specs.declared.trouble.Refusal.TheVariants.{DocumentBytes, AllBytes, Unreadable, Headless}
 use Rattle.owl_profiles.specs.Profiles.{ProfileRule}
@@ -18,15 +18,16 @@ use Rattle.owl_answer.specs.Outcome.{IsComparison, IsSuccess, agree, differ}
 use Rattle.owl_answer.specs.Checks.{IsChecked}
 use Rattle.owl_messages.specs.Refusals.{two_kinds, undeclared, unsayable}
 use Rattle.owl_messages.specs.Verdicts.{verdict}
-use Rattle.owl_answer.specs.Runs.{AnswersWith, AsksTranslation, AsksTurtle, Concludes, IsActionOutcome, IsIllTyped, IsTranslation, IsTurtleRefusal, LineFor, SuccessLine, all_say, misses_import, of_bytes, of_graph, of_import, of_output, of_refusal, of_success, of_triples, of_turtle, of_two_kinds, of_typing, of_undeclared, of_unsayable, of_weight, says_nothing}
+use Rattle.owl_answer.specs.Runs.{AnswersWith, AsksTranslation, AsksTurtle, Concludes, IsActionOutcome, IsIllTyped, IsTranslation, IsTurtleRefusal, LineFor, SuccessLine, all_say, misses_import, of_bytes, of_import, of_output, of_refusal, of_saying, of_success, of_triples, of_turtle, of_two_kinds, of_typing, of_undeclared, of_unsayable, of_weight, says_nothing}
 use Rattle.owl_answer.specs.TurtleOutcome.{IsFormTold, IsGraphTold, IsTold as IsOfTurtle, IsTypingRefusal, canonical_said, clashes, few, graph_translation, heavy, ill_typed, light, many, not_typed, ready, unsaid, untyped, well_typed}
 use Rattle.owl_answer.specs.Answers.{IsProper}
 use Rattle.owl_tree.specs.Ontologies.{Ontology}
-use Rattle.rdf_reverse.specs.declared.fault.ReverseFault.{ReverseFault}
-use Rattle.rdf_reverse.specs.declared.fault.ReverseFault.TheVariants as reverse
+use Rattle.owl_messages.specs.declared.unsaid.UnsaidFault.{UnsaidFault}
 use Rattle.rdf_scans.specs.declared.fault.OutlineFault.TheVariants as outline
-use Rattle.owl_answer.proofs.Same.{never_memory}
-use Rattle.owl_messages.specs.Outcome.{IsLimited, Outcome, agreement, difference, done_line, fits, missing_import, passes, refusal_outcome, shown, too_heavy_output, too_long_output, too_many_triples, translation, unsaid_outcome}
+use Rattle.owl_answer.proofs.Same.{is_proper}
+use Rattle.owl_messages.proofs.UnsaidLaws.{IsRefusal, unsaid_is_refused}
+use Rattle.owl_messages.specs.Unsaid.{IsProperFault, unsaid_outcome}
+use Rattle.owl_messages.specs.Outcome.{IsLimited, Outcome, agreement, difference, done_line, fits, missing_import, passes, refusal_outcome, shown, too_heavy_output, too_long_output, too_many_triples, translation}
 
 pub at_among : (names : List (List ℕ)) (place : ℕ) (name : List ℕ) → slice_get names place ≡ Some name → IsAmong names name
 at_among [] place name e = absurd (cc)
@@ -98,6 +99,8 @@ module _ (partial : Bool) (names : List (List ℕ)) where
   translation_told Fss (an_ontology said) kinds main outcome w = written_told main outcome w
   translation_told Fss (a_graph read) kinds main outcome (ill_typed h) = typing_told (of_main (Translate Fss) partial names) tt kinds main.ontology outcome h
   translation_told Fss (a_graph read) kinds main outcome (well_typed t w) = written_told main outcome w
+  translation_told Fss (the_frames read) kinds main outcome (ill_typed h) = typing_told (of_main (Translate Fss) partial names) tt kinds main.ontology outcome h
+  translation_told Fss (the_frames read) kinds main outcome (well_typed t w) = written_told main outcome w
   translation_told Ttl parsed kinds main outcome w = turtle_told kinds (canonical_said main) outcome w
 
 -- the text and the line of a success
@@ -136,36 +139,22 @@ missing_told request name iri among = record {
   line = λ IsCause. of_refusal name among (of_import iri refl refl);
 }
 
--- a graph that says nothing
-unsaid_proper : (name : List ℕ) (fault : ReverseFault) → fault ≢ reverse.Memory → IsProper (unsaid_outcome name fault)
-unsaid_proper name (reverse.TwoKinds iri) n = record { found = tt; no_text = refl }
-unsaid_proper name reverse.NoHeader n = record { found = tt; no_text = refl }
-unsaid_proper name reverse.TwoHeaders n = record { found = tt; no_text = refl }
-unsaid_proper name (reverse.BadHeader node) n = record { found = tt; no_text = refl }
-unsaid_proper name (reverse.Mixed label) n = record { found = tt; no_text = refl }
-unsaid_proper name (reverse.BadList label) n = record { found = tt; no_text = refl }
-unsaid_proper name (reverse.Cycle label) n = record { found = tt; no_text = refl }
-unsaid_proper name (reverse.BadNode label) n = record { found = tt; no_text = refl }
-unsaid_proper name (reverse.MainMissing label) n = record { found = tt; no_text = refl }
-unsaid_proper name (reverse.Reserved triple) n = record { found = tt; no_text = refl }
-unsaid_proper name (reverse.Orphan label) n = record { found = tt; no_text = refl }
-unsaid_proper name (reverse.Untyped triple) n = record { found = tt; no_text = refl }
-unsaid_proper name reverse.NumberTooLarge n = record { found = tt; no_text = refl }
-unsaid_proper name reverse.TooDeep n = record { found = tt; no_text = refl }
-unsaid_proper name reverse.TooHeavy n = record { found = tt; no_text = refl }
-unsaid_proper name reverse.Memory n = absurd (n refl)
+-- a document that says nothing
+refusal_proper : (o : Outcome) → IsRefusal o → IsProper o
+refusal_proper o (inl e) = subst IsProper (sym e) (record { found = tt; no_text = refl })
+refusal_proper o (inr e) = subst IsProper (sym e) (record { found = tt; no_text = refl })
 
-unsaid_told : (request : Request) (name : List ℕ) (fault : ReverseFault) → IsAmong (names_of request) name → fault ≢ reverse.Memory → IsTold request (unsaid_outcome name fault)
+unsaid_told : (request : Request) (name : List ℕ) (fault : UnsaidFault) → IsAmong (names_of request) name → IsProperFault fault → IsTold request (unsaid_outcome name fault)
 unsaid_told request name fault among n = record {
-  proper = unsaid_proper name fault n;
-  line = λ IsCause. of_refusal name among (of_graph fault n refl refl);
+  proper = refusal_proper (unsaid_outcome name fault) (unsaid_is_refused name fault n);
+  line = λ IsCause. of_refusal name among (of_saying fault n refl refl);
 }
 
 pub concluded_told : (request : Request) (documents : List Parsed) (outcome : Outcome) → Concludes request documents outcome → IsTold request outcome
 concluded_told request documents outcome (misses_import asked place iri name m at e) =
     subst (IsTold request) (sym e) (missing_told request name iri (at_among (names_of request) place name at))
 concluded_told request documents outcome (says_nothing h place fault name u at e) =
-    subst (IsTold request) (sym e) (unsaid_told request name fault (at_among (names_of request) place name at) (never_memory u.unsaid.kinds u.unsaid.parsed fault u.unsaid.unsaid))
+    subst (IsTold request) (sym e) (unsaid_told request name fault (at_among (names_of request) place name at) (is_proper u.unsaid.kinds u.unsaid.parsed fault u.unsaid.unsaid))
 concluded_told request documents outcome (all_say h all w) = answers_told request documents outcome w
 
 -- a refusal is told as one
@@ -205,20 +194,9 @@ refused_fails name (Headless outline.TwoHeaders) h = h
 refused_fails name (Headless (outline.BadHeader node)) h = h
 refused_fails name (Headless outline.Memory) h = h
 
-pub unsaid_fails : (name : List ℕ) (fault : ReverseFault) → IsSuccess (unsaid_outcome name fault).status → ⊥
-unsaid_fails name (reverse.TwoKinds iri) h = h
-unsaid_fails name reverse.NoHeader h = h
-unsaid_fails name reverse.TwoHeaders h = h
-unsaid_fails name (reverse.BadHeader node) h = h
-unsaid_fails name (reverse.Mixed label) h = h
-unsaid_fails name (reverse.BadList label) h = h
-unsaid_fails name (reverse.Cycle label) h = h
-unsaid_fails name (reverse.BadNode label) h = h
-unsaid_fails name (reverse.MainMissing label) h = h
-unsaid_fails name (reverse.Reserved triple) h = h
-unsaid_fails name (reverse.Orphan label) h = h
-unsaid_fails name (reverse.Untyped triple) h = h
-unsaid_fails name reverse.NumberTooLarge h = h
-unsaid_fails name reverse.TooDeep h = h
-unsaid_fails name reverse.TooHeavy h = h
-unsaid_fails name reverse.Memory h = h
+refusal_fails : (o : Outcome) → IsRefusal o → IsSuccess o.status → ⊥
+refusal_fails o (inl e) h = subst (λ (x : Outcome). IsSuccess x.status) e h
+refusal_fails o (inr e) h = subst (λ (x : Outcome). IsSuccess x.status) e h
+
+pub unsaid_fails : (name : List ℕ) (fault : UnsaidFault) → IsProperFault fault → IsSuccess (unsaid_outcome name fault).status → ⊥
+unsaid_fails name fault n h = refusal_fails (unsaid_outcome name fault) (unsaid_is_refused name fault n) h

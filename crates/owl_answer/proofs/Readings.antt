@@ -1,5 +1,5 @@
 -- What is read of the documents at places, one behind the other.
-use Rattle.std.proofs.Common.{Result, Ok, Err, IfErr, ◌≡◌, ◌≢◌, ◌<◌, ◌≤◌, ◌+◌, ◌⊎◌, inl, inr, ℕ, zero, suc, Some, List, [], ◌∷◌, ◌++◌, Contains, drop, get_or, length, map, slice_get, refl, sym, ap, ◌∙◌, subst, arith}
+use Rattle.std.proofs.Common.{Result, Ok, Err, IfErr, IsErrAnd, ◌≡◌, ◌≢◌, ◌<◌, ◌≤◌, ◌+◌, ◌⊎◌, inl, inr, ℕ, zero, suc, Some, List, [], ◌∷◌, ◌++◌, Contains, drop, get_or, length, map, slice_get, refl, sym, ap, ◌∙◌, subst, arith}
 use Rattle.std.proofs.lemmas.Bool.{cases_order}
 use Rattle.std.proofs.lemmas.Cmp.{ranked}
 use Rattle.std.proofs.lemmas.List.{append-nil, append_assoc, length-map}
@@ -13,21 +13,27 @@ use Rattle.owl_close.proofs.ReachingLaws.{reached_within}
 use Rattle.owl_close.specs.Imports.{AreReached, main}
 use Rattle.owl_doc.specs.Documents as doc
 use Rattle.owl_doc.specs.Documents.{ontology_of}
-use Rattle.owl_documents.specs.Documents.{Parsed, parsed_of, said_of}
+use Rattle.owl_documents.specs.Documents.{GraphRead, Parsed, a_graph, parsed_of, said_of, the_frames}
 use Rattle.owl_documents.specs.declared.document.Document.{Document}
 use Rattle.owl_kind.specs.Kinds.{Entity}
 use Rattle.owl_list.specs.Ascending.{IsAscending}
 use Rattle.owl_list.proofs.AscendingLaws.{all_from, all_in, all_pushed, head_below, in_cases, in_head, in_none, tail_ascends}
 use Rattle.owl_tree.specs.Ontologies.{Head}
-use Rattle.rdf_graph.specs.declared.triple.Triple.{Triple}
-use Rattle.rdf_reverse.specs.Reverse.{IsReverseFault, IsUnsaid}
+use Rattle.man_raw.specs.Documents.{DocumentTree}
+use Rattle.man_resolve.specs.Resolved.{IsResolveFault}
+use Rattle.man_resolve.specs.declared.fault.ResolveFault.{ResolveFault}
+use Rattle.man_resolve.specs.declared.fault.ResolveFault.TheVariants as resolve
+use Rattle.owl_messages.specs.Unsaid.{of_frames, of_graph}
+use Rattle.rdf_reverse.specs.Reverse.{IsReverseFault}
 use Rattle.rdf_reverse.specs.declared.fault.ReverseFault.{ReverseFault}
-use Rattle.rdf_reverse.specs.declared.fault.ReverseFault.TheVariants.{Memory}
+use Rattle.rdf_reverse.specs.declared.fault.ReverseFault.TheVariants as reverse
+use Rattle.owl_messages.specs.declared.unsaid.UnsaidFault.{UnsaidFault}
+use Rattle.owl_messages.specs.declared.unsaid.UnsaidFault.TheVariants.{Memory}
 use Rattle.owl_answer.specs.KindsAt.{IsClosure}
 use Rattle.owl_answer.specs.Checks.{HasFormAt}
 use Rattle.owl_answer.specs.Outcome.{heads_in}
 use Rattle.owl_answer.specs.Reading.{AllSayAt, IsFaultAt, IsFirstFault, IsSaidAt, SaysNext, SaysSomeAt}
-use Rattle.owl_answer.specs.UnderKinds.{SaysUnder}
+use Rattle.owl_answer.specs.UnderKinds.{IsUnsaidUnder, SaysUnder}
 use Rattle.owl_answer.specs.declared.closure.Closure.{Closure}
 
 pub less_is : (x y : ℕ) → nat_cmp x y ≡ Less → x < y
@@ -54,11 +60,40 @@ within_names docs count place parsed there each =
     let same = length-map docs parsed_of in
     omega arith
 
--- a fault is the graph's, unless memory ran out
-pub unless_memory : {T : Type 0} (g : List Triple) (k : List Entity) (r : Result T ReverseFault) → IfErr r (IsReverseFault g k) → IfErr r (λ fault. fault ≢ Memory → IsUnsaid g k fault)
-unless_memory g k (Ok x) h = tt
-unless_memory g k (Err fault) (inl e) = λ n. absurd (n e)
-unless_memory g k (Err fault) (inr u) = λ n. u
+-- a fault is the graph's or the frames', unless memory ran out
+-- a fault that is given on as another
+pub by_from : {T E : Type 0} (r : Result T E) (given : E) (P : E → Type 0) → IsErrAnd r (λ e. e ≡ given) → P given → IfErr r P
+by_from (Ok x) given P e h = tt
+by_from (Err other) given P e h = subst P (sym e) h
+
+pub unsaid_graph : (g : GraphRead) (k : List Entity) (fault : ReverseFault) → IsReverseFault g.triples k fault → of_graph fault ≢ Memory → IsUnsaidUnder k (a_graph g) (of_graph fault)
+unsaid_graph g k reverse.Memory h n = absurd (n refl)
+unsaid_graph g k fault (inl e) n = absurd (n (ap of_graph e))
+unsaid_graph g k (reverse.TwoKinds iri) (inr u) n = u
+unsaid_graph g k reverse.NoHeader (inr u) n = u
+unsaid_graph g k reverse.TwoHeaders (inr u) n = u
+unsaid_graph g k (reverse.BadHeader node) (inr u) n = u
+unsaid_graph g k (reverse.Mixed label) (inr u) n = u
+unsaid_graph g k (reverse.BadList label) (inr u) n = u
+unsaid_graph g k (reverse.Cycle label) (inr u) n = u
+unsaid_graph g k (reverse.BadNode label) (inr u) n = u
+unsaid_graph g k (reverse.MainMissing label) (inr u) n = u
+unsaid_graph g k (reverse.Reserved triple) (inr u) n = u
+unsaid_graph g k (reverse.Orphan label) (inr u) n = u
+unsaid_graph g k (reverse.Untyped triple) (inr u) n = u
+unsaid_graph g k reverse.NumberTooLarge (inr u) n = u
+unsaid_graph g k reverse.TooDeep (inr u) n = u
+unsaid_graph g k reverse.TooHeavy (inr u) n = u
+
+pub unsaid_frames : (d : DocumentTree) (k : List Entity) (fault : ResolveFault) → IsResolveFault d k fault → of_frames fault ≢ Memory → IsUnsaidUnder k (the_frames d) (of_frames fault)
+unsaid_frames d k resolve.Memory h n = absurd (n refl)
+unsaid_frames d k fault (inl e) n = absurd (n (ap of_frames e))
+unsaid_frames d k (resolve.TwoKinds iri) (inr u) n = u
+unsaid_frames d k (resolve.Untyped iri at) (inr u) n = u
+unsaid_frames d k (resolve.WrongKind iri at) (inr u) n = u
+unsaid_frames d k (resolve.WrongForm at) (inr u) n = u
+unsaid_frames d k resolve.TooDeep (inr u) n = u
+unsaid_frames d k resolve.TooHeavy (inr u) n = u
 
 -- the first of what is left, and what is left behind it
 left_by : {X : Type 0} (xs : List X) (place : ℕ) (x : X) (rest : List X) → drop place xs ≡ x ∷ rest → (slice_get xs place ≡ Some x) × (drop (suc place) xs ≡ rest)
@@ -194,7 +229,7 @@ module _ (documents : List Parsed) (kinds : List Entity) where
         say = h.say;
       }
 
-      pub fault_found : Contains places place → (fault : ReverseFault) → IsFaultAt documents kinds place fault → IsFirstFault documents kinds places (record { document = place; fault = fault })
+      pub fault_found : Contains places place → (fault : UnsaidFault) → IsFaultAt documents kinds place fault → IsFirstFault documents kinds places (record { document = place; fault = fault })
       fault_found m fault f =
           let next = comes_next m in
           record { before = h.before; after = next.rest; split = h.split ∙ ap (λ (ps : List ℕ). h.before ++ ps) next.is; say = all_some h.before ds h.say; fault = f }

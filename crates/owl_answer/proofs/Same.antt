@@ -1,10 +1,10 @@
 -- Documents that are read as the same have the same head, declare the same, and say the same.
-use Rattle.std.proofs.Common.{◌≡◌, ◌≢◌, ℕ, Option, List, [], ◌∷◌, inl, inr, refl, sym, ◌∙◌, subst}
+use Rattle.std.proofs.Common.{◌≡◌, ◌≢◌, ℕ, Option, List, [], ◌∷◌, inl, inr, refl, sym, ap, ◌∙◌, subst}
 use Rattle.std.specs.List.{filter, flat_map}
 use Rattle.std.specs.Prelude.{not}
 use Rattle.owl_doc.specs.Entities.{Declares, declarations}
 use Rattle.owl_doc.specs.Heads.{iri_in}
-use Rattle.owl_documents.specs.Documents.{DeclaresAs, IsSame, Parsed, Said, a_graph, an_ontology, head_in}
+use Rattle.owl_documents.specs.Documents.{DeclaresAs, IsSame, Parsed, Said, a_graph, an_ontology, head_in, the_frames}
 use Rattle.owl_documents.specs.OneWay.{IsSameParsed}
 use Rattle.owl_kind.specs.declared.kind.Kind.{Kind}
 use Rattle.owl_kind.specs.Kinds.{Entity, IsDeclared}
@@ -17,7 +17,14 @@ use Rattle.rdf_normal.specs.NormalForms.{is_about, normal_form, settled, spread}
 use Rattle.rdf_reverse.specs.Reverse.{Finds, FindsFirst, IsHeaderFault, IsSaid, IsUnsaid, Step, bad_header, no_header, of_depths, of_header, of_kinds, of_names, of_nodes, of_numbers, of_parts, of_reach, of_reifications, of_statements, of_weights, steps, two_headers}
 use Rattle.rdf_reverse.proofs.ReverseLaws.{never_both, said_one_way, unsaid_one_way}
 use Rattle.rdf_reverse.specs.declared.fault.ReverseFault.{ReverseFault}
-use Rattle.rdf_reverse.specs.declared.fault.ReverseFault.TheVariants.{Memory}
+use Rattle.rdf_reverse.specs.declared.fault.ReverseFault.TheVariants as reverse
+use Rattle.owl_messages.specs.Unsaid.{IsProperFault}
+use Rattle.owl_messages.specs.declared.unsaid.UnsaidFault.{UnsaidFault}
+use Rattle.owl_messages.specs.declared.unsaid.UnsaidFault.TheVariants.{Graph, Frames, Memory}
+use Rattle.man_raw.specs.Documents.{DocumentTree}
+use Rattle.man_resolve.specs.Items as frames
+use Rattle.man_resolve.specs.Items.{frame_entities}
+use Rattle.man_resolve.proofs.OneWayLaws as frames_laws
 use Rattle.rdf_scans.specs.Outlines.{declarations as declared_by}
 use Rattle.owl_answer.specs.UnderKinds.{IsUnsaidUnder, SaysUnder}
 
@@ -42,6 +49,7 @@ said_back a b s = record { prefixes = sym s.prefixes; ontology = same_ontology_s
 
 pub parsed_refl : (a : Parsed) → IsSameParsed a a
 parsed_refl (an_ontology a) = said_refl a
+parsed_refl (the_frames d) = refl
 parsed_refl (a_graph a) = record {
   prefixes = λ i. a.prefixes;
   triples = λ i. a.triples;
@@ -52,6 +60,11 @@ pub parsed_back : (a b : Parsed) → IsSameParsed a b → IsSameParsed b a
 parsed_back (an_ontology a) (an_ontology b) s = said_back a b s
 parsed_back (an_ontology a) (a_graph b) s = absurd s
 parsed_back (a_graph a) (an_ontology b) s = absurd s
+parsed_back (an_ontology a) (the_frames b) s = absurd s
+parsed_back (a_graph a) (the_frames b) s = absurd s
+parsed_back (the_frames a) (an_ontology b) s = absurd s
+parsed_back (the_frames a) (a_graph b) s = absurd s
+parsed_back (the_frames a) (the_frames b) s = sym s
 parsed_back (a_graph a) (a_graph b) s =
     record { prefixes = sym s.prefixes; triples = sym s.triples; head = head_back a.head b.head s.head }
 
@@ -60,11 +73,22 @@ same_head (an_ontology a) (an_ontology b) s = s.ontology.head
 same_head (an_ontology a) (a_graph b) s = absurd s
 same_head (a_graph a) (an_ontology b) s = absurd s
 same_head (a_graph a) (a_graph b) s = s.head
+same_head (an_ontology a) (the_frames b) s = absurd s
+same_head (a_graph a) (the_frames b) s = absurd s
+same_head (the_frames a) (an_ontology b) s = absurd s
+same_head (the_frames a) (a_graph b) s = absurd s
+same_head (the_frames a) (the_frames b) s =
+    subst (λ (d : DocumentTree). IsSameHead (frames.head_in a.head) (frames.head_in d.head)) s (record { name = refl; imports = λ x. (λ h. h, λ h. h) })
 
 pub declares_same_as : (a b : Parsed) → IsSameParsed a b → (kind : Kind) (iri : List ℕ) → DeclaresAs a kind iri → DeclaresAs b kind iri
 declares_same_as (an_ontology a) (an_ontology b) s kind iri h = same_declare a.ontology b.ontology s.ontology kind iri h
 declares_same_as (an_ontology a) (a_graph b) s kind iri h = absurd s
 declares_same_as (a_graph a) (an_ontology b) s kind iri h = absurd s
+declares_same_as (an_ontology a) (the_frames b) s kind iri h = absurd s
+declares_same_as (a_graph a) (the_frames b) s kind iri h = absurd s
+declares_same_as (the_frames a) (an_ontology b) s kind iri h = absurd s
+declares_same_as (the_frames a) (a_graph b) s kind iri h = absurd s
+declares_same_as (the_frames a) (the_frames b) s kind iri h = subst (λ (d : DocumentTree). IsDeclared (frame_entities d) kind iri) s h
 declares_same_as (a_graph a) (a_graph b) s kind iri h =
     subst (λ (ts : List Triple). IsDeclared (declared_by ts) kind iri) s.triples h
 
@@ -79,41 +103,75 @@ says_same kinds (an_ontology a) (an_ontology b) s said h =
     record { other = b; says = λ i. b; same = subst (λ (x : Said). IsSame x b) (sym h) s }
 says_same kinds (an_ontology a) (a_graph b) s said h = absurd s
 says_same kinds (a_graph a) (an_ontology b) s said h = absurd s
+says_same kinds (an_ontology a) (the_frames b) s said h = absurd s
+says_same kinds (a_graph a) (the_frames b) s said h = absurd s
+says_same kinds (the_frames a) (an_ontology b) s said h = absurd s
+says_same kinds (the_frames a) (a_graph b) s said h = absurd s
+says_same kinds (the_frames a) (the_frames b) s said h =
+    record { other = said; says = subst (λ (d : DocumentTree). SaysUnder kinds (the_frames d) said) s h; same = said_refl said }
 says_same kinds (a_graph a) (a_graph b) s said h = record {
   other = said;
   says = (h.0 ∙ s.prefixes, subst (λ (ts : List Triple). IsSaid ts kinds said.ontology) s.triples h.1);
   same = said_refl said;
 }
 
-pub unsaid_same : (kinds : List Entity) (a b : Parsed) → IsSameParsed a b → (fault : ReverseFault) → IsUnsaidUnder kinds a fault → IsUnsaidUnder kinds b fault
+pub unsaid_same : (kinds : List Entity) (a b : Parsed) → IsSameParsed a b → (fault : UnsaidFault) → IsUnsaidUnder kinds a fault → IsUnsaidUnder kinds b fault
 unsaid_same kinds (an_ontology a) (an_ontology b) s fault h = absurd h
 unsaid_same kinds (an_ontology a) (a_graph b) s fault h = absurd s
+unsaid_same kinds (an_ontology a) (the_frames b) s fault h = absurd s
 unsaid_same kinds (a_graph a) (an_ontology b) s fault h = absurd s
-unsaid_same kinds (a_graph a) (a_graph b) s fault h = subst (λ (ts : List Triple). IsUnsaid ts kinds fault) s.triples h
+unsaid_same kinds (a_graph a) (the_frames b) s fault h = absurd s
+unsaid_same kinds (the_frames a) (an_ontology b) s fault h = absurd s
+unsaid_same kinds (the_frames a) (a_graph b) s fault h = absurd s
+unsaid_same kinds (a_graph a) (a_graph b) s (Graph fault) h = subst (λ (ts : List Triple). IsUnsaid ts kinds fault) s.triples h
+unsaid_same kinds (a_graph a) (a_graph b) s (Frames fault) h = absurd h
+unsaid_same kinds (a_graph a) (a_graph b) s Memory h = absurd h
+unsaid_same kinds (the_frames a) (the_frames b) s fault h = subst (λ (d : DocumentTree). IsUnsaidUnder kinds (the_frames d) fault) s h
 
 -- a document says one thing under kinds, or there is one reason why not, and never both
 pub says_once : (kinds : List Entity) (parsed : Parsed) (a b : Said) → SaysUnder kinds parsed a → SaysUnder kinds parsed b → IsSame a b
 says_once kinds (an_ontology said) a b h k = subst (λ (x : Said). IsSame a x) (h ∙ sym k) (said_refl a)
 says_once kinds (a_graph read) a b h k =
     record { prefixes = h.0 ∙ sym k.0; ontology = said_one_way read.triples kinds a.ontology b.ontology h.1 k.1 }
+says_once kinds (the_frames d) a b h k =
+    record { prefixes = h.0 ∙ sym k.0; ontology = frames_laws.one_ontology d kinds a.ontology b.ontology h.1 k.1 }
 
-pub unsaid_once : (kinds : List Entity) (parsed : Parsed) (e f : ReverseFault) → IsUnsaidUnder kinds parsed e → IsUnsaidUnder kinds parsed f → e ≡ f
+pub unsaid_once : (kinds : List Entity) (parsed : Parsed) (e f : UnsaidFault) → IsUnsaidUnder kinds parsed e → IsUnsaidUnder kinds parsed f → e ≡ f
 unsaid_once kinds (an_ontology said) e f h k = absurd h
-unsaid_once kinds (a_graph read) e f h k = unsaid_one_way read.triples kinds e f h k
+unsaid_once kinds (a_graph read) (Graph e) (Graph f) h k = ap Graph (unsaid_one_way read.triples kinds e f h k)
+unsaid_once kinds (a_graph read) (Graph e) (Frames f) h k = absurd k
+unsaid_once kinds (a_graph read) (Graph e) Memory h k = absurd k
+unsaid_once kinds (a_graph read) (Frames e) f h k = absurd h
+unsaid_once kinds (a_graph read) Memory f h k = absurd h
+unsaid_once kinds (the_frames d) (Graph e) f h k = absurd h
+unsaid_once kinds (the_frames d) (Frames e) (Graph f) h k = absurd k
+unsaid_once kinds (the_frames d) (Frames e) (Frames f) h k = ap Frames (frames_laws.one_fault d kinds e f h k)
+unsaid_once kinds (the_frames d) (Frames e) Memory h k = absurd k
+unsaid_once kinds (the_frames d) Memory f h k = absurd h
 
-pub never_says_both : (kinds : List Entity) (parsed : Parsed) (said : Said) (fault : ReverseFault) → SaysUnder kinds parsed said → IsUnsaidUnder kinds parsed fault → ⊥
+pub never_says_both : (kinds : List Entity) (parsed : Parsed) (said : Said) (fault : UnsaidFault) → SaysUnder kinds parsed said → IsUnsaidUnder kinds parsed fault → ⊥
 never_says_both kinds (an_ontology other) said fault h k = k
-never_says_both kinds (a_graph read) said fault h k = never_both read.triples kinds said.ontology fault h.1 k
+never_says_both kinds (a_graph read) said (Graph fault) h k = never_both read.triples kinds said.ontology fault h.1 k
+never_says_both kinds (a_graph read) said (Frames fault) h k = k
+never_says_both kinds (a_graph read) said Memory h k = k
+never_says_both kinds (the_frames d) said (Graph fault) h k = k
+never_says_both kinds (the_frames d) said (Frames fault) h k = frames_laws.never_both d kinds said.ontology fault h.1 k
+never_says_both kinds (the_frames d) said Memory h k = k
+
+pub no_want : (fault : UnsaidFault) → IsProperFault fault → fault ≢ Memory
+no_want (Graph fault) n e = absurd (cc)
+no_want (Frames fault) n e = absurd (cc)
+no_want Memory n e = n
 
 -- want of memory is no fault of a graph
-no_header_fault : (g : List Triple) (f : ReverseFault) → IsHeaderFault g f → f ≡ Memory → ⊥
+no_header_fault : (g : List Triple) (f : ReverseFault) → IsHeaderFault g f → f ≡ reverse.Memory → ⊥
 no_header_fault g _ (no_header h) e = cc
 no_header_fault g _ (two_headers h) e = cc
 no_header_fault g _ (bad_header x h) e = cc
 
-never_found : (g : List Triple) (k : List Entity) (step : Step) → Finds g k step Memory → ⊥
+never_found : (g : List Triple) (k : List Entity) (step : Step) → Finds g k step reverse.Memory → ⊥
 never_found g k of_kinds h = let e = h.1 in cc
-never_found g k of_header h = no_header_fault g Memory h refl
+never_found g k of_header h = no_header_fault g reverse.Memory h refl
 never_found g k of_nodes h = h
 never_found g k of_reifications h = let e = h.3 in cc
 never_found g k of_names h = let e = h.3 in cc
@@ -124,11 +182,16 @@ never_found g k of_numbers h = let e = h.0 in cc
 never_found g k of_depths h = let e = h.2 in cc
 never_found g k of_weights h = let e = h.2 in cc
 
-never_first : (g : List Triple) (k : List Entity) (all : List Step) → FindsFirst g k all Memory → ⊥
+never_first : (g : List Triple) (k : List Entity) (all : List Step) → FindsFirst g k all reverse.Memory → ⊥
 never_first g k [] h = h
 never_first g k (step ∷ more) (inl h) = never_found g k step h
 never_first g k (step ∷ more) (inr h) = never_first g k more h.1
 
-pub never_memory : (kinds : List Entity) (parsed : Parsed) (fault : ReverseFault) → IsUnsaidUnder kinds parsed fault → fault ≢ Memory
-never_memory kinds (an_ontology said) fault h = absurd h
-never_memory kinds (a_graph read) fault h = λ e. never_first read.triples kinds steps (subst (λ (f : ReverseFault). IsUnsaid read.triples kinds f) e h)
+pub is_proper : (kinds : List Entity) (parsed : Parsed) (fault : UnsaidFault) → IsUnsaidUnder kinds parsed fault → IsProperFault fault
+is_proper kinds (an_ontology said) fault h = absurd h
+is_proper kinds (a_graph read) (Graph fault) h = λ e. never_first read.triples kinds steps (subst (λ (f : ReverseFault). IsUnsaid read.triples kinds f) e h)
+is_proper kinds (a_graph read) (Frames fault) h = absurd h
+is_proper kinds (a_graph read) Memory h = absurd h
+is_proper kinds (the_frames d) (Graph fault) h = absurd h
+is_proper kinds (the_frames d) (Frames fault) h = frames_laws.is_proper d kinds fault h
+is_proper kinds (the_frames d) Memory h = absurd h

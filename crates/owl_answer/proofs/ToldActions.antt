@@ -12,7 +12,7 @@ use Rattle.owl_doc.specs.Closures.{ImportClosure}
 use Rattle.owl_doc.specs.declared.item.Breach.{Breach}
 use Rattle.owl_doc.specs.Documents as doc
 use Rattle.owl_doc.specs.Documents.{ontology_of}
-use Rattle.owl_documents.specs.Documents.{Parsed, Said, a_graph, an_ontology, said_of}
+use Rattle.owl_documents.specs.Documents.{Parsed, Said, a_graph, an_ontology, said_of, the_frames}
 use Rattle.owl_kind.specs.Kinds.{Entity}
 use Rattle.owl_messages.specs.Outcome.{IsLimited, Outcome, translation}
 use Rattle.owl_messages.specs.Verdicts.{verdict}
@@ -22,24 +22,26 @@ use Rattle.owl_answer.specs.Checking.{TellBreaches}
 use Rattle.owl_answer.specs.Checks.{HasFormAt, IsChecked}
 use Rattle.owl_answer.specs.KindsAt.{AreClosureKinds, IsClosure}
 use Rattle.owl_answer.specs.Outcome.{IsSuccess}
-use Rattle.owl_answer.specs.Reading.{AllSayAt, IsReadAs, IsSaidAt, is_graph}
+use Rattle.owl_answer.specs.Reading.{AllSayAt, IsReadAs, IsSaidAt, asks_types}
 use Rattle.owl_answer.specs.Runs.{IsActionText}
 use Rattle.owl_answer.specs.TurtleOutcome.{IsFunctionalTranslation}
 use Rattle.owl_answer.specs.declared.closure.Closure.{Closure}
 use Rattle.owl_answer.proofs.Readings.{all_forms}
 
--- a translation to Functional-Style Syntax, of a graph and of what is written in it
-pub functional_told : (documents : List Parsed) (parsed : Parsed) (kinds : List Entity) (main : Said) (outcome : Outcome) → is_graph parsed ≡ true → IsFunctionalTranslation kinds main outcome → (IsSuccess outcome.status → IsActionText (Translate Fss) kinds main outcome.text) → IsToldOfMain (Translate Fss) documents parsed kinds main outcome
+-- a translation to Functional-Style Syntax, of another document and of what is written in it
+pub functional_told : (documents : List Parsed) (parsed : Parsed) (kinds : List Entity) (main : Said) (outcome : Outcome) → asks_types parsed ≡ true → IsFunctionalTranslation kinds main outcome → (IsSuccess outcome.status → IsActionText (Translate Fss) kinds main outcome.text) → IsToldOfMain (Translate Fss) documents parsed kinds main outcome
 functional_told documents (an_ontology said) kinds main outcome e h back = absurd (cc)
 functional_told documents (a_graph read) kinds main outcome e h back = record { is = h; back = back }
+functional_told documents (the_frames d) kinds main outcome e h back = record { is = h; back = back }
 
-pub written_told : (documents : List Parsed) (parsed : Parsed) (kinds : List Entity) (main : Said) (outcome : Outcome) → is_graph parsed ≡ false → IsLimited (λ wanted. wanted ≡ translation main) outcome → (IsSuccess outcome.status → IsActionText (Translate Fss) kinds main outcome.text) → IsToldOfMain (Translate Fss) documents parsed kinds main outcome
+pub written_told : (documents : List Parsed) (parsed : Parsed) (kinds : List Entity) (main : Said) (outcome : Outcome) → asks_types parsed ≡ false → IsLimited (λ wanted. wanted ≡ translation main) outcome → (IsSuccess outcome.status → IsActionText (Translate Fss) kinds main outcome.text) → IsToldOfMain (Translate Fss) documents parsed kinds main outcome
 written_told documents (an_ontology said) kinds main outcome e h back = record { is = h; back = back }
 written_told documents (a_graph read) kinds main outcome e h back = absurd (cc)
+written_told documents (the_frames d) kinds main outcome e h back = absurd (cc)
 
 -- what is told of the main document, which says what is read first
-module _ (action : Action) (documents : List Parsed) (closure : Closure) (ds : List doc.Document) (from_graph : Bool) (read : IsReadAs documents closure ds from_graph) (d : doc.Document) (first : IsSaidAt documents closure.kinds 0 d) (outcome : Outcome) where
-  pub told_of_main : ((parsed : Parsed) → is_graph parsed ≡ from_graph → IsToldOfMain action documents parsed closure.kinds (said_of d) outcome) → IsToldOf action documents outcome
+module _ (action : Action) (documents : List Parsed) (closure : Closure) (ds : List doc.Document) (asks : Bool) (read : IsReadAs documents closure ds asks) (d : doc.Document) (first : IsSaidAt documents closure.kinds 0 d) (outcome : Outcome) where
+  pub told_of_main : ((parsed : Parsed) → asks_types parsed ≡ asks → IsToldOfMain action documents parsed closure.kinds (said_of d) outcome) → IsToldOf action documents outcome
   told_of_main told =
       let same : first.parsed ≡ read.main = same_Some first.parsed read.main (sym first.there ∙ read.there) in
       record {
@@ -49,7 +51,7 @@ module _ (action : Action) (documents : List Parsed) (closure : Closure) (ds : L
         declared = read.closed.declared;
         main = said_of d;
         says = first.said.says;
-        told = told first.parsed (ap is_graph same ∙ read.graph);
+        told = told first.parsed (ap asks_types same ∙ read.asks);
       }
 
 -- the same places are told alike

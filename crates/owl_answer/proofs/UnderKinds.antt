@@ -14,8 +14,8 @@ use Rattle.owl_documents.specs.Documents.{Parsed, Said}
 use Rattle.owl_kind.specs.Kinds.{Entity}
 use Rattle.owl_list.specs.Ascending.{IsAscending}
 use Rattle.owl_list.proofs.AscendingLaws.{all_in, head_below, in_cases, in_head, in_tail, tail_ascends}
-use Rattle.rdf_reverse.specs.declared.fault.ReverseFault.{ReverseFault}
-use Rattle.rdf_reverse.specs.declared.fault.ReverseFault.TheVariants.{Memory}
+use Rattle.owl_messages.specs.declared.unsaid.UnsaidFault.{UnsaidFault}
+use Rattle.owl_messages.specs.declared.unsaid.UnsaidFault.TheVariants.{Memory}
 use Rattle.owl_answer.specs.Answers.{IsConclusion, IsToldOf}
 use Rattle.owl_answer.specs.Asked.{IsOfTwo}
 use Rattle.owl_answer.specs.KindsAt.{AreOwnKinds, IsClosure}
@@ -30,8 +30,9 @@ use Rattle.owl_answer.proofs.Agreement.{read_once, says_or_not}
 use Rattle.owl_answer.proofs.Closures.{closure_once}
 use Rattle.owl_answer.proofs.Lines.{unsaid_fails}
 use Rattle.owl_answer.proofs.Readings.{all_some, less_is}
-use Rattle.owl_answer.proofs.Same.{never_says_both}
-use Rattle.owl_messages.specs.Outcome.{IsLimited, Outcome, unsaid_outcome}
+use Rattle.owl_answer.proofs.Same.{is_proper, never_says_both}
+use Rattle.owl_messages.specs.Outcome.{IsLimited, Outcome}
+use Rattle.owl_messages.specs.Unsaid.{unsaid_outcome}
 
 both_less : (m n : ℕ) → m < n → n < m → ⊥
 both_less m n l k = omega arith
@@ -53,10 +54,10 @@ earlier (x ∷ before) after place other a m l =
     ]
 
 -- a document that says nothing
-pub unsaid_conclusion : (request : Request) (documents : List Parsed) (place : ℕ) (fault : ReverseFault) (name : List ℕ) (outcome : Outcome) → HasImports request documents → IsFirstUnsaid request documents place fault → slice_get (names_of request) place ≡ Some name → outcome ≡ unsaid_outcome name fault → IsConclusion request documents outcome
+pub unsaid_conclusion : (request : Request) (documents : List Parsed) (place : ℕ) (fault : UnsaidFault) (name : List ℕ) (outcome : Outcome) → HasImports request documents → IsFirstUnsaid request documents place fault → slice_get (names_of request) place ≡ Some name → outcome ≡ unsaid_outcome name fault → IsConclusion request documents outcome
 unsaid_conclusion request documents place fault name outcome imports u at e = record {
   concludes = says_nothing imports place fault name u at e;
-  back = λ s. absurd (unsaid_fails name fault (subst (λ (o : Outcome). IsSuccess o.status) e s));
+  back = λ s. absurd (unsaid_fails name fault (is_proper u.unsaid.kinds u.unsaid.parsed fault u.unsaid.unsaid) (subst (λ (o : Outcome). IsSuccess o.status) e s));
 }
 
 -- the closure of a main document
@@ -69,7 +70,7 @@ module _ (action : Action) (partial : Bool) (names : List (List ℕ)) (documents
   says_there place h p k r =
       subst (λ (l : List Entity). SaysSome l p) (closure_once documents closure.kinds k c.declared r.under.1) (h p r.there)
 
-  never_there : (place : ℕ) → SaysSomeAt documents closure.kinds place → (fault : ReverseFault) → IsUnsaidAt (of_main action partial names) documents place fault → ⊥
+  never_there : (place : ℕ) → SaysSomeAt documents closure.kinds place → (fault : UnsaidFault) → IsUnsaidAt (of_main action partial names) documents place fault → ⊥
   never_there place h fault u =
       let own = says_there place h u.parsed u.kinds u.read in
       never_says_both u.kinds u.parsed own.0 fault own.1 u.unsaid
@@ -94,7 +95,7 @@ module _ (action : Action) (partial : Bool) (names : List (List ℕ)) (documents
         subst (λ (xs : List ℕ). Contains xs unsaid.document) (sym h.split)
         (Contains-append_right h.before (unsaid.document ∷ h.after) unsaid.document (in_head unsaid.document h.after))
 
-    none_earlier : (other : ℕ) → other < unsaid.document → (fault : ReverseFault) → IsUnsaidAt (of_main action partial names) documents other fault → ⊥
+    none_earlier : (other : ℕ) → other < unsaid.document → (fault : UnsaidFault) → IsUnsaidAt (of_main action partial names) documents other fault → ⊥
     none_earlier other l fault u =
         let ascends = subst (IsAscending nat_cmp) h.split c.reached.ascending in
         let there = subst (λ (xs : List ℕ). Contains xs other) h.split (among other u.parsed u.kinds u.read) in
@@ -150,13 +151,13 @@ no_imports (of_main action partial names) two documents = absurd (two tt)
 no_imports (compares one other) two documents = λ asked. absurd asked
 
 module _ (request : Request) (documents : List Parsed) where
-  first_unsaid : (fault : ReverseFault) → IsUnsaidAt request documents 0 fault → IsFirstUnsaid request documents 0 fault
+  first_unsaid : (fault : UnsaidFault) → IsUnsaidAt request documents 0 fault → IsFirstUnsaid request documents 0 fault
   first_unsaid fault u = record { unsaid = u; first = λ other theirs v. omega arith }
 
-  second_unsaid : (said : Said) → SaysAt request documents 0 said → (fault : ReverseFault) → IsUnsaidAt request documents 1 fault → IsFirstUnsaid request documents 1 fault
+  second_unsaid : (said : Said) → SaysAt request documents 0 said → (fault : UnsaidFault) → IsUnsaidAt request documents 1 fault → IsFirstUnsaid request documents 1 fault
   second_unsaid said h fault u = record { unsaid = u; first = behind }
     where
-      behind : (other : ℕ) (theirs : ReverseFault) → IsUnsaidAt request documents other theirs → 1 ≤ other
+      behind : (other : ℕ) (theirs : UnsaidFault) → IsUnsaidAt request documents other theirs → 1 ≤ other
       behind zero theirs v = absurd (says_or_not request documents 0 said theirs h v)
       behind (suc n) theirs v = omega arith
 
@@ -185,16 +186,16 @@ module _ (request : Request) (alone : IsOfMain request → ⊥) (documents : Lis
   alone_at place parsed there said h =
       record { parsed = parsed; kinds = h.kinds; read = own_read request alone documents place parsed h.kinds there h.own; says = h.says }
 
-  unsaid_at : (place : ℕ) (parsed : Parsed) → slice_get documents place ≡ Some parsed → (fault : ReverseFault) → IsUnsaidAlone parsed fault → IsUnsaidAt request documents place fault
+  unsaid_at : (place : ℕ) (parsed : Parsed) → slice_get documents place ≡ Some parsed → (fault : UnsaidFault) → IsUnsaidAlone parsed fault → IsUnsaidAt request documents place fault
   unsaid_at place parsed there fault h =
       record { parsed = parsed; kinds = h.kinds; read = own_read request alone documents place parsed h.kinds there h.own; unsaid = h.unsaid }
 
-  pub none_first : (parsed : Parsed) → slice_get documents 0 ≡ Some parsed → (fault : ReverseFault) → IsUnsaidAlone parsed fault → (name : List ℕ) → slice_get (names_of request) 0 ≡ Some name → (outcome : Outcome) → outcome ≡ unsaid_outcome name fault → IsConclusion request documents outcome
+  pub none_first : (parsed : Parsed) → slice_get documents 0 ≡ Some parsed → (fault : UnsaidFault) → IsUnsaidAlone parsed fault → (name : List ℕ) → slice_get (names_of request) 0 ≡ Some name → (outcome : Outcome) → outcome ≡ unsaid_outcome name fault → IsConclusion request documents outcome
   none_first parsed there fault h name at outcome e =
       unsaid_conclusion request documents 0 fault name outcome (no_imports request alone documents) (first_unsaid request documents fault (unsaid_at 0 parsed there fault h)) at e
 
   module _ (first : Said) (says : SaysAt request documents 0 first) (parsed : Parsed) (there : slice_get documents 1 ≡ Some parsed) where
-    pub none_second : (fault : ReverseFault) → IsUnsaidAlone parsed fault → (name : List ℕ) → slice_get (names_of request) 1 ≡ Some name → (outcome : Outcome) → outcome ≡ unsaid_outcome name fault → IsConclusion request documents outcome
+    pub none_second : (fault : UnsaidFault) → IsUnsaidAlone parsed fault → (name : List ℕ) → slice_get (names_of request) 1 ≡ Some name → (outcome : Outcome) → outcome ≡ unsaid_outcome name fault → IsConclusion request documents outcome
     none_second fault h name at outcome e =
         unsaid_conclusion request documents 1 fault name outcome (no_imports request alone documents) (second_unsaid request documents first says fault (unsaid_at 1 parsed there fault h)) at e
 

@@ -2,10 +2,10 @@
 use Rattle.std.specs.Prelude.{◌≡◌, ◌≢◌, ◌⊎◌, ◌++◌, ℕ, Bool, true, false, List, [], ◌∷◌, Some, Contains, slice_get}
 use Rattle.std.specs.List.{AllByRecursion, AllZip}
 use Rattle.owl_doc.specs.Documents as doc
-use Rattle.owl_documents.specs.Documents.{Parsed, Said, a_graph, an_ontology, said_of}
+use Rattle.owl_documents.specs.Documents.{Parsed, Said, a_graph, an_ontology, said_of, the_frames}
 use Rattle.owl_kind.specs.Kinds.{Entity}
-use Rattle.rdf_reverse.specs.declared.fault.ReverseFault.{ReverseFault}
-use Rattle.rdf_reverse.specs.declared.fault.ReverseFault.TheVariants.{Memory}
+use Rattle.owl_messages.specs.declared.unsaid.UnsaidFault.{UnsaidFault}
+use Rattle.owl_messages.specs.declared.unsaid.UnsaidFault.TheVariants.{Memory}
 use Rattle.owl_tree.specs.Ontologies.{canonical_ontology}
 use Rattle.owl_answer.specs.KindsAt.{AreOwnKinds, IsClosure}
 use Rattle.owl_answer.specs.UnderKinds.{IsUnsaidUnder, SaysSome, SaysUnder}
@@ -23,7 +23,7 @@ abbrev pub said_in : Saying → Said
 said_in saying = said_of (doc_in saying)
 
 -- this is why the document says nothing under these kinds, unless memory ran out
-abbrev pub IsFaultUnder : List Entity → Parsed → ReverseFault → Type 0
+abbrev pub IsFaultUnder : List Entity → Parsed → UnsaidFault → Type 0
 IsFaultUnder kinds parsed fault = fault ≢ Memory → IsUnsaidUnder kinds parsed fault
 
 -- the document says this under these kinds, and it stands in canonical form
@@ -43,7 +43,7 @@ SaysReached closure place parsed before after =
     (Contains closure.places.items place × SaysNext closure.kinds parsed before after) ⊎ ((Contains closure.places.items place → ⊥) × (after ≡ before))
 
 -- the place is one of the closure's, and this is why its document says nothing
-abbrev pub IsReachedFault : Closure → ℕ → Parsed → ReverseFault → Type 0
+abbrev pub IsReachedFault : Closure → ℕ → Parsed → UnsaidFault → Type 0
 IsReachedFault closure place parsed fault = Contains closure.places.items place × IsFaultUnder closure.kinds parsed fault
 
 -- what the document says under the kinds that it declares itself
@@ -53,7 +53,7 @@ pub record SaysAlone (parsed : Parsed) (said : Said) : Type 0 where
   pub says : SaysUnder kinds parsed said
 
 -- why it says nothing under them
-pub record IsUnsaidAlone (parsed : Parsed) (fault : ReverseFault) : Type 0 where
+pub record IsUnsaidAlone (parsed : Parsed) (fault : UnsaidFault) : Type 0 where
   pub kinds : List Entity
   pub own : AreOwnKinds parsed kinds
   pub unsaid : IsUnsaidUnder kinds parsed fault
@@ -73,7 +73,7 @@ abbrev pub SaysSomeAt : List Parsed → List Entity → ℕ → Type 0
 SaysSomeAt documents kinds place = (parsed : Parsed) → slice_get documents place ≡ Some parsed → SaysSome kinds parsed
 
 -- a document stands at this place, and this is why it says nothing, unless memory ran out
-abbrev pub IsFaultAt : List Parsed → List Entity → ℕ → ReverseFault → Type 0
+abbrev pub IsFaultAt : List Parsed → List Entity → ℕ → UnsaidFault → Type 0
 IsFaultAt documents kinds place fault = (parsed : Parsed) × (slice_get documents place ≡ Some parsed) × IsFaultUnder kinds parsed fault
 
 -- the first of these places where a document says nothing
@@ -84,15 +84,16 @@ pub record IsFirstFault (documents : List Parsed) (kinds : List Entity) (places 
   pub say : AllByRecursion (SaysSomeAt documents kinds) before
   pub fault : IsFaultAt documents kinds unsaid.document unsaid.fault
 
--- whether it is a graph
-abbrev pub is_graph : Parsed → Bool
-is_graph (an_ontology said) = false
-is_graph (a_graph read) = true
+-- What is written in Functional-Style Syntax may be written in it again as it is. Of another document each name is to have its kind.
+abbrev pub asks_types : Parsed → Bool
+asks_types (an_ontology said) = false
+asks_types (a_graph read) = true
+asks_types (the_frames d) = true
 
--- The documents of the closure say this, and this tells whether the main one is a graph.
-pub record IsReadAs (documents : List Parsed) (closure : Closure) (ds : List doc.Document) (from_graph : Bool) : Type 0 where
+-- The documents of the closure say this, and this tells whether the main one asks for types.
+pub record IsReadAs (documents : List Parsed) (closure : Closure) (ds : List doc.Document) (asked : Bool) : Type 0 where
   pub closed : IsClosure documents closure
   pub say : AllSayAt documents closure.kinds closure.places.items ds
   pub main : Parsed
   pub there : slice_get documents 0 ≡ Some main
-  pub graph : is_graph main ≡ from_graph
+  pub asks : asks_types main ≡ asked

@@ -12,17 +12,17 @@ use Rattle.owl_command.specs.declared.command.Target.{Target as Syntax}
 use Rattle.owl_command.specs.declared.command.Target.TheVariants.{Fss, Ttl}
 use Rattle.owl_command.specs.declared.status.Status.{Status}
 use Rattle.owl_command.specs.declared.status.Status.TheVariants.{Done, No, Words, Document as NoDocument, Limit, ReadFailed, WriteFailed, Memory}
-use Rattle.owl_documents.specs.Documents.{AreRead, Contents, IsFirstRefused, Parsed, Said, a_graph, an_ontology, IsProperRefusal}
+use Rattle.owl_documents.specs.Documents.{AreRead, Contents, IsFirstRefused, Parsed, Said, a_graph, an_ontology, the_frames, IsProperRefusal}
 use Rattle.owl_documents.specs.declared.trouble.Refusal.{Refusal}
-use Rattle.rdf_reverse.specs.declared.fault.ReverseFault.{ReverseFault}
-use Rattle.rdf_reverse.specs.declared.fault.ReverseFault.TheVariants as reverse
+use Rattle.owl_messages.specs.declared.unsaid.UnsaidFault.{UnsaidFault}
 use Rattle.owl_answer.specs.Outcome.{IsComparison, IsSettled, IsSuccess, IsTheOutcome, heads_in}
 use Rattle.owl_messages.specs.Refusals.{two_kinds, undeclared, unsayable}
 use Rattle.owl_messages.specs.Verdicts.{no_line, yes_line}
 use Rattle.owl_answer.specs.Checks.{IsChecked}
 use Rattle.owl_answer.specs.UnderKinds.{AllSay, HoldsOfMain, HoldsOfTwo, IsFirstUnsaid}
 use Rattle.owl_answer.specs.TurtleOutcome.{IsFunctionalTranslation, IsTurtleTranslation, ReadsSaid, canonical_said, turtle_form}
-use Rattle.owl_messages.specs.Outcome.{IsLimited, Outcome, done_line, functional_form, missing_import, refusal_outcome, refused, shown, too_heavy_output, too_long_output, too_many_triples, translation, unsaid_outcome}
+use Rattle.owl_messages.specs.Outcome.{IsLimited, Outcome, done_line, functional_form, missing_import, refusal_outcome, refused, shown, too_heavy_output, too_long_output, too_many_triples, translation}
+use Rattle.owl_messages.specs.Unsaid.{IsProperFault, unsaid_outcome}
 
 -- The normal form that a syntax has for what a document says.
 abbrev pub normal_form : Syntax → Said → Said
@@ -38,6 +38,7 @@ HasImports request documents = AsksImports request → MissesNone (heads_in docu
 abbrev pub IsTranslation : Syntax → Parsed → List Entity → Said → Outcome → Type 0
 IsTranslation Fss (an_ontology said) kinds main outcome = IsLimited (λ wanted. wanted ≡ translation main) outcome
 IsTranslation Fss (a_graph read) kinds main outcome = IsFunctionalTranslation kinds main outcome
+IsTranslation Fss (the_frames d) kinds main outcome = IsFunctionalTranslation kinds main outcome
 IsTranslation Ttl parsed kinds main outcome = IsTurtleTranslation kinds main outcome
 
 -- What becomes by an action of the main one of these documents, by what it says under these kinds. A check is of all that it reaches.
@@ -56,7 +57,7 @@ AnswersWith (compares first second) documents outcome =
 -- What becomes of documents that are read: the first condition that fails, or what is answered.
 pub data Concludes (request : Request) (documents : List Parsed) (outcome : Outcome) : Type 0 where
   misses_import : AsksImports request → (place : ℕ) (iri name : List ℕ) → IsFirstMissing (heads_in documents) place iri → slice_get (names_of request) place ≡ Some name → outcome ≡ missing_import name iri → Concludes request documents outcome
-  says_nothing : HasImports request documents → (place : ℕ) (fault : ReverseFault) (name : List ℕ) → IsFirstUnsaid request documents place fault → slice_get (names_of request) place ≡ Some name → outcome ≡ unsaid_outcome name fault → Concludes request documents outcome
+  says_nothing : HasImports request documents → (place : ℕ) (fault : UnsaidFault) (name : List ℕ) → IsFirstUnsaid request documents place fault → slice_get (names_of request) place ≡ Some name → outcome ≡ unsaid_outcome name fault → Concludes request documents outcome
   all_say : HasImports request documents → AllSay request documents → AnswersWith request documents outcome → Concludes request documents outcome
 
 -- What becomes of what is asked for, with these contents. Each document is read before imports are looked at.
@@ -88,7 +89,7 @@ SuccessLine request status line = ⊥
 pub data IsRefusalLine (name : List ℕ) (status : Status) (line : List ℕ) : Type 0 where
   of_bytes : (refusal : Refusal) → IsProperRefusal refusal → status ≡ (refusal_outcome name refusal).status → line ≡ (refusal_outcome name refusal).line → IsRefusalLine name status line
   of_import : (iri : List ℕ) → status ≡ NoDocument → line ≡ (missing_import name iri).line → IsRefusalLine name status line
-  of_graph : (fault : ReverseFault) → fault ≢ reverse.Memory → status ≡ (unsaid_outcome name fault).status → line ≡ (unsaid_outcome name fault).line → IsRefusalLine name status line
+  of_saying : (fault : UnsaidFault) → IsProperFault fault → status ≡ (unsaid_outcome name fault).status → line ≡ (unsaid_outcome name fault).line → IsRefusalLine name status line
 
 -- The ways in which a translation is refused whose main document is not well typed.
 pub data IsIllTyped : Outcome → Type 0 where

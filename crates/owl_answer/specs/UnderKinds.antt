@@ -1,11 +1,13 @@
--- What documents say once the kinds of IRIs are known (Mapping to RDF Graphs, section 3).
+-- What documents say once the kinds of IRIs are known (Mapping to RDF Graphs, section 3, and Manchester Syntax, section 2).
 use Rattle.std.specs.Prelude.{◌≡◌, ◌≤◌, ℕ, List, Some, slice_get}
 use Rattle.owl_close.specs.Imports.{Reaches}
 use Rattle.owl_command.specs.Commands.{Request, compares, of_main}
-use Rattle.owl_documents.specs.Documents.{Parsed, Said, a_graph, an_ontology}
+use Rattle.owl_documents.specs.Documents.{Parsed, Said, a_graph, an_ontology, the_frames}
 use Rattle.owl_kind.specs.Kinds.{Entity}
 use Rattle.rdf_reverse.specs.Reverse.{IsSaid, IsUnsaid}
-use Rattle.rdf_reverse.specs.declared.fault.ReverseFault.{ReverseFault}
+use Rattle.man_resolve.specs.Resolved.{FramesMean, IsUnresolved}
+use Rattle.owl_messages.specs.declared.unsaid.UnsaidFault.{UnsaidFault}
+use Rattle.owl_messages.specs.declared.unsaid.UnsaidFault.TheVariants.{Graph, Frames}
 use Rattle.owl_answer.specs.KindsAt.{AreClosureKinds, AreOwnKinds}
 use Rattle.owl_answer.specs.Outcome.{heads_in}
 
@@ -13,11 +15,13 @@ use Rattle.owl_answer.specs.Outcome.{heads_in}
 abbrev pub SaysUnder : List Entity → Parsed → Said → Type 0
 SaysUnder kinds (an_ontology said) other = other ≡ said
 SaysUnder kinds (a_graph read) other = (other.prefixes ≡ read.prefixes) × IsSaid read.triples kinds other.ontology
+SaysUnder kinds (the_frames d) other = (other.prefixes ≡ d.prefixes) × FramesMean d kinds other.ontology
 
 -- why it says nothing under them
-abbrev pub IsUnsaidUnder : List Entity → Parsed → ReverseFault → Type 0
-IsUnsaidUnder kinds (an_ontology said) fault = ⊥
-IsUnsaidUnder kinds (a_graph read) fault = IsUnsaid read.triples kinds fault
+abbrev pub IsUnsaidUnder : List Entity → Parsed → UnsaidFault → Type 0
+IsUnsaidUnder kinds (a_graph read) (Graph fault) = IsUnsaid read.triples kinds fault
+IsUnsaidUnder kinds (the_frames d) (Frames fault) = IsUnresolved d kinds fault
+IsUnsaidUnder kinds parsed fault = ⊥
 
 -- the document says something under these kinds
 abbrev pub SaysSome : List Entity → Parsed → Type 0
@@ -47,16 +51,16 @@ pub record SaysAt (request : Request) (documents : List Parsed) (place : ℕ) (s
   pub says : SaysUnder kinds parsed said
 
 -- why it says nothing under them
-pub record IsUnsaidAt (request : Request) (documents : List Parsed) (place : ℕ) (fault : ReverseFault) : Type 0 where
+pub record IsUnsaidAt (request : Request) (documents : List Parsed) (place : ℕ) (fault : UnsaidFault) : Type 0 where
   pub parsed : Parsed
   pub kinds : List Entity
   pub read : IsReadUnder request documents place parsed kinds
   pub unsaid : IsUnsaidUnder kinds parsed fault
 
 -- the first document, in the order of their names, that says nothing, and why
-pub record IsFirstUnsaid (request : Request) (documents : List Parsed) (place : ℕ) (fault : ReverseFault) : Type 0 where
+pub record IsFirstUnsaid (request : Request) (documents : List Parsed) (place : ℕ) (fault : UnsaidFault) : Type 0 where
   pub unsaid : IsUnsaidAt request documents place fault
-  pub first : (other : ℕ) (theirs : ReverseFault) → IsUnsaidAt request documents other theirs → place ≤ other
+  pub first : (other : ℕ) (theirs : UnsaidFault) → IsUnsaidAt request documents other theirs → place ≤ other
 
 -- each document that is read says something
 abbrev pub AllSay : Request → List Parsed → Type 0

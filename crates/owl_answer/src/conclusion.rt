@@ -4,7 +4,7 @@ ghost use Rattle.std.specs.Prelude.{◌≡◌, IfOk, map};
 ghost use Rattle.owl_command.specs.Commands.{request_of};
 ghost use Rattle.owl_documents.specs.Documents.{parsed_of};
 ghost use Rattle.owl_answer.specs.Asked.{IsAnswerTo, IsAsked, IsOfAction};
-ghost use Rattle.owl_answer.specs.Reading.{is_graph};
+ghost use Rattle.owl_answer.specs.Reading.{asks_types};
 ghost use Rattle.owl_answer.specs.Runs.{HasImports};
 
 use crate::asked::Asked;
@@ -53,19 +53,20 @@ fn answer_action(alloc: Global, asked: Asked, action: Action) -> Result<Answer, 
 {
     let Asked { command, docs } = asked;
     let closure = closure_of(alloc, &docs)?;
-    let from_graph = is_graph(&docs[0]);
+    let asks = asks_types(&docs[0]);
     match read_closure(alloc, docs, &closure) {
-        Ok(said) => tell_closure(alloc, action, from_graph, closure, said),
+        Ok(said) => tell_closure(alloc, action, asks, closure, said),
         Err(unsaid) => refuse_unsaid(alloc, command.name(unsaid.document), &unsaid.fault),
     }
 }
 
-/// Whether a graph was read of the document.
-fn is_graph(doc: &Document) -> bool
-    ensures { result ≡ is_graph (parsed_of doc.now) }
+/// Whether each name of the document has to have its kind before it is written in
+/// Functional-Style Syntax.
+fn asks_types(doc: &Document) -> bool
+    ensures { result ≡ asks_types (parsed_of doc.now) }
 {
     match doc {
         Document::Ontology(_) => false,
-        Document::Graph(_) => true,
+        Document::Graph(_) | Document::Frames(_) => true,
     }
 }

@@ -32,19 +32,20 @@ fn heads(alloc: Global, docs: &[Document]) -> Result<Vec<Head>, NoMemory>
     let mut heads = Vec::with_capacity(alloc, docs.len())?;
     for doc in docs {
         heads
-            .push(document_head(doc).copy(alloc)?)
+            .push(document_head(alloc, doc)?)
             .map_err(AllocError::from)?;
     }
     Ok(heads)
 }
 
 /// The head of a document.
-fn document_head(doc: &Document) -> &Head
-    ensures { head_of result.now ≡ head_in (parsed_of doc.now) }
+fn document_head(alloc: Global, doc: &Document) -> Result<Head, NoMemory>
+    ensures { IfOk result (λ head. head_of head ≡ head_in (parsed_of doc.now)) }
 {
     match doc {
-        Document::Ontology(doc) => doc.head(),
-        Document::Graph(graph) => &graph.head,
+        Document::Ontology(doc) => doc.head().copy(alloc),
+        Document::Graph(graph) => graph.head.copy(alloc),
+        Document::Frames(frames) => man_resolve::head(alloc, frames),
     }
 }
 

@@ -67,5 +67,6 @@ fn declare(doc: &Document, kinds: &mut Kinds) -> Result<(), NoMemory>
     match doc {
         Document::Ontology(doc) => declared(doc, kinds),
         Document::Graph(document) => declare_graph(&document.graph, kinds),
+        Document::Frames(document) => man_resolve::declared(document, kinds),
     }
 }

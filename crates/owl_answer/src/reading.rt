@@ -2,18 +2,21 @@
 
 ghost use Rattle.std.specs.Prelude.{◌≡◌, ◌≢◌, IfErr, IfOk, OnOk, map};
 ghost use Rattle.owl_documents.specs.Documents.{parsed_of, said_of};
-ghost use Rattle.owl_documents.specs.declared.document.Document.TheVariants.{Graph};
-ghost use Rattle.rdf_reverse.specs.declared.fault.ReverseFault.TheVariants.{Memory};
+ghost use Rattle.owl_documents.specs.declared.document.Document.TheVariants.{Graph, Frames};
+ghost use Rattle.owl_messages.specs.declared.unsaid.UnsaidFault.TheVariants.{Memory};
 ghost use Rattle.owl_answer.specs.KindsAt.{IsClosure};
 ghost use Rattle.owl_answer.specs.Reading.{AllSayAt, IsFaultUnder, IsFirstFault, IsReachedFault, IsUnsaidAlone, SaysAlone, SaysNext, SaysReached, doc_in, said_in};
 ghost use Rattle.owl_answer.specs.UnderKinds.{SaysUnder};
 
 use crate::closure::Closure;
 use crate::kinds::own_kinds;
+use man_raw::RawDoc;
+use man_resolve::resolve;
 use owl_doc::Doc;
 use owl_documents::{Document, GraphDocument};
+use owl_messages::UnsaidFault;
 use owl_tree::Kinds;
-use rdf_reverse::{ReverseFault, reverse};
+use rdf_reverse::reverse;
 use std::alloc::Global;
 
 /// What a document says.
@@ -21,7 +24,7 @@ use std::alloc::Global;
 pub enum Saying<'a> {
     /// The ontology that was read.
     Held(&'a Doc),
-    /// What its graph says.
+    /// What its graph says, or its frames.
     Read(Doc),
 }
 
@@ -41,7 +44,7 @@ impl Saying<'_> {
 #[derive(Drop)]
 pub struct Unsaid {
     pub document: usize,
-    pub fault: ReverseFault,
+    pub fault: UnsaidFault,
 }
 
 /// What each document of the closure says under its kinds, in the order of their
@@ -78,7 +81,7 @@ fn read_reached(
     document: Document,
     closure: &Closure,
     said: &mut Vec<Doc>,
-) -> Result<(), ReverseFault>
+) -> Result<(), UnsaidFault>
     ensures said { OnOk result (SaysReached closure.now place (parsed_of document)
         said.old.items said.new.items) }
     ensures fault { IfErr result (IsReachedFault closure.now place (parsed_of document)) }
@@ -97,7 +100,7 @@ fn read_next(
     document: Document,
     kinds: &Kinds,
     said: &mut Vec<Doc>,
-) -> Result<(), ReverseFault>
+) -> Result<(), UnsaidFault>
     ensures said { OnOk result (
         SaysNext kinds.now (parsed_of document) said.old.items said.new.items) }
     ensures fault { IfErr result (IsFaultUnder kinds.now (parsed_of document)) }
@@ -107,18 +110,19 @@ fn read_next(
     doc.notes();
     match said.push(doc) {
         Ok(()) => Ok(()),
-        Err(_) => Err(ReverseFault::Memory),
+        Err(_) => Err(UnsaidFault::Memory),
     }
 }
 
 /// What the document says under these kinds, in its place.
-fn read_whole(alloc: Global, document: Document, kinds: &Kinds) -> Result<Doc, ReverseFault>
+fn read_whole(alloc: Global, document: Document, kinds: &Kinds) -> Result<Doc, UnsaidFault>
     ensures said { IfOk result (λ doc. SaysUnder kinds.now (parsed_of document) (said_of doc)) }
     ensures fault { IfErr result (IsFaultUnder kinds.now (parsed_of document)) }
 {
     match document {
         Document::Ontology(doc) => Ok(doc),
         Document::Graph(graph) => read_graph(alloc, &graph, kinds),
+        Document::Frames(frames) => read_frames(alloc, &frames, kinds),
     }
 }
 
@@ -127,7 +131,7 @@ fn read_under<'a>(
     alloc: Global,
     doc: &'a Document,
     kinds: &Kinds,
-) -> Result<Saying<'a>, ReverseFault>
+) -> Result<Saying<'a>, UnsaidFault>
     ensures said { IfOk result (λ saying.
         SaysUnder kinds.now (parsed_of doc.now) (said_in saying)) }
     ensures fault { IfErr result (IsFaultUnder kinds.now (parsed_of doc.now)) }
@@ -135,21 +139,31 @@ fn read_under<'a>(
     match doc {
         Document::Ontology(doc) => Ok(Saying::Held(doc)),
         Document::Graph(graph) => Ok(Saying::Read(read_graph(alloc, graph, kinds)?)),
+        Document::Frames(frames) => Ok(Saying::Read(read_frames(alloc, frames, kinds)?)),
     }
 }
 
 /// What the graph says under these kinds.
-fn read_graph(alloc: Global, doc: &GraphDocument, kinds: &Kinds) -> Result<Doc, ReverseFault>
+fn read_graph(alloc: Global, doc: &GraphDocument, kinds: &Kinds) -> Result<Doc, UnsaidFault>
     ensures said { IfOk result (λ read.
         SaysUnder kinds.now (parsed_of (Graph doc.now)) (said_of read)) }
     ensures fault { IfErr result (IsFaultUnder kinds.now (parsed_of (Graph doc.now))) }
 {
     let prefixes = doc.prefixes.copy(alloc)?;
-    reverse(alloc, &doc.graph, prefixes, kinds)
+    Ok(reverse(alloc, &doc.graph, prefixes, kinds)?)
+}
+
+/// What the frames mean under these kinds.
+fn read_frames(alloc: Global, doc: &RawDoc, kinds: &Kinds) -> Result<Doc, UnsaidFault>
+    ensures said { IfOk result (λ read.
+        SaysUnder kinds.now (parsed_of (Frames doc.now)) (said_of read)) }
+    ensures fault { IfErr result (IsFaultUnder kinds.now (parsed_of (Frames doc.now))) }
+{
+    Ok(resolve(alloc, doc, kinds)?)
 }
 
 /// What the document says under the kinds that it declares itself.
-pub fn read_alone(alloc: Global, doc: &Document) -> Result<Saying<'_>, ReverseFault>
+pub fn read_alone(alloc: Global, doc: &Document) -> Result<Saying<'_>, UnsaidFault>
     ensures said { IfOk result (λ saying. SaysAlone (parsed_of doc.now) (said_in saying)) }
     ensures fault { IfErr result (λ fault.
         fault ≢ Memory → IsUnsaidAlone (parsed_of doc.now) fault) }

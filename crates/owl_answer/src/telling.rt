@@ -9,7 +9,7 @@ ghost use Rattle.owl_documents.specs.Documents.{Parsed, said_of};
 ghost use Rattle.owl_writing.specs.Tables.{declared_prefixes};
 ghost use Rattle.owl_answer.specs.Answers.{IsInTurtle, IsToldOf, IsToldOfMain};
 ghost use Rattle.owl_answer.specs.Outcome.{IsSuccess};
-ghost use Rattle.owl_answer.specs.Reading.{IsReadAs, is_graph};
+ghost use Rattle.owl_answer.specs.Reading.{IsReadAs, asks_types};
 ghost use Rattle.owl_answer.specs.TurtleOutcome.{IsFunctionalTranslation};
 ghost use Rattle.owl_messages.specs.Answers.{outcome_of};
 ghost use Rattle.owl_messages.specs.Outcome.{IsLimited, shown, translation};
@@ -31,20 +31,18 @@ use std::alloc::Global;
 pub fn tell_closure(
     alloc: Global,
     action: Action,
-    from_graph: bool,
+    asks: bool,
     closure: Closure,
     said: Vec<Doc>,
 ) -> Result<Answer, NoMemory>
     requires some { 0 < length said.items }
     requires each { length closure.places.items ≡ length said.items }
     ensures { IfOk result (λ answer. (documents : List Parsed)
-        → IsReadAs documents closure said.items from_graph
+        → IsReadAs documents closure said.items asks
         → IsToldOf action documents (outcome_of answer)) }
 {
     match action {
-        Action::Translate(target) => {
-            translate(alloc, target, from_graph, &closure.kinds, &said[0])
-        }
+        Action::Translate(target) => { translate(alloc, target, asks, &closure.kinds, &said[0]) }
         Action::Check(profile) => check(alloc, profile, closure, said),
         Action::Show => show(alloc, &said[0]),
     }
@@ -54,16 +52,16 @@ pub fn tell_closure(
 fn translate(
     alloc: Global,
     target: Target,
-    from_graph: bool,
+    asks: bool,
     kinds: &Kinds,
     main: &Doc,
 ) -> Result<Answer, NoMemory>
     ensures { IfOk result (λ answer. (documents : List Parsed) (parsed : Parsed)
-        → is_graph parsed ≡ from_graph → IsToldOfMain (Action.Translate target) documents parsed
+        → asks_types parsed ≡ asks → IsToldOfMain (Action.Translate target) documents parsed
         kinds.now (said_of main.now) (outcome_of answer)) }
 {
     match target {
-        Target::Fss => translate_in_functional(alloc, from_graph, kinds, main),
+        Target::Fss => translate_in_functional(alloc, asks, kinds, main),
         Target::Ttl => translate_in_turtle(alloc, kinds, main),
     }
 }
@@ -72,22 +70,22 @@ fn translate(
 /// what is written in it no more than was written.
 fn translate_in_functional(
     alloc: Global,
-    from_graph: bool,
+    asks: bool,
     kinds: &Kinds,
     main: &Doc,
 ) -> Result<Answer, NoMemory>
     ensures { IfOk result (λ answer. (documents : List Parsed) (parsed : Parsed)
-        → is_graph parsed ≡ from_graph → IsToldOfMain (Action.Translate Target.Fss) documents
+        → asks_types parsed ≡ asks → IsToldOfMain (Action.Translate Target.Fss) documents
         parsed kinds.now (said_of main.now) (outcome_of answer)) }
 {
-    if from_graph {
+    if asks {
         translate_typed(alloc, kinds, main)
     } else {
         translate_to_functional(alloc, main)
     }
 }
 
-/// The translation of what a graph says to Functional-Style Syntax.
+/// The translation of what another document says to Functional-Style Syntax.
 fn translate_typed(alloc: Global, kinds: &Kinds, main: &Doc) -> Result<Answer, NoMemory>
     ensures outcome { IfOk result (λ answer.
         IsFunctionalTranslation kinds.now (said_of main.now) (outcome_of answer)) }

@@ -17,9 +17,13 @@ pub record EndsIn (suffix name : List ℕ) : Type 0 where
   pub some : 0 < length front
   pub ends : name ≡ front ++ suffix
 
--- A document's name: it doesn't begin with `-`, and ends in `.ofn` (Functional-Style Syntax) or `.ttl` (Turtle).
+-- it ends in `.ofn` (Functional-Style Syntax), `.ttl` (Turtle) or `.omn` (Manchester Syntax)
+abbrev pub HasSuffix : List ℕ → Type 0
+HasSuffix name = EndsIn (codes ".ofn") name ⊎ (EndsIn (codes ".ttl") name ⊎ EndsIn (codes ".omn") name)
+
+-- a document's name, which doesn't begin with `-`
 pub record IsName (name : List ℕ) : Type 0 where
-  pub suffix : EndsIn (codes ".ofn") name ⊎ EndsIn (codes ".ttl") name
+  pub suffix : HasSuffix name
   pub no_flag : (rest : List ℕ) → name ≢ codes "-" ++ rest
 
 -- the name is one of these

@@ -3,7 +3,7 @@
 ghost use Rattle.std.specs.Prelude.{◌≡◌, ◌↔◌, map, string_bytes, IsTrue, IfOk};
 ghost use Rattle.std.specs.List.{AllByRecursion};
 ghost use Rattle.std.specs.Str.{encode_utf8_all};
-ghost use Rattle.owl_command.specs.Commands.{AreDistinct, AreNames, EndsIn, IsAmong, IsName};
+ghost use Rattle.owl_command.specs.Commands.{AreDistinct, AreNames, EndsIn, HasSuffix, IsAmong, IsName};
 
 use owl_characters::{NoMemory, Text};
 use std::alloc::{AllocError, Global};
@@ -11,12 +11,19 @@ use std::alloc::{AllocError, Global};
 /// The most documents that words name.
 const MOST_NAMES: usize = 64;
 
-/// Whether a word is a document's name: it ends in `.ofn` or `.ttl`, behind at
-/// least one character, and doesn't begin with `-`.
+/// Whether a word ends in the suffix of a syntax, behind at least one character.
+fn has_suffix(word: &str) -> bool
+    ensures { IsTrue result ↔ HasSuffix word.now }
+{
+    ends_in(word, ".ofn") || ends_in(word, ".ttl") || ends_in(word, ".omn")
+}
+
+/// Whether a word is a document's name: it ends in the suffix of a syntax, and
+/// doesn't begin with `-`.
 fn is_name(word: &str) -> bool
     ensures { IsTrue result ↔ IsName word.now }
 {
-    (ends_in(word, ".ofn") || ends_in(word, ".ttl")) && !word.starts_with('-')
+    has_suffix(word) && !word.starts_with('-')
 }
 
 /// Whether a word ends in the suffix, behind at least one character.

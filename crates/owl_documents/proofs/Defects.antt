@@ -7,18 +7,22 @@ use Rattle.owl_tree.specs.Ontologies.{IsSameOntology, Ontology}
 use Rattle.owl_reader.specs.declared.fault.ReadFault.{ReadFault}
 use Rattle.fss_defects.specs.FirstDefects as fss
 use Rattle.fss_terms.specs.Functional.{ReadsFunctional}
+use Rattle.man_grammar.specs.Documents as man
+use Rattle.man_grammar.specs.Documents.{AreSameDocuments, ReadsManchester}
+use Rattle.man_raw.specs.Documents.{DocumentTree}
+use Rattle.owl_atom.specs.PrefixLaws.{tables_are_told_by_names}
 use Rattle.rdf_graph.specs.declared.triple.Triple.{Triple}
 use Rattle.rdf_meaning.specs.Statements.{IsHeadOf, headers}
 use Rattle.rdf_scans.specs.Outlines.{IsOutlineFault}
 use Rattle.ttl_grammar.specs.Documents as ttl
 use Rattle.ttl_grammar.specs.Documents.{ReadsTurtle}
-use Rattle.owl_documents.specs.Documents.{GraphRead, IsDefect, Parsed, Reads, ReadsGraph, a_graph, an_ontology, of_functional, of_header, of_turtle}
+use Rattle.owl_documents.specs.Documents.{GraphRead, IsDefect, Parsed, Reads, ReadsFrames, ReadsGraph, a_graph, an_ontology, of_functional, of_header, of_manchester, of_turtle, the_frames}
 use Rattle.owl_documents.specs.OneWay.{IsSameGraph, IsSameParsed}
 use Rattle.owl_documents.specs.declared.trouble.Refusal.{Refusal}
 use Rattle.owl_documents.specs.declared.trouble.Refusal.TheVariants.{Headless, Unreadable}
 use Rattle.owl_documents.proofs.Graphs.{no_fault, one_fault, same_head, same_tables}
 
--- what the grammars tell of both syntaxes
+-- what the grammars tell of all syntaxes
 pub record GrammarLaws : Type 0 where
   pub functional : (bytes : List ℕ) (p q : List Prefix) (o u : Ontology) → ReadsFunctional bytes p o → ReadsFunctional bytes q u → (p ≡ q) × IsSameOntology o u
   pub no_functional : (bytes : List ℕ) (fault : ReadFault) (p : List Prefix) (o : Ontology) → fss.IsFirstDefect bytes fault → ReadsFunctional bytes p o → ⊥
@@ -26,8 +30,17 @@ pub record GrammarLaws : Type 0 where
   pub turtle : (bytes : List ℕ) (p q : List Prefix) (g h : List Triple) → ReadsTurtle bytes p g → ReadsTurtle bytes q h → (g ≡ h) × ((name : List ℕ) → iri_of p name ≡ iri_of q name)
   pub no_turtle : (bytes : List ℕ) (fault : ReadFault) (p : List Prefix) (g : List Triple) → ttl.IsFirstDefect bytes fault → ReadsTurtle bytes p g → ⊥
   pub turtle_defect : (bytes : List ℕ) (fault other : ReadFault) → length bytes ≤ most_bytes → ttl.IsFirstDefect bytes fault → ttl.IsFirstDefect bytes other → fault ≡ other
+  pub manchester : (bytes : List ℕ) (d e : DocumentTree) → ReadsManchester bytes d → ReadsManchester bytes e → AreSameDocuments d e
+  pub no_manchester : (bytes : List ℕ) (fault : ReadFault) (d : DocumentTree) → man.IsFirstDefect bytes fault → ReadsManchester bytes d → ⊥
+  pub manchester_defect : (bytes : List ℕ) (fault other : ReadFault) → length bytes ≤ most_bytes → man.IsFirstDefect bytes fault → man.IsFirstDefect bytes other → fault ≡ other
 
 module _ (laws : GrammarLaws) where
+  same_frames : (bytes : List ℕ) (d e : DocumentTree) → ReadsFrames bytes d → ReadsFrames bytes e → d ≡ e
+  same_frames bytes d e r s =
+      let one = laws.manchester bytes d e r.reads s.reads in
+      let prefixes = tables_are_told_by_names d.prefixes e.prefixes r.ascending s.ascending one.prefixes in
+      λ i. record { head = one.head i; prefixes = prefixes i; notes = one.notes i; items = one.items i }
+
   same_graph : (bytes : List ℕ) (a b : GraphRead) → ReadsGraph bytes a → ReadsGraph bytes b → IsSameGraph a b
   same_graph bytes a b r s =
       let one = laws.turtle bytes a.prefixes b.prefixes a.triples b.triples r.reads s.reads in
@@ -44,12 +57,23 @@ module _ (laws : GrammarLaws) where
   same_parsed name bytes (an_ontology a) (a_graph b) r s = let no = r.0 in let yes = s.0 in cc
   same_parsed name bytes (a_graph a) (an_ontology b) r s = let yes = r.0 in let no = s.0 in cc
   same_parsed name bytes (a_graph a) (a_graph b) r s = same_graph bytes a b r.1 s.1
+  same_parsed name bytes (the_frames a) (the_frames b) r s = same_frames bytes a b r.1 s.1
+  same_parsed name bytes (an_ontology a) (the_frames b) r s = let one = r.0 in let other = s.0 in cc
+  same_parsed name bytes (a_graph a) (the_frames b) r s = let one = r.0 in let other = s.0 in cc
+  same_parsed name bytes (the_frames a) (an_ontology b) r s = let one = r.0 in let other = s.0 in cc
+  same_parsed name bytes (the_frames a) (a_graph b) r s = let one = r.0 in let other = s.0 in cc
 
   pub no_defect : (name bytes : List ℕ) (parsed : Parsed) (refusal : Refusal) → Reads name bytes parsed → IsDefect name bytes refusal → ⊥
   no_defect name bytes (an_ontology a) _ r (of_functional fault t d) = laws.no_functional bytes fault a.prefixes a.ontology d r.1
   no_defect name bytes (an_ontology a) _ r (of_turtle fault t d) = let f = r.0 in cc
   no_defect name bytes (an_ontology a) _ r (of_header fault p g t s m f) = let n = r.0 in cc
+  no_defect name bytes (an_ontology a) _ r (of_manchester fault t d) = let f = r.0 in cc
   no_defect name bytes (a_graph a) _ r (of_functional fault t d) = let y = r.0 in cc
+  no_defect name bytes (a_graph a) _ r (of_manchester fault t d) = let y = r.0 in cc
+  no_defect name bytes (the_frames a) _ r (of_functional fault t d) = let m = r.0 in cc
+  no_defect name bytes (the_frames a) _ r (of_turtle fault t d) = let m = r.0 in cc
+  no_defect name bytes (the_frames a) _ r (of_manchester fault t d) = laws.no_manchester bytes fault a d r.1.reads
+  no_defect name bytes (the_frames a) _ r (of_header fault p g t s m f) = let n = r.0 in cc
   no_defect name bytes (a_graph a) _ r (of_turtle fault t d) = laws.no_turtle bytes fault a.prefixes a.triples d r.1.reads
   no_defect name bytes (a_graph a) _ r (of_header fault p g t s m f) =
       let same = (laws.turtle bytes p a.prefixes g a.triples s r.1.reads).0 in
@@ -59,7 +83,14 @@ module _ (laws : GrammarLaws) where
   one_defect name bytes _ _ few (of_functional fault t d) (of_functional other u e) = ap Unreadable (laws.functional_defect bytes fault other few d e)
   one_defect name bytes _ _ few (of_functional fault t d) (of_turtle other u e) = absurd (cc)
   one_defect name bytes _ _ few (of_functional fault t d) (of_header other p g u s m f) = absurd (cc)
+  one_defect name bytes _ _ few (of_functional fault t d) (of_manchester other u e) = absurd (cc)
   one_defect name bytes _ _ few (of_turtle fault t d) (of_functional other u e) = absurd (cc)
+  one_defect name bytes _ _ few (of_turtle fault t d) (of_manchester other u e) = absurd (cc)
+  one_defect name bytes _ _ few (of_manchester fault t d) (of_functional other u e) = absurd (cc)
+  one_defect name bytes _ _ few (of_manchester fault t d) (of_turtle other u e) = absurd (cc)
+  one_defect name bytes _ _ few (of_manchester fault t d) (of_manchester other u e) = ap Unreadable (laws.manchester_defect bytes fault other few d e)
+  one_defect name bytes _ _ few (of_manchester fault t d) (of_header other p g u s m f) = absurd (cc)
+  one_defect name bytes _ _ few (of_header fault p g t s m f) (of_manchester other u e) = absurd (cc)
   one_defect name bytes _ _ few (of_turtle fault t d) (of_turtle other u e) = ap Unreadable (laws.turtle_defect bytes fault other few d e)
   one_defect name bytes _ _ few (of_turtle fault t d) (of_header other p g u s m f) = absurd (laws.no_turtle bytes fault p g d s)
   one_defect name bytes _ _ few (of_header fault p g t s m f) (of_functional other u e) = absurd (cc)

@@ -1,5 +1,5 @@
 -- What a document is read as, and why it is not.
-use Rattle.std.proofs.Common.{Result, Ok, Err, IfErr, ◌≡◌, ◌≢◌, ◌<◌, ◌≤◌, ◌+◌, ℕ, Bool, true, Option, None, Some, List, [], ◌++◌, length, take, refl, sym, ap, ◌∙◌, subst, arith}
+use Rattle.std.proofs.Common.{Result, Ok, Err, IfErr, ◌≡◌, ◌≢◌, ◌<◌, ◌≤◌, ◌+◌, ℕ, Option, None, Some, List, [], ◌++◌, length, take, refl, sym, ap, ◌∙◌, subst, arith}
 use Rattle.std.specs.Result.{IsErrAnd}
 use Rattle.std.proofs.lemmas.List.{append_assoc, length-append, length-take-le, take-append-le}
 use Rattle.owl_atom.specs.declared.prefixes.Prefix.{Prefix}
@@ -13,8 +13,10 @@ use Rattle.rdf_scans.specs.Outlines.{IsOutlineFault}
 use Rattle.rdf_scans.specs.declared.fault.OutlineFault.{OutlineFault}
 use Rattle.rdf_scans.specs.declared.fault.OutlineFault.TheVariants as outline
 use Rattle.ttl_grammar.specs.Documents.{ReadsTurtle}
-use Rattle.owl_documents.specs.Documents.{AreFew, Contents, IsDefect, IsRefused, defective, is_turtle, of_header, IsProperRefusal}
+use Rattle.owl_documents.specs.Documents.{AreFew, Contents, IsDefect, IsRefused, defective, of_header, syntax_of, IsProperRefusal}
 use Rattle.owl_documents.specs.Reading.{IsDefectUnder, IsLimit, IsLonger, IsProper, IsTroubleOf, IsTroubleOfShelf, failed, no_memory, too_long, trouble_of, trouble_of_header}
+use Rattle.owl_documents.specs.declared.document.Syntax.{Syntax}
+use Rattle.owl_documents.specs.declared.document.Syntax.TheVariants.{Turtle}
 use Rattle.owl_documents.specs.declared.trouble.Refusal.{Refusal}
 use Rattle.owl_documents.specs.declared.trouble.Refusal.TheVariants.{DocumentBytes, AllBytes, Headless, Unreadable}
 use Rattle.owl_documents.specs.declared.trouble.Trouble.{Trouble}
@@ -91,8 +93,8 @@ module _ {T Fault : Type 0} (trouble : Fault → Trouble) (r : Result T Trouble)
   not_failed n f = n (sym (subst (λ (x : Result T Trouble). IsErrAnd x (λ y. y ≡ trouble fault)) f refused))
 
 module _ {T : Type 0} (r : Result T Trouble) (fault : ReadFault) (refused : IsErrAnd r (λ y. y ≡ trouble_of fault)) where
-  pub reader_defect : (turtle : Bool) (Fed : List ℕ → Type 0) → (fault ≢ read.Memory → (bytes : List ℕ) → Fed bytes → (name : List ℕ) → is_turtle name ≡ turtle → IsDefect name bytes (Unreadable fault)) → IfErr r (λ trouble. (bytes : List ℕ) → Fed bytes → IsDefectUnder turtle bytes trouble)
-  reader_defect turtle Fed d = by_fault trouble_of r fault refused (λ trouble. (bytes : List ℕ) → Fed bytes → IsDefectUnder turtle bytes trouble) (λ bytes fed refusal is name t.
+  pub reader_defect : (syntax : Syntax) (Fed : List ℕ → Type 0) → (fault ≢ read.Memory → (bytes : List ℕ) → Fed bytes → (name : List ℕ) → syntax_of name ≡ syntax → IsDefect name bytes (Unreadable fault)) → IfErr r (λ trouble. (bytes : List ℕ) → Fed bytes → IsDefectUnder syntax bytes trouble)
+  reader_defect syntax Fed d = by_fault trouble_of r fault refused (λ trouble. (bytes : List ℕ) → Fed bytes → IsDefectUnder syntax bytes trouble) (λ bytes fed refusal is name t.
       let told = refusal_of fault refusal is in
       subst (IsDefect name bytes) (sym told.0) (d told.1 bytes fed name t))
 
@@ -105,8 +107,8 @@ module _ {T : Type 0} (r : Result T Trouble) (fault : ReadFault) (refused : IsEr
   reader_never_failed = not_failed trouble_of r fault refused (never_failed fault)
 
 module _ {T : Type 0} (r : Result T Trouble) (fault : OutlineFault) (refused : IsErrAnd r (λ y. y ≡ trouble_of_header fault)) where
-  pub header_defect : (Fed : List ℕ → Type 0) (prefixes : List Prefix) (triples : List Triple) → ((bytes : List ℕ) → Fed bytes → ReadsTurtle bytes prefixes triples) → IsOutlineFault triples fault → IfErr r (λ trouble. (bytes : List ℕ) → Fed bytes → IsDefectUnder true bytes trouble)
-  header_defect Fed prefixes triples reads f = by_fault trouble_of_header r fault refused (λ trouble. (bytes : List ℕ) → Fed bytes → IsDefectUnder true bytes trouble) (λ bytes fed refusal is name t.
+  pub header_defect : (Fed : List ℕ → Type 0) (prefixes : List Prefix) (triples : List Triple) → ((bytes : List ℕ) → Fed bytes → ReadsTurtle bytes prefixes triples) → IsOutlineFault triples fault → IfErr r (λ trouble. (bytes : List ℕ) → Fed bytes → IsDefectUnder Turtle bytes trouble)
+  header_defect Fed prefixes triples reads f = by_fault trouble_of_header r fault refused (λ trouble. (bytes : List ℕ) → Fed bytes → IsDefectUnder Turtle bytes trouble) (λ bytes fed refusal is name t.
       let told = header_refusal_of fault refusal is in
       subst (IsDefect name bytes) (sym told.0) (of_header fault prefixes triples t (reads bytes fed) told.1 f))
 
@@ -119,8 +121,8 @@ module _ {T : Type 0} (r : Result T Trouble) (fault : OutlineFault) (refused : I
   header_not_failed = not_failed trouble_of_header r fault refused (header_never_failed fault)
 
 -- the document under a name has the defect of its bytes
-pub defect_trouble : (contents : Contents) (before : ℕ) (turtle : Bool) (name bytes : List ℕ) (trouble : Trouble) → is_turtle name ≡ turtle → contents name ≡ Some bytes → AreFew before (length bytes) → IsDefectUnder turtle bytes trouble → IsTroubleOf contents before name trouble
-defect_trouble contents before turtle name bytes trouble t there few d = λ refusal is.
+pub defect_trouble : (contents : Contents) (before : ℕ) (syntax : Syntax) (name bytes : List ℕ) (trouble : Trouble) → syntax_of name ≡ syntax → contents name ≡ Some bytes → AreFew before (length bytes) → IsDefectUnder syntax bytes trouble → IsTroubleOf contents before name trouble
+defect_trouble contents before syntax name bytes trouble t there few d = λ refusal is.
     record { bytes = bytes; there = there; refused = defective few (d refusal is name t) }
 
 -- what a shelf refuses

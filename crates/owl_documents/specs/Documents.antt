@@ -1,5 +1,5 @@
 -- Documents as they stand under their names, and what they say.
-use Rattle.std.specs.Prelude.{◌≡◌, ◌≢◌, ◌<◌, ◌≤◌, ◌+◌, ◌^◌, ◌⊎◌, ℕ, Bool, true, false, nat_eq, Option, Some, List, [], ◌∷◌, codes, length}
+use Rattle.std.specs.Prelude.{◌≡◌, ◌≢◌, ◌<◌, ◌≤◌, ◌+◌, ◌^◌, ◌⊎◌, ℕ, nat_eq, Option, Some, List, [], ◌∷◌, codes, length, if◌then◌else◌}
 use Rattle.std.specs.List.{ends_with}
 use Rattle.owl_characters.specs.Limit.{most_bytes}
 use Rattle.owl_atom.specs.Prefixes.{AreAscending}
@@ -12,6 +12,11 @@ use Rattle.owl_kind.specs.declared.kind.Kind.{Kind}
 use Rattle.owl_reader.specs.declared.fault.ReadFault.{ReadFault}
 use Rattle.owl_tree.specs.Ontologies.{Head, IsSameOntology, Ontology}
 use Rattle.fss_defects.specs.FirstDefects as fss
+use Rattle.man_grammar.specs.Documents as man
+use Rattle.man_grammar.specs.Documents.{ReadsManchester}
+use Rattle.man_raw.specs.Documents.{DocumentTree}
+use Rattle.man_resolve.specs.Items as frames
+use Rattle.man_resolve.specs.Items.{frame_entities}
 use Rattle.fss_terms.specs.Functional.{ReadsFunctional}
 use Rattle.rdf_graph.specs.declared.term.Term.{Term}
 use Rattle.rdf_graph.specs.declared.triple.Triple.{Triple}
@@ -25,6 +30,8 @@ use Rattle.ttl_read.specs.NameTables.{ArePlain}
 use Rattle.owl_documents.specs.declared.document.Document.{Document}
 use Rattle.owl_documents.specs.declared.document.Document.TheVariants as document
 use Rattle.owl_documents.specs.declared.document.GraphDocument.{GraphDocument}
+use Rattle.owl_documents.specs.declared.document.Syntax.{Syntax}
+use Rattle.owl_documents.specs.declared.document.Syntax.TheVariants.{Functional, Turtle, Manchester}
 use Rattle.owl_documents.specs.declared.trouble.Refusal.{Refusal}
 use Rattle.owl_documents.specs.declared.trouble.Refusal.TheVariants.{DocumentBytes, AllBytes, Unreadable, Headless}
 use Rattle.owl_reader.specs.declared.fault.ReadFault.TheVariants as read
@@ -49,24 +56,28 @@ pub record GraphRead : Type 0 where
   pub triples : List Triple
   pub head : Head
 
--- What is read of a document before the kinds of IRIs are known: what it says, or a graph with the head that its header gives.
+-- What is read of a document before the kinds of IRIs are known: what it says, a graph with the head that its header gives, or frames.
 pub data Parsed : Type 0 where
   an_ontology : Said → Parsed
   a_graph : GraphRead → Parsed
+  the_frames : DocumentTree → Parsed
 
 -- how the document's ontology is called, and what it imports
 abbrev pub head_in : Parsed → Head
 head_in (an_ontology said) = said.ontology.head
 head_in (a_graph read) = read.head
+head_in (the_frames d) = frames.head_in d.head
 
 -- the document declares the IRI as this kind
 abbrev pub DeclaresAs : Parsed → Kind → List ℕ → Type 0
 DeclaresAs (an_ontology said) kind iri = Declares said.ontology kind iri
 DeclaresAs (a_graph read) kind iri = IsDeclared (declarations read.triples) kind iri
+DeclaresAs (the_frames d) kind iri = IsDeclared (frame_entities d) kind iri
 
--- the suffix of the name tells that the document is Turtle; else it is Functional-Style Syntax
-abbrev pub is_turtle : List ℕ → Bool
-is_turtle name = ends_with nat_eq name (codes ".ttl")
+-- The suffix of the name tells the syntax.
+abbrev pub syntax_of : List ℕ → Syntax
+syntax_of name =
+    if ends_with nat_eq name (codes ".ttl") then Turtle else (if ends_with nat_eq name (codes ".omn") then Manchester else Functional)
 
 -- The bytes are a document in Turtle with this graph and these prefixes, whose header gives this head.
 pub record ReadsGraph (bytes : List ℕ) (read : GraphRead) : Type 0 where
@@ -77,16 +88,23 @@ pub record ReadsGraph (bytes : List ℕ) (read : GraphRead) : Type 0 where
   pub one_header : headers read.triples ≡ header ∷ []
   pub is_head : IsHeadOf read.triples header read.head
 
+-- The bytes are a document in Manchester Syntax, with these prefixes.
+pub record ReadsFrames (bytes : List ℕ) (d : DocumentTree) : Type 0 where
+  pub reads : ReadsManchester bytes d
+  pub ascending : AreAscending d.prefixes
+
 -- the bytes under this name are read as this
 abbrev pub Reads : List ℕ → List ℕ → Parsed → Type 0
-Reads name bytes (an_ontology said) = (is_turtle name ≡ false) × ReadsFunctional bytes said.prefixes said.ontology
-Reads name bytes (a_graph read) = (is_turtle name ≡ true) × ReadsGraph bytes read
+Reads name bytes (an_ontology said) = (syntax_of name ≡ Functional) × ReadsFunctional bytes said.prefixes said.ontology
+Reads name bytes (a_graph read) = (syntax_of name ≡ Turtle) × ReadsGraph bytes read
+Reads name bytes (the_frames d) = (syntax_of name ≡ Manchester) × ReadsFrames bytes d
 
 -- What is wrong with the bytes under this name: the first defect by the grammar of their syntax, or what is wrong with the header of the graph.
 pub data IsDefect (name bytes : List ℕ) : Refusal → Type 0 where
-  of_functional : (fault : ReadFault) → is_turtle name ≡ false → fss.IsFirstDefect bytes fault → IsDefect name bytes (Unreadable fault)
-  of_turtle : (fault : ReadFault) → is_turtle name ≡ true → ttl.IsFirstDefect bytes fault → IsDefect name bytes (Unreadable fault)
-  of_header : (fault : OutlineFault) (prefixes : List Prefix) (triples : List Triple) → is_turtle name ≡ true → ReadsTurtle bytes prefixes triples →
+  of_functional : (fault : ReadFault) → syntax_of name ≡ Functional → fss.IsFirstDefect bytes fault → IsDefect name bytes (Unreadable fault)
+  of_turtle : (fault : ReadFault) → syntax_of name ≡ Turtle → ttl.IsFirstDefect bytes fault → IsDefect name bytes (Unreadable fault)
+  of_manchester : (fault : ReadFault) → syntax_of name ≡ Manchester → man.IsFirstDefect bytes fault → IsDefect name bytes (Unreadable fault)
+  of_header : (fault : OutlineFault) (prefixes : List Prefix) (triples : List Triple) → syntax_of name ≡ Turtle → ReadsTurtle bytes prefixes triples →
       fault ≢ outline.Memory → IsOutlineFault triples fault → IsDefect name bytes (Headless fault)
 
 -- the most bytes of all documents together
@@ -149,6 +167,7 @@ graph_read_of d = record { prefixes = d.prefixes; triples = d.graph; head = head
 abbrev pub parsed_of : Document → Parsed
 parsed_of (document.Ontology d) = an_ontology (said_of d)
 parsed_of (document.Graph d) = a_graph (graph_read_of d)
+parsed_of (document.Frames d) = the_frames d
 
 -- a refusal that is no want of memory
 abbrev pub IsProperRefusal : Refusal → Type 0

@@ -1,7 +1,7 @@
 -- Documents are read in one way, or refused in one way.
 use Rattle.std.specs.Prelude.{◌≡◌, ℕ, List, [], ◌∷◌}
 use Rattle.owl_tree.specs.Ontologies.{IsSameHead}
-use Rattle.owl_documents.specs.Documents.{AreRead, Contents, GraphRead, IsFirstRefused, IsSame, Parsed, an_ontology, a_graph}
+use Rattle.owl_documents.specs.Documents.{AreRead, Contents, GraphRead, IsFirstRefused, IsSame, Parsed, an_ontology, a_graph, the_frames}
 use Rattle.owl_documents.specs.declared.trouble.Refusal.{Refusal}
 
 -- the same graph, with the same prefixes and the same head
@@ -13,8 +13,8 @@ pub record IsSameGraph (a b : GraphRead) : Type 0 where
 abbrev pub IsSameParsed : Parsed → Parsed → Type 0
 IsSameParsed (an_ontology a) (an_ontology b) = IsSame a b
 IsSameParsed (a_graph a) (a_graph b) = IsSameGraph a b
-IsSameParsed (an_ontology a) (a_graph b) = ⊥
-IsSameParsed (a_graph a) (an_ontology b) = ⊥
+IsSameParsed (the_frames d) (the_frames e) = d ≡ e
+IsSameParsed a b = ⊥
 
 -- one by one the same
 abbrev pub AreSame : List Parsed → List Parsed → Type 0

@@ -1,5 +1,5 @@
 -- What comes of reading documents from a shelf.
-use Rattle.std.specs.Prelude.{◌≡◌, ◌<◌, ℕ, Bool, IsTrue, List, Option, Some, length, slice_get}
+use Rattle.std.specs.Prelude.{◌≡◌, ◌<◌, ℕ, IsTrue, List, Option, Some, length, slice_get}
 use Rattle.owl_port.specs.Outside.{SameElsewhere}
 use Rattle.owl_reader.specs.declared.fault.ReadFault.{ReadFault}
 use Rattle.owl_reader.specs.declared.fault.ReadFault.TheVariants as read
@@ -8,8 +8,9 @@ use Rattle.rdf_scans.specs.declared.fault.OutlineFault.TheVariants as outline
 use Rattle.owl_command.specs.Commands.{Request, names_of}
 use Rattle.owl_port.specs.declared.whole.ReadFault as port
 use Rattle.owl_port.specs.declared.whole.ReadFault.TheVariants as pf
-use Rattle.owl_documents.specs.Documents.{AreFew, Contents, IsDefect, IsFirstRefused, IsRead, IsRefused, IsRefusedAt, Parsed, Reads, is_turtle, parsed_of, IsProperRefusal}
+use Rattle.owl_documents.specs.Documents.{AreFew, Contents, IsDefect, IsFirstRefused, IsRead, IsRefused, IsRefusedAt, Parsed, Reads, parsed_of, syntax_of, IsProperRefusal}
 use Rattle.owl_documents.specs.Shelves.{IsFaulty, IsFirstFaulty, IsFrontTaken, Rises, Shelves}
+use Rattle.owl_documents.specs.declared.document.Syntax.{Syntax}
 use Rattle.owl_documents.specs.declared.reading.Read.{Read}
 use Rattle.owl_documents.specs.declared.trouble.Refusal.{Refusal}
 use Rattle.owl_documents.specs.declared.trouble.Refusal.TheVariants.{DocumentBytes, AllBytes, Unreadable, Headless}
@@ -77,13 +78,13 @@ pub record IsReadAs (contents : Contents) (before : ℕ) (name : List ℕ) (read
   pub size : read.size ≡ length bytes
 
 -- Bytes that are refused so, under each name of this syntax, where they are refused.
-abbrev pub IsDefectUnder : Bool → List ℕ → Trouble → Type 0
-IsDefectUnder turtle bytes trouble =
-    (refusal : Refusal) → trouble ≡ Refused refusal → (name : List ℕ) → is_turtle name ≡ turtle → IsDefect name bytes refusal
+abbrev pub IsDefectUnder : Syntax → List ℕ → Trouble → Type 0
+IsDefectUnder syntax bytes trouble =
+    (refusal : Refusal) → trouble ≡ Refused refusal → (name : List ℕ) → syntax_of name ≡ syntax → IsDefect name bytes refusal
 
 -- Bytes that are read so under each name of this syntax.
-abbrev pub AreReadUnder : Bool → List ℕ → Parsed → Type 0
-AreReadUnder turtle bytes parsed = (name : List ℕ) → is_turtle name ≡ turtle → Reads name bytes parsed
+abbrev pub AreReadUnder : Syntax → List ℕ → Parsed → Type 0
+AreReadUnder syntax bytes parsed = (name : List ℕ) → syntax_of name ≡ syntax → Reads name bytes parsed
 
 -- a refusal is the document's
 abbrev pub IsTroubleOf : Contents → ℕ → List ℕ → Trouble → Type 0

@@ -1,8 +1,17 @@
 //! Documents that were read.
 
+use man_raw::RawDoc;
 use owl_atom::Prefixes;
 use owl_doc::{Doc, Head};
 use rdf_graph::Graph;
+
+/// The syntax of a document.
+#[derive(Clone, Copy, Debug, PartialEq, Eq)]
+pub enum Syntax {
+    Functional,
+    Turtle,
+    Manchester,
+}
 
 /// A document that was read, before the kinds of IRIs are known.
 #[derive(Drop)]
@@ -11,6 +20,8 @@ pub enum Document {
     Ontology(Doc),
     /// Of Turtle.
     Graph(GraphDocument),
+    /// Of Manchester Syntax.
+    Frames(RawDoc),
 }
 
 /// A graph, with the prefixes that its document leaves and the head of the

@@ -15,4 +15,7 @@ pub fn documents_are_read_one_way()
     ttl_grammar::documents_are_read_one_way();
     ttl_grammar::defects_are_of_no_document();
     ttl_grammar::one_first_defect();
+    man_grammar::documents_are_read_one_way();
+    man_grammar::defects_are_of_no_document();
+    man_grammar::one_first_defect();
 }

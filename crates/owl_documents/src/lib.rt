@@ -9,7 +9,7 @@ mod readers;
 mod reading;
 mod trouble;
 
-pub use document::{Document, GraphDocument};
+pub use document::{Document, GraphDocument, Syntax};
 pub use documents::read_documents;
 pub use laws::documents_are_read_one_way;
 pub use trouble::{Refusal, Stop, Trouble};

@@ -2,11 +2,11 @@
 
 ghost use Rattle.std.specs.Prelude.{◌≡◌, ◌≢◌, ◌≤◌, ◌+◌, Some, Err, [], IsTrue, IfOk, IfErr, OnOk};
 ghost use Rattle.owl_port.specs.Outside.{Rose};
-ghost use Rattle.owl_documents.specs.Documents.{is_turtle, most_bytes_of_all};
+ghost use Rattle.owl_documents.specs.Documents.{most_bytes_of_all, syntax_of};
 ghost use Rattle.owl_documents.specs.Reading.{IsFed, IsLonger, IsProper, IsReadAs, IsTakenAlone, IsTroubleOf, IsTroubleOfShelf};
 ghost use Rattle.owl_characters.specs.Limit.{most_bytes};
 
-use crate::document::Document;
+use crate::document::{Document, Syntax};
 use crate::limits::{limit_behind, room_behind};
 use crate::readers::DocumentReader;
 use crate::trouble::Trouble;
@@ -81,7 +81,7 @@ fn read_in<R: DocumentReader, S: Shelf>(
     before: u64,
     shelf: &mut S,
 ) -> Result<Read, Trouble>
-    requires syntax { is_turtle name.now ≡ R.turtle }
+    requires syntax { syntax_of name.now ≡ R.syntax }
     requires before { before ≤ most_bytes_of_all }
     ensures told { S.tells shelf.new ≡ S.tells shelf.old }
     ensures read { IsTrue (S.tells shelf.old) → IfOk result (IsReadAs (S.left shelf.old) before name.now) }
@@ -107,11 +107,17 @@ fn read_in<R: DocumentReader, S: Shelf>(
     }
 }
 
-/// Whether the name is that of a document in Turtle.
-fn is_turtle(name: &str) -> bool
-    ensures { result ≡ is_turtle name.now }
+/// The syntax that the suffix of a name tells.
+fn syntax_of(name: &str) -> Syntax
+    ensures { result ≡ syntax_of name.now }
 {
-    name.ends_with(".ttl")
+    if name.ends_with(".ttl") {
+        Syntax::Turtle
+    } else if name.ends_with(".omn") {
+        Syntax::Manchester
+    } else {
+        Syntax::Functional
+    }
 }
 
 /// Reads the document under this name to its end, in the syntax that its suffix
@@ -133,9 +139,9 @@ pub fn read_document<S: Shelf>(
         (record { tells = S.tells shelf.old; old = S.left shelf.old; new = S.left shelf.new; faults = S.faults shelf.old; later = S.faults shelf.new }) }
     ensures failed { result ≡ Err Trouble.ReadFailed → Rose (S.faults shelf.old name.now) (S.faults shelf.new name.now) }
 {
-    if is_turtle(name) {
-        read_in::<ttl_read::Reader, S>(alloc, name, before, shelf)
-    } else {
-        read_in::<fss_read::Reader, S>(alloc, name, before, shelf)
+    match syntax_of(name) {
+        Syntax::Functional => read_in::<fss_read::Reader, S>(alloc, name, before, shelf),
+        Syntax::Turtle => read_in::<ttl_read::Reader, S>(alloc, name, before, shelf),
+        Syntax::Manchester => read_in::<man_read::Reader, S>(alloc, name, before, shelf),
     }
 }

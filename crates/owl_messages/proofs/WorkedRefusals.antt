@@ -1,5 +1,6 @@
 -- What is told of some refusals, worked out by hand.
 use lib.Utf8.{encode}
+use Rattle.std.specs.Fmt.{digits}
 use Rattle.std.specs.Prelude.{◌≡◌, ℕ, List, [], ◌∷◌, codes}
 use Rattle.std.proofs.Common.{refl}
 use Rattle.owl_kind.specs.declared.kind.Kind.TheVariants.{AnnotationProperty, Datatype}
@@ -14,10 +15,11 @@ use Rattle.rdf_sayable.specs.Reasons.{inverse_subject, reserved}
 use Rattle.rdf_graph.specs.declared.term.Term.TheVariants.{Iri, Blank, Literal}
 use Rattle.rdf_graph.specs.declared.triple.Triple.{Triple}
 use Rattle.rdf_reverse.specs.declared.fault.ReverseFault.TheVariants as reverse
+use Rattle.man_resolve.specs.declared.fault.ResolveFault.TheVariants as resolve
 use Rattle.rdf_scans.specs.declared.fault.OutlineFault.TheVariants as outline
 use Rattle.rdf_terms.specs.Literals.{with_tag}
 use Rattle.owl_messages.specs.Refusals.{two_kinds, undeclared, unsayable}
-use Rattle.owl_messages.specs.Outcome.{headless, too_heavy_output, too_many_triples, unsaid_outcome}
+use Rattle.owl_messages.specs.Outcome.{frames_outcome, graph_outcome, headless, too_heavy_output, too_many_triples}
 
 abbrev over : Tag → List Tree → Tree
 over t kids = node t (kids_of kids)
@@ -61,18 +63,18 @@ of_triples = refl
 
 -- of graphs that say nothing
 
-of_a_label : (unsaid_outcome (codes "a.ttl") (reverse.Orphan (codes "x"))).line ≡ codes "a.ttl: Orphan _:x\n"
+of_a_label : (graph_outcome (codes "a.ttl") (reverse.Orphan (codes "x"))).line ≡ codes "a.ttl: Orphan _:x\n"
 unfolding encode
 of_a_label = refl
 
-of_kinds : (unsaid_outcome (codes "a.ttl") (reverse.TwoKinds (codes "e:D"))).line ≡ codes "a.ttl: TwoKinds <e:D>\n"
+of_kinds : (graph_outcome (codes "a.ttl") (reverse.TwoKinds (codes "e:D"))).line ≡ codes "a.ttl: TwoKinds <e:D>\n"
 unfolding encode
 of_kinds = refl
 
 abbrev stated : Triple
 stated = record { subject = Blank (codes "x"); predicate = codes "e:p"; object = Literal (with_tag (codes "a b") (codes "en")) }
 
-of_a_triple : (unsaid_outcome (codes "a.ttl") (reverse.Untyped stated)).line ≡ codes "a.ttl: Untyped _:x <e:p> \"a b\"@en\n"
+of_a_triple : (graph_outcome (codes "a.ttl") (reverse.Untyped stated)).line ≡ codes "a.ttl: Untyped _:x <e:p> \"a b\"@en\n"
 unfolding encode
 of_a_triple = refl
 
@@ -80,5 +82,15 @@ of_a_header : (headless (codes "a.ttl") (outline.BadHeader (Iri (codes "e:o"))))
 unfolding encode
 of_a_header = refl
 
-of_depth : (unsaid_outcome (codes "a.ttl") reverse.TooDeep).line ≡ codes "limit: Depth: a.ttl\n"
+of_depth : (graph_outcome (codes "a.ttl") reverse.TooDeep).line ≡ codes "limit: Depth: a.ttl\n"
 of_depth = refl
+
+-- of frames that mean nothing
+
+of_a_name : (frames_outcome (codes "a.omn") (resolve.Untyped (codes "e:r") 52)).line ≡ codes "a.omn: Untyped <e:r> at 52\n"
+unfolding encode digits
+of_a_name = refl
+
+of_a_form : (frames_outcome (codes "a.omn") (resolve.WrongForm 7)).line ≡ codes "a.omn: WrongForm at 7\n"
+unfolding digits
+of_a_form = refl

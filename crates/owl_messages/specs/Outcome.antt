@@ -18,6 +18,8 @@ use Rattle.owl_documents.specs.declared.trouble.Refusal.{Refusal}
 use Rattle.owl_documents.specs.declared.trouble.Refusal.TheVariants.{DocumentBytes, AllBytes, Unreadable, Headless}
 use Rattle.rdf_graph.specs.declared.term.Term.{Term}
 use Rattle.rdf_graph.specs.declared.triple.Triple.{Triple}
+use Rattle.man_resolve.specs.declared.fault.ResolveFault.{ResolveFault}
+use Rattle.man_resolve.specs.declared.fault.ResolveFault.TheVariants as resolve
 use Rattle.rdf_reverse.specs.declared.fault.ReverseFault.{ReverseFault}
 use Rattle.rdf_reverse.specs.declared.fault.ReverseFault.TheVariants as reverse
 use Rattle.rdf_scans.specs.declared.fault.OutlineFault.{OutlineFault}
@@ -94,7 +96,7 @@ about_node word node = word ++ (codes " " ++ noted_as (codes "node") (encode_utf
 abbrev pub about_triple : List ℕ → Triple → List ℕ
 about_triple word triple = word ++ (codes " " ++ noted_as (codes "triple") (encode_utf8_all (full_triple triple)))
 
--- a graph with this fault
+-- a graph, or frames, with this fault
 abbrev pub refused_graph : List ℕ → List ℕ → Outcome
 refused_graph name fault = refused NoDocument (name ++ (codes ": " ++ (fault ++ codes "\n")))
 
@@ -140,23 +142,37 @@ refusal_outcome name (Unreadable fault) = defect_outcome name fault
 refusal_outcome name (Headless fault) = headless name fault
 
 -- How a graph is refused that says no ontology under the kinds that it is read under. Want of memory is no fault of a graph.
-abbrev pub unsaid_outcome : List ℕ → ReverseFault → Outcome
-unsaid_outcome name (reverse.TwoKinds iri) = refused_graph name (about_iri (codes "TwoKinds") iri)
-unsaid_outcome name reverse.NoHeader = refused_graph name (codes "NoHeader")
-unsaid_outcome name reverse.TwoHeaders = refused_graph name (codes "TwoHeaders")
-unsaid_outcome name (reverse.BadHeader node) = refused_graph name (about_node (codes "BadHeader") node)
-unsaid_outcome name (reverse.Mixed label) = refused_graph name (about_label (codes "Mixed") label)
-unsaid_outcome name (reverse.BadList label) = refused_graph name (about_label (codes "BadList") label)
-unsaid_outcome name (reverse.Cycle label) = refused_graph name (about_label (codes "Cycle") label)
-unsaid_outcome name (reverse.BadNode label) = refused_graph name (about_label (codes "BadNode") label)
-unsaid_outcome name (reverse.MainMissing label) = refused_graph name (about_label (codes "MainMissing") label)
-unsaid_outcome name (reverse.Reserved triple) = refused_graph name (about_triple (codes "Reserved") triple)
-unsaid_outcome name (reverse.Orphan label) = refused_graph name (about_label (codes "Orphan") label)
-unsaid_outcome name (reverse.Untyped triple) = refused_graph name (about_triple (codes "Untyped") triple)
-unsaid_outcome name reverse.NumberTooLarge = passed_limit (codes "Cardinality") name
-unsaid_outcome name reverse.TooDeep = passed_limit (codes "Depth") name
-unsaid_outcome name reverse.TooHeavy = passed_limit (codes "Weight") name
-unsaid_outcome name reverse.Memory = refused Memory (codes "memory\n")
+abbrev pub graph_outcome : List ℕ → ReverseFault → Outcome
+graph_outcome name (reverse.TwoKinds iri) = refused_graph name (about_iri (codes "TwoKinds") iri)
+graph_outcome name reverse.NoHeader = refused_graph name (codes "NoHeader")
+graph_outcome name reverse.TwoHeaders = refused_graph name (codes "TwoHeaders")
+graph_outcome name (reverse.BadHeader node) = refused_graph name (about_node (codes "BadHeader") node)
+graph_outcome name (reverse.Mixed label) = refused_graph name (about_label (codes "Mixed") label)
+graph_outcome name (reverse.BadList label) = refused_graph name (about_label (codes "BadList") label)
+graph_outcome name (reverse.Cycle label) = refused_graph name (about_label (codes "Cycle") label)
+graph_outcome name (reverse.BadNode label) = refused_graph name (about_label (codes "BadNode") label)
+graph_outcome name (reverse.MainMissing label) = refused_graph name (about_label (codes "MainMissing") label)
+graph_outcome name (reverse.Reserved triple) = refused_graph name (about_triple (codes "Reserved") triple)
+graph_outcome name (reverse.Orphan label) = refused_graph name (about_label (codes "Orphan") label)
+graph_outcome name (reverse.Untyped triple) = refused_graph name (about_triple (codes "Untyped") triple)
+graph_outcome name reverse.NumberTooLarge = passed_limit (codes "Cardinality") name
+graph_outcome name reverse.TooDeep = passed_limit (codes "Depth") name
+graph_outcome name reverse.TooHeavy = passed_limit (codes "Weight") name
+graph_outcome name reverse.Memory = refused Memory (codes "memory\n")
+
+-- a fault at a byte
+abbrev pub told_at : List ℕ → ℕ → List ℕ
+told_at fault at = fault ++ (codes " at " ++ decimal at)
+
+-- How a document is refused whose frames mean no ontology under the kinds that it is read under. Want of memory is no fault of a document.
+abbrev pub frames_outcome : List ℕ → ResolveFault → Outcome
+frames_outcome name (resolve.TwoKinds iri) = refused_graph name (about_iri (codes "TwoKinds") iri)
+frames_outcome name (resolve.Untyped iri at) = refused_graph name (told_at (about_iri (codes "Untyped") iri) at)
+frames_outcome name (resolve.WrongKind iri at) = refused_graph name (told_at (about_iri (codes "WrongKind") iri) at)
+frames_outcome name (resolve.WrongForm at) = refused_graph name (told_at (codes "WrongForm") at)
+frames_outcome name resolve.TooDeep = passed_limit (codes "Depth") name
+frames_outcome name resolve.TooHeavy = passed_limit (codes "Weight") name
+frames_outcome name resolve.Memory = refused Memory (codes "memory\n")
 
 -- The normal form has more than 2^24 nodes and leaves.
 abbrev pub too_heavy_output : Outcome

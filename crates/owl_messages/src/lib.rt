@@ -12,5 +12,5 @@ pub use answer::{Answer, done_line, said, told, too_long_output};
 pub use refusal::{answer_trouble, refuse_import, refuse_output};
 pub use refusals::{refuse_kinds, refuse_undeclared, refuse_unsayable};
 pub use summaries::summary;
-pub use unsaid::refuse_unsaid;
+pub use unsaid::{UnsaidFault, refuse_unsaid};
 pub use verdicts::verdict;

@@ -1,16 +1,20 @@
-//! What is answered where a graph says no ontology.
+//! What is answered where a document says no ontology.
 
 ghost use Rattle.std.specs.Prelude.{◌≡◌, ◌≢◌, ◌++◌, codes, string_bytes, IfOk};
 ghost use Rattle.std.specs.Str.{encode_utf8_all};
-ghost use Rattle.rdf_reverse.specs.declared.fault.ReverseFault.TheVariants.{Memory};
+ghost use Rattle.man_resolve.specs.declared.fault.ResolveFault.TheVariants as resolve;
+ghost use Rattle.rdf_reverse.specs.declared.fault.ReverseFault.TheVariants as reverse;
+ghost use Rattle.owl_messages.specs.declared.unsaid.UnsaidFault.TheVariants.{Memory};
 ghost use Rattle.rdf_scans.specs.declared.fault.OutlineFault.TheVariants as outline;
 ghost use Rattle.ttl_write.specs.Text.{full_term, full_triple};
 ghost use Rattle.owl_messages.specs.Answers.{outcome_of};
-ghost use Rattle.owl_messages.specs.Outcome.{about_iri, about_label, about_node, about_triple, headless, noted_as, refused_graph, unsaid_outcome};
+ghost use Rattle.owl_messages.specs.Outcome.{about_iri, about_label, about_node, about_triple, frames_outcome, graph_outcome, headless, noted_as, refused_graph, told_at};
+ghost use Rattle.owl_messages.specs.Unsaid.{IsProperFault, of_frames, of_graph, unsaid_outcome};
 
 use crate::answer::{Answer, refused};
 use crate::refusal::refuse_limit;
 use crate::refusals::word_text;
+use man_resolve::ResolveFault;
 use owl_atom::{Iri, Label};
 use owl_characters::{NoMemory, Text};
 use owl_command::Status;
@@ -131,11 +135,12 @@ pub fn refuse_headless(alloc: Global, name: &str, fault: &OutlineFault) -> Resul
     }
 }
 
-/// What is answered where the document of this name says nothing, for this fault.
-pub fn refuse_unsaid(alloc: Global, name: &str, fault: &ReverseFault) -> Result<Answer, NoMemory>
+/// What is answered where the document of this name is a graph that says nothing,
+/// for this fault.
+fn refuse_unsaid_graph(alloc: Global, name: &str, fault: &ReverseFault) -> Result<Answer, NoMemory>
     ensures outcome { IfOk result (λ answer.
-        outcome_of answer ≡ unsaid_outcome name.now fault.now) }
-    ensures memory { IfOk result (λ _. fault.now ≢ Memory) }
+        outcome_of answer ≡ graph_outcome name.now fault.now) }
+    ensures memory { IfOk result (λ _. fault.now ≢ reverse.Memory) }
 {
     match fault {
         ReverseFault::TwoKinds { iri } => refuse_iri(alloc, name, "TwoKinds", iri),
@@ -154,5 +159,107 @@ pub fn refuse_unsaid(alloc: Global, name: &str, fault: &ReverseFault) -> Result<
         ReverseFault::TooDeep => refuse_limit(alloc, "Depth", name),
         ReverseFault::TooHeavy => refuse_limit(alloc, "Weight", name),
         ReverseFault::Memory => Err(NoMemory),
+    }
+}
+
+/// A fault at a byte.
+fn fault_at(alloc: Global, fault: &str, at: u64) -> Result<String, AllocError>
+    ensures { IfOk result (λ text. string_bytes text ≡ told_at fault.now at) }
+{
+    format!(in alloc; "{fault} at {at}")
+}
+
+fn refuse_form(alloc: Global, name: &str, at: u64) -> Result<Answer, NoMemory>
+    ensures { IfOk result (λ answer.
+        outcome_of answer ≡ refused_graph name.now (told_at (codes "WrongForm") at)) }
+{
+    let fault = fault_at(alloc, "WrongForm", at)?;
+    refuse_graph(alloc, name, fault.as_str())
+}
+
+fn refuse_name(
+    alloc: Global,
+    name: &str,
+    word: &str,
+    iri: &Iri,
+    at: u64,
+) -> Result<Answer, NoMemory>
+    ensures { IfOk result (λ answer. outcome_of answer
+        ≡ refused_graph name.now (told_at (about_iri word.now iri.now) at)) }
+{
+    let about = iri_fault(alloc, word, iri)?;
+    let fault = fault_at(alloc, about.as_str(), at)?;
+    refuse_graph(alloc, name, fault.as_str())
+}
+
+/// What is answered where the document of this name has frames that mean nothing,
+/// for this fault.
+fn refuse_frames(alloc: Global, name: &str, fault: &ResolveFault) -> Result<Answer, NoMemory>
+    ensures outcome { IfOk result (λ answer.
+        outcome_of answer ≡ frames_outcome name.now fault.now) }
+    ensures memory { IfOk result (λ _. fault.now ≢ resolve.Memory) }
+{
+    match fault {
+        ResolveFault::TwoKinds { iri } => refuse_iri(alloc, name, "TwoKinds", iri),
+        ResolveFault::Untyped { iri, at } => refuse_name(alloc, name, "Untyped", iri, *at),
+        ResolveFault::WrongKind { iri, at } => refuse_name(alloc, name, "WrongKind", iri, *at),
+        ResolveFault::WrongForm { at } => refuse_form(alloc, name, *at),
+        ResolveFault::TooDeep => refuse_limit(alloc, "Depth", name),
+        ResolveFault::TooHeavy => refuse_limit(alloc, "Weight", name),
+        ResolveFault::Memory => Err(NoMemory),
+    }
+}
+
+/// Why a document says nothing under kinds of names.
+#[derive(Debug, Drop)]
+pub enum UnsaidFault {
+    /// Its graph says no ontology.
+    Graph(ReverseFault),
+    /// Its frames mean none.
+    Frames(ResolveFault),
+    /// Memory ran out.
+    Memory,
+}
+
+impl From<NoMemory> for UnsaidFault {
+    ghost from_gives = { λ _ e. e ≡ Memory };
+
+    fn from(_e: NoMemory) -> UnsaidFault {
+        UnsaidFault::Memory
+    }
+}
+
+impl From<ReverseFault> for UnsaidFault {
+    ghost from_gives = { λ fault e. e ≡ of_graph fault };
+
+    fn from(fault: ReverseFault) -> UnsaidFault {
+        match fault {
+            ReverseFault::Memory => UnsaidFault::Memory,
+            _ => UnsaidFault::Graph(fault),
+        }
+    }
+}
+
+impl From<ResolveFault> for UnsaidFault {
+    ghost from_gives = { λ fault e. e ≡ of_frames fault };
+
+    fn from(fault: ResolveFault) -> UnsaidFault {
+        match fault {
+            ResolveFault::Memory => UnsaidFault::Memory,
+            _ => UnsaidFault::Frames(fault),
+        }
+    }
+}
+
+/// What is answered where the document of this name says nothing, for this fault.
+pub fn refuse_unsaid(alloc: Global, name: &str, fault: &UnsaidFault) -> Result<Answer, NoMemory>
+    ensures outcome { IfOk result (λ answer.
+        outcome_of answer ≡ unsaid_outcome name.now fault.now) }
+    ensures proper { IfOk result (λ _. IsProperFault fault.now) }
+{
+    match fault {
+        UnsaidFault::Graph(fault) => refuse_unsaid_graph(alloc, name, fault),
+        UnsaidFault::Frames(fault) => refuse_frames(alloc, name, fault),
+        UnsaidFault::Memory => Err(NoMemory),
     }
 }

@@ -1,17 +1,17 @@
 -- What the line of a read fault tells.
-use Rattle.std.proofs.Common.{◌≡◌, ℕ, List, refl}
+use Rattle.std.proofs.Common.{◌≡◌, inl, inr, ℕ, List, refl, ap, ◌∙◌}
 use Rattle.owl_reader.specs.declared.fault.ReadFault.TheVariants as read
 use Rattle.owl_documents.specs.declared.trouble.Refusal.{Refusal}
 use Rattle.owl_documents.specs.declared.trouble.Refusal.TheVariants.{DocumentBytes, AllBytes, Unreadable, Headless}
 use Rattle.owl_command.specs.Commands.{Request, compares, of_main}
 use Rattle.owl_command.specs.declared.command.Action.TheVariants.{Translate, Check, Show}
 use Rattle.owl_documents.specs.Documents.{IsProperRefusal}
-use Rattle.rdf_reverse.specs.declared.fault.ReverseFault.{ReverseFault}
-use Rattle.rdf_reverse.specs.declared.fault.ReverseFault.TheVariants as reverse
 use Rattle.rdf_scans.specs.declared.fault.OutlineFault.TheVariants as outline
-use Rattle.owl_answer.specs.Runs.{IsIllTyped, IsRefusalLine, IsTurtleRefusal, LineFor, SuccessLine, of_bytes, of_graph, of_import, of_no_memory, of_output, of_read_fault, of_refusal, of_success, of_triples, of_turtle, of_two_kinds, of_typing, of_undeclared, of_unsayable, of_weight, of_write_fault}
+use Rattle.owl_answer.specs.Runs.{IsIllTyped, IsRefusalLine, IsTurtleRefusal, LineFor, SuccessLine, of_bytes, of_saying, of_import, of_no_memory, of_output, of_read_fault, of_refusal, of_success, of_triples, of_turtle, of_two_kinds, of_typing, of_undeclared, of_unsayable, of_weight, of_write_fault}
 use Rattle.owl_command.specs.declared.status.Status.TheVariants.{ReadFailed}
-use Rattle.owl_messages.specs.Outcome.{Outcome, refusal_outcome, unsaid_outcome}
+use Rattle.owl_messages.proofs.UnsaidLaws.{IsRefusal, unsaid_is_refused}
+use Rattle.owl_messages.specs.Outcome.{Outcome, refusal_outcome}
+use Rattle.owl_messages.specs.Unsaid.{unsaid_outcome}
 
 -- the line of a read fault names a document with its cause
 no_success : (request : Request) (line : List ℕ) → SuccessLine request ReadFailed line → ⊥
@@ -35,28 +35,14 @@ no_refusal name (Headless outline.TwoHeaders) n e = cc
 no_refusal name (Headless (outline.BadHeader node)) n e = cc
 no_refusal name (Headless outline.Memory) n e = n refl
 
-no_unsaid : (name : List ℕ) (fault : ReverseFault) → ReadFailed ≡ (unsaid_outcome name fault).status → ⊥
-no_unsaid name (reverse.TwoKinds iri) e = cc
-no_unsaid name reverse.NoHeader e = cc
-no_unsaid name reverse.TwoHeaders e = cc
-no_unsaid name (reverse.BadHeader node) e = cc
-no_unsaid name (reverse.Mixed label) e = cc
-no_unsaid name (reverse.BadList label) e = cc
-no_unsaid name (reverse.Cycle label) e = cc
-no_unsaid name (reverse.BadNode label) e = cc
-no_unsaid name (reverse.MainMissing label) e = cc
-no_unsaid name (reverse.Reserved triple) e = cc
-no_unsaid name (reverse.Orphan label) e = cc
-no_unsaid name (reverse.Untyped triple) e = cc
-no_unsaid name reverse.NumberTooLarge e = cc
-no_unsaid name reverse.TooDeep e = cc
-no_unsaid name reverse.TooHeavy e = cc
-no_unsaid name reverse.Memory e = cc
+not_failed : (o : Outcome) → IsRefusal o → ReadFailed ≡ o.status → ⊥
+not_failed o (inl f) e = let same = e ∙ ap (λ (x : Outcome). x.status) f in cc
+not_failed o (inr f) e = let same = e ∙ ap (λ (x : Outcome). x.status) f in cc
 
 no_refusal_line : (name : List ℕ) (line : List ℕ) → IsRefusalLine name ReadFailed line → ⊥
 no_refusal_line name line (of_bytes refusal n e l) = no_refusal name refusal n e
 no_refusal_line name line (of_import iri e l) = cc
-no_refusal_line name line (of_graph fault n e l) = no_unsaid name fault e
+no_refusal_line name line (of_saying fault n e l) = not_failed (unsaid_outcome name fault) (unsaid_is_refused name fault n) e
 
 no_typing : (refusal : Outcome) → IsIllTyped refusal → ReadFailed ≡ refusal.status → ⊥
 no_typing _ (of_two_kinds iri) e = cc

@@ -9,6 +9,10 @@ pub returns-in-Ontology : goal.returns-in-Ontology
 returns-in-Ontology c =
     on_ok_weaker c.declared.result (λ h. subst (λ (d : Document). AddsOf (parsed_of d) c.args.kinds.now c.declared.new.kinds) (sym c.in-Ontology.is) h) c.declared.ensures.ok
 
+pub returns-in-Frames : goal.returns-in-Frames
+returns-in-Frames c =
+    on_ok_weaker c.declared-in-Frames.result (λ h. subst (λ (d : Document). AddsOf (parsed_of d) c.args.kinds.now c.declared-in-Frames.new.kinds) (sym c.in-Frames.is) h) c.declared-in-Frames.ensures.ok
+
 pub returns-in-Graph : goal.returns-in-Graph
 returns-in-Graph c =
     on_ok_weaker c.declare_graph.result (λ h. subst (λ (d : Document). AddsOf (parsed_of d) c.args.kinds.now c.declare_graph.new.kinds) (sym c.in-Graph.is) h) c.declare_graph.ensures.ok

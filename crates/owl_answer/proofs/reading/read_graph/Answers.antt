@@ -1,12 +1,15 @@
-use Rattle.std.proofs.Common.{◌∙◌}
-use Rattle.owl_doc.specs.Documents.{Document}
-use Rattle.owl_answer.proofs.Readings.{unless_memory}
-use Rattle.owl_answer.proofs.Wanting.{from_both}
+use Rattle.std.proofs.Common.{IfErr, Ok, Err, ◌≡◌, ◌∙◌, ap, sym, subst}
+use Rattle.owl_documents.specs.Documents.{a_graph, graph_read_of}
+use Rattle.owl_messages.specs.Unsaid.{of_graph}
+use Rattle.owl_messages.specs.declared.unsaid.UnsaidFault.{UnsaidFault}
+use Rattle.owl_answer.proofs.Readings.{by_from, unsaid_graph}
+use Rattle.owl_answer.specs.Reading.{IsFaultUnder}
 use Rattle.owl_answer.proofs.reading.read_graph.Goals as goal
 
 pub returns-clause-said : goal.returns-clause-said
-returns-clause-said c =
-    from_both c.reverse.result _ _ _ (λ (d : Document) s p. (p ∙ c.in_ok-prefixes.ensures, s)) c.reverse.ensures.said c.reverse.ensures.prefixes
+returns-clause-said c = (c.in_ok-reverse.ensures.prefixes ∙ c.in_ok-prefixes.ensures, c.in_ok-reverse.ensures.said)
 
-pub returns-clause-fault : goal.returns-clause-fault
-returns-clause-fault c = unless_memory c.args.doc.now.graph c.args.kinds.now c.reverse.result c.reverse.ensures.fault
+pub returns-in_err-reverse-clause-fault : goal.returns-in_err-reverse-clause-fault
+returns-in_err-reverse-clause-fault c =
+    by_from c.from_residual-in_err-reverse.result (of_graph c.in_err-reverse.field-0.0) (IsFaultUnder c.args.kinds.now (a_graph (graph_read_of c.args.doc.now)))
+    c.from_residual-in_err-reverse.ensures.1 (unsaid_graph (graph_read_of c.args.doc.now) c.args.kinds.now c.in_err-reverse.field-0.0 c.in_err-reverse.ensures.fault)

@@ -14,18 +14,18 @@ returns-in-Translate c =
     IfOk-weaker c.translate.result _ _ (λ (a : Answer) h documents read.
     let first = main_said documents c.args.closure read.closed c.args.said.items read.say c.index.result.now c.index.ensures in
     subst (λ (action : Action). IsToldOf action documents (outcome_of a)) (sym c.in-Translate.is)
-    (told_of_main (Translate c.in-Translate.target) documents c.args.closure c.args.said.items c.args.from_graph read c.index.result.now first (outcome_of a) (λ parsed graph. h documents parsed graph))) c.translate.ensures
+    (told_of_main (Translate c.in-Translate.target) documents c.args.closure c.args.said.items c.args.asks read c.index.result.now first (outcome_of a) (λ parsed graph. h documents parsed graph))) c.translate.ensures
 
 pub returns-in-Check : goal.returns-in-Check
 returns-in-Check c =
     IfOk-weaker c.check.result _ _ (λ (a : Answer) h documents read.
     let first = main_there documents c.args.closure read.closed c.args.said.items read.say in
     subst (λ (action : Action). IsToldOf action documents (outcome_of a)) (sym c.in-Check.is)
-    (told_of_main (Check c.in-Check.profile) documents c.args.closure c.args.said.items c.args.from_graph read first.0 first.1 (outcome_of a) (λ parsed graph. record { is = h documents read.closed read.say; back = λ s. tt }))) c.check.ensures
+    (told_of_main (Check c.in-Check.profile) documents c.args.closure c.args.said.items c.args.asks read first.0 first.1 (outcome_of a) (λ parsed graph. record { is = h documents read.closed read.say; back = λ s. tt }))) c.check.ensures
 
 pub returns-in-Show : goal.returns-in-Show
 returns-in-Show c =
     IfOk-weaker c.show.result _ _ (λ (a : Answer) w documents read.
     let first = main_said documents c.args.closure read.closed c.args.said.items read.say c.index-in-Show.result.now c.index-in-Show.ensures in
     subst (λ (action : Action). IsToldOf action documents (outcome_of a)) (sym c.in-Show.is)
-    (told_of_main Show documents c.args.closure c.args.said.items c.args.from_graph read c.index-in-Show.result.now first (outcome_of a) (λ parsed graph. record { is = w; back = λ s. tt }))) c.show.ensures
+    (told_of_main Show documents c.args.closure c.args.said.items c.args.asks read c.index-in-Show.result.now first (outcome_of a) (λ parsed graph. record { is = w; back = λ s. tt }))) c.show.ensures

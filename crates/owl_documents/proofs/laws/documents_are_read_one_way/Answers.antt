@@ -10,6 +10,9 @@ returns-clause-read c = λ contents names documents others r s.
       turtle = c.documents_are_read_one_way-2.ensures;
       no_turtle = c.defects_are_of_no_document-2.ensures;
       turtle_defect = c.one_first_defect-2.ensures;
+      manchester = c.documents_are_read_one_way-3.ensures;
+      no_manchester = c.defects_are_of_no_document-3.ensures;
+      manchester_defect = c.one_first_defect-3.ensures;
     }) contents 0 names documents others r.0 s.0 r.1 s.1
 
 pub returns-clause-refused : goal.returns-clause-refused
@@ -21,6 +24,9 @@ returns-clause-refused c = λ contents names name other refusal another r s.
       turtle = c.documents_are_read_one_way-2.ensures;
       no_turtle = c.defects_are_of_no_document-2.ensures;
       turtle_defect = c.one_first_defect-2.ensures;
+      manchester = c.documents_are_read_one_way-3.ensures;
+      no_manchester = c.defects_are_of_no_document-3.ensures;
+      manchester_defect = c.one_first_defect-3.ensures;
     }) contents 0 names name other refusal another r s
 
 pub returns-clause-apart : goal.returns-clause-apart
@@ -32,4 +38,7 @@ returns-clause-apart c = λ contents names documents name refusal r s.
       turtle = c.documents_are_read_one_way-2.ensures;
       no_turtle = c.defects_are_of_no_document-2.ensures;
       turtle_defect = c.one_first_defect-2.ensures;
+      manchester = c.documents_are_read_one_way-3.ensures;
+      no_manchester = c.defects_are_of_no_document-3.ensures;
+      manchester_defect = c.one_first_defect-3.ensures;
     }) contents 0 names documents r.0 name refusal r.1 s

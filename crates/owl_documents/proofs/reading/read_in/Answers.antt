@@ -13,7 +13,7 @@ pub returns-in_err-document-in-Ok-fed-clause-trouble : goal.returns-in_err-docum
 returns-in_err-document-in-Ok-fed-clause-trouble g c = λ tells.
     let fed = c.in-Ok-fed.ensures.fed tells in
     passed c.from_residual.result c.in_err-document-in-Ok-fed.field-0.0 _ c.from_residual.ensures.1
-    (defect_trouble _ c.args.before g.R.DocumentReader.turtle c.args.name.now fed.bytes c.in_err-document-in-Ok-fed.field-0.0 c.requires.syntax fed.are (few_fed c.args.before c.in-Ok-fed.size (length fed.bytes) fed.count ((c.room_behind.ensures c.in-Ok-fed.size).0 c.in-Ok-fed.ensures.within)) (c.in_err-document-in-Ok-fed.ensures.refuses fed.bytes fed.read))
+    (defect_trouble _ c.args.before g.R.DocumentReader.syntax c.args.name.now fed.bytes c.in_err-document-in-Ok-fed.field-0.0 c.requires.syntax fed.are (few_fed c.args.before c.in-Ok-fed.size (length fed.bytes) fed.count ((c.room_behind.ensures c.in-Ok-fed.size).0 c.in-Ok-fed.ensures.within)) (c.in_err-document-in-Ok-fed.ensures.refuses fed.bytes fed.read))
 
 pub returns-in_ok-document-in-Ok-fed-clause-read : goal.returns-in_ok-document-in-Ok-fed-clause-read
 returns-in_ok-document-in-Ok-fed-clause-read g c = λ tells.

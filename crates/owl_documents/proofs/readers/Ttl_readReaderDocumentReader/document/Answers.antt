@@ -1,12 +1,12 @@
-use Rattle.std.proofs.Common.{true}
 use Rattle.ttl_read.specs.Reading.{HasRead}
 use Rattle.owl_documents.specs.Documents.{of_turtle}
+use Rattle.owl_documents.specs.declared.document.Syntax.TheVariants.{Turtle}
 use Rattle.owl_documents.proofs.Refusing.{header_defect, reader_defect}
 use Rattle.owl_documents.proofs.readers.Ttl_readReaderDocumentReader.document.Goals as goal
 
 pub returns-in_err-doc-clause-refuses : goal.returns-in_err-doc-clause-refuses
 returns-in_err-doc-clause-refuses c =
-    reader_defect c.from_residual.result c.in_err-doc.field-0.0 c.from_residual.ensures.1 true (HasRead c.args.self)
+    reader_defect c.from_residual.result c.in_err-doc.field-0.0 c.from_residual.ensures.1 Turtle (HasRead c.args.self)
     (λ proper bytes fed name t. of_turtle c.in_err-doc.field-0.0 t (c.in_err-doc.ensures.refuses proper bytes fed))
 
 pub returns-in_err-with_head-clause-refuses : goal.returns-in_err-with_head-clause-refuses
