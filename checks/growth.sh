@@ -125,6 +125,13 @@ grows bases 5000 10000 ttl 0 show
 grows disjoint 200 400 ttl 0 translate --to fss
 grows fronts 200 290 ofn 0 translate --to fss
 grows fronts 200 290 ofn 0 translate --to ttl
+grows facets 1000 2000 omn 0 translate --to fss
+grows parts 2000 4000 omn 0 translate --to fss
+grows sections 2000 4000 omn 0 translate --to fss
+grows frames 2000 4000 omn 0 translate --to fss
+grows operands 2000 4000 omn 0 translate --to fss
+grows links 2000 4000 omn 0 translate --to fss
+grows prefixed_frames 200 400 omn 0 translate --to fss
 
 echo "$passed passed, $failed failed"
 ((failed == 0))

@@ -107,6 +107,9 @@ printf '@prefix : <http://e/> . @prefix owl: <http://www.w3.org/2002/07/owl#> . 
 { cat graph.ttl && printf '_:x a owl:Class ; owl:complementOf :A .'; } >orphan.ttl
 { cat graph.ttl && printf '_:x a owl:Class ; owl:complementOf :A . _:x :p "1" .'; } >untyped.ttl
 printf 'Prefix(:=<http://e/>) Ontology(<http://e/o> Declaration(Class(:A)))' >graph.ofn
+printf 'Prefix: : <http://e/>\nOntology: <http://e/o>\nClass: A # the same\n' >frames.omn
+printf 'Prefix: : <http://e/> Ontology: Class: A SubClassOf: p some' >wrong.omn
+printf 'Prefix: : <http://e/> Ontology: Class: A SubClassOf: B' >untyped.omn
 printf '<http://e/A> <http://e/p> <http://e/B> .' >headless.ttl
 printf 'Ontology(Import(<http://e/i>))' >import.ofn
 printf 'Ontology(<http://e/i>)' >imported.ofn
@@ -274,6 +277,19 @@ Declaration(Class(:A))
 call 'a graph says the same as a text' 0 'same
 ' 'same
 ' same graph.ttl graph.ofn
+call 'frames are translated' 0 "Prefix(:=<http://e/>)
+${four}Ontology(<http://e/o>
+Declaration(Class(:A))
+)
+" 'translated; axioms 1; absorbed 0
+' translate --to fss frames.omn
+call 'frames say the same as a graph' 0 'same
+' 'same
+' same frames.omn graph.ttl
+call 'a frame ends too early' 3 '' 'wrong.omn: item at 41: NotHere at 59
+' show wrong.omn
+call 'a frame names what is no class' 3 '' 'untyped.omn: Untyped <http://e/B> at 53
+' check --profile dl untyped.omn
 call 'a node is of no axiom' 3 '' 'orphan.ttl: Orphan _:x
 ' translate --to fss orphan.ttl
 call 'a triple names what it may not' 3 '' 'untyped.ttl: Untyped _:x <http://e/p> "1"

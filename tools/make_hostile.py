@@ -127,6 +127,77 @@ def open_list(count):
     yield " 1" * count
 
 
+FRAMES_HEAD = "Prefix: : <http://e/> Ontology: :o\n"
+
+
+def open_brackets(count):
+    """Brackets that are never closed, of which 512 may be open."""
+    yield FRAMES_HEAD + "Class: A SubClassOf: "
+    yield "(" * count
+
+
+def complements_in_a_row(count):
+    """A complement has to have brackets around another one."""
+    yield FRAMES_HEAD + "Class: A SubClassOf: "
+    yield "not " * count
+
+
+def commas(count):
+    yield FRAMES_HEAD + "Class: A SubClassOf: A"
+    yield "," * count
+
+
+def facets(count):
+    """Signs that may begin an IRI, each with a word or a number."""
+    yield FRAMES_HEAD + "DataProperty: d Range: integer[<true"
+    for i in range(count):
+        yield f",<true,<{i:07}"
+    yield "]"
+
+
+def parts(count):
+    """One frame whose one section has so many parts."""
+    yield FRAMES_HEAD + "Individual: i SameAs: i"
+    for i in range(count):
+        yield f", i{i:07}"
+
+
+def sections(count):
+    """One frame with so many sections."""
+    yield FRAMES_HEAD + "Individual: i\n"
+    for i in range(count):
+        yield f"SameAs: i{i:07}\n"
+
+
+def frames(count):
+    """So many frames of one name, each with another part."""
+    yield FRAMES_HEAD
+    for i in range(count):
+        yield f"Individual: i SameAs: i{i:07}\n"
+
+
+def operands(count):
+    """One conjunction of so many."""
+    yield FRAMES_HEAD + "Class: A SubClassOf: A"
+    for i in range(count):
+        yield f" and {{i{i:07}}}"
+
+
+def links(count):
+    """A chain of so many properties, which weighs seven more with its frame."""
+    yield FRAMES_HEAD + "ObjectProperty: p SubPropertyChain: p"
+    yield " o p" * (count - 1)
+
+
+def prefixed_frames(count):
+    """So many prefixes, each with a frame."""
+    for i in range(count):
+        yield f"Prefix: p{i:07}: <http://e/{i:07}/>\n"
+    yield FRAMES_HEAD
+    for i in range(count):
+        yield f"Class: p{i:07}:A\n"
+
+
 def main():
     shape, count = sys.argv[1:]
     for part in SHAPES[shape](int(count)):
@@ -138,6 +209,7 @@ SHAPES = {
     for shape in (
         letters, letters_and_dots, words_and_dots, words, name_and_dots,
         doublings, complements, tails, disjoint, disjoint_unions, noted_disjoint, fronts, bases, repeats, open_list,
+        open_brackets, complements_in_a_row, commas, facets, parts, sections, frames, operands, links, prefixed_frames,
     )
 }
 
