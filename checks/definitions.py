@@ -47,6 +47,13 @@ STEPS = [
         ["rdf_meaning.specs.Statements.Says"],
     ),
     (
+        "Manchester Syntax",
+        "Which bytes are a document of Manchester Syntax, with which prefixes and which frames: a page of rules after the"
+        " W3C's productions, and what each act along a derivation does; and which ontology the frames mean under some"
+        " kinds: what each word and each name stands for at its place.",
+        ["man_grammar.specs.Documents.ReadsManchester", "man_resolve.specs.Resolved.FramesMean"],
+    ),
+    (
         "Imports, kinds and types",
         "Which documents main reaches, and which import is the first that is missing; of which kinds the documents"
         " declare IRIs; and whether all that an ontology names is declared as what it stands for there.",
@@ -69,11 +76,13 @@ STEPS = [
     (
         "Refusals",
         "The first defect of bytes that are no document, with its reason and its places, and the first fault of a graph"
-        " that says no ontology.",
+        " or of frames that say no ontology.",
         [
             "fss_defects.specs.FirstDefects.IsFirstDefect",
             "ttl_grammar.specs.Documents.IsFirstDefect",
             "rdf_reverse.specs.Reverse.IsUnsaid",
+            "man_grammar.specs.Documents.IsFirstDefect",
+            "man_resolve.specs.Resolved.IsUnresolved",
         ],
     ),
     (
@@ -104,7 +113,8 @@ CLAUSES = [
 SUMS = [
     (1, "say what a document in Functional-Style Syntax says, and which ontologies are the same;"),
     (3, "say this, what a document of Turtle says as a graph, and what a graph says as an ontology;"),
-    (10, "say all of it, down to every byte that is written and every refusal;"),
+    (4, "say this, what a document of Manchester Syntax says as frames, and what frames mean as an ontology;"),
+    (11, "say all of it, down to every byte that is written and every refusal;"),
 ]
 
 WORDS_IN_FRONT = r"(?:(?:pub|abbrev|unfoldable|opaque)\s+)*"
