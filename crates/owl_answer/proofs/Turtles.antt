@@ -17,7 +17,7 @@ use Rattle.owl_documents.specs.Documents.{Said, said_of}
 use Rattle.rdf_graph.specs.Graphs.{IsGraph, most_triples}
 use Rattle.rdf_graph.specs.declared.triple.Triple.{Triple}
 use Rattle.owl_doc.specs.Parts.{Part}
-use Rattle.rdf_sayable.specs.Reasons.{Objection}
+use Rattle.sayable_parts.specs.Reasons.{Objection}
 use Rattle.rdf_sayable.specs.Sayable.{CanSayAll, IsFirstUnsayable}
 use Rattle.rdf_normal.specs.NormalForms.{absorbed_count, normal_form}
 use Rattle.rdf_mapping.specs.Graphs.{graph_of}

@@ -10,7 +10,7 @@ use Rattle.owl_kind.specs.Kinds.{Entity, HasClash, HasKind, IsFirstClash, Shares
 use Rattle.owl_list.proofs.AscendingLaws.{all_later}
 use Rattle.owl_tree.specs.Ontologies.{IsSameOntology, Ontology}
 use Rattle.owl_doc.specs.Parts.{Part, part_entities, parts_of}
-use Rattle.rdf_sayable.proofs.PartLaws.{first_at, first_once, no_first, same_parts}
+use Rattle.sayable_parts.proofs.PartLaws.{first_at, first_once, no_first, same_parts}
 use Rattle.owl_answer.specs.Typing.{AllAreWellTyped, DeclareSame, IsFirstUntyped, IsUndeclaredIn, IsWellTyped}
 
 undeclared_once : (kinds es : List Entity) (e f : Entity) → IsFirstUndeclared kinds es e → IsFirstUndeclared kinds es f → e ≡ f

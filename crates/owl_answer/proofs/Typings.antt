@@ -8,7 +8,7 @@ use Rattle.owl_doc.specs.Entities.{AreWellTyped, IsFirstUndeclared}
 use Rattle.owl_kind.specs.Kinds.{Entity, HasKind}
 use Rattle.owl_list.proofs.AscendingLaws.{all_in, in_head}
 use Rattle.owl_doc.specs.Parts.{Part, of_header, part_at, part_entities, parts_of}
-use Rattle.rdf_sayable.proofs.SearchLaws.{axiom_first, axioms_at, header_first, holds_of_all}
+use Rattle.sayable_parts.proofs.SearchLaws.{axiom_first, axioms_at, header_first, holds_of_all}
 use Rattle.owl_answer.specs.declared.typing.Untyped.{Untyped}
 use Rattle.owl_answer.specs.Typing.{AllAreWellTyped, FindsUntyped, IsFirstUntyped, IsWellTyped, entity_found}
 use Rattle.owl_answer.proofs.TypingLaws.{not_all_typed}

@@ -4,7 +4,7 @@ use Rattle.owl_kind.specs.Kinds.{Entity}
 use Rattle.owl_close.specs.Imports.{IsFirstMissing, MissesNone}
 use Rattle.fss_terms.specs.Functional.{ReadsFunctional}
 use Rattle.owl_doc.specs.Parts.{Part}
-use Rattle.rdf_sayable.specs.Reasons.{Objection}
+use Rattle.sayable_parts.specs.Reasons.{Objection}
 use Rattle.owl_command.specs.Commands.{AsksImports, Asks, HasNoCommand, IsAmong, Request, compares, names_of, of_main}
 use Rattle.owl_command.specs.declared.command.Action.{Action}
 use Rattle.owl_command.specs.declared.command.Action.TheVariants.{Translate, Check, Show}

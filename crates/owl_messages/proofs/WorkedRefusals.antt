@@ -11,7 +11,7 @@ use Rattle.owl_tree.specs.Rows.{row_of}
 use Rattle.owl_tree.specs.Tags.{keyword_of, number_of}
 use Rattle.owl_tree.specs.Trees.{Tree, kids_of, leaf, node}
 use Rattle.owl_doc.specs.Parts.{of_axiom, of_header}
-use Rattle.rdf_sayable.specs.Reasons.{inverse_subject, reserved}
+use Rattle.sayable_parts.specs.Reasons.{inverse_subject, reserved}
 use Rattle.rdf_graph.specs.declared.term.Term.TheVariants.{Iri, Blank, Literal}
 use Rattle.rdf_graph.specs.declared.triple.Triple.{Triple}
 use Rattle.rdf_reverse.specs.declared.fault.ReverseFault.TheVariants as reverse

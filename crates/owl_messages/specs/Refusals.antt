@@ -10,7 +10,7 @@ use Rattle.owl_tree.specs.declared.tag.Tag.{Tag}
 use Rattle.owl_tree.specs.declared.tag.Tag.TheVariants as tag
 use Rattle.owl_tree.specs.Tags.{keyword_of}
 use Rattle.owl_doc.specs.Parts.{Part, of_axiom, of_header}
-use Rattle.rdf_sayable.specs.Reasons.{Objection, annotated_declaration, facet_name, inverse_assertion, inverse_subject, many_properties, reserved, two_inverses, undeclared_subject, unnamed_subject}
+use Rattle.sayable_parts.specs.Reasons.{Objection, annotated_declaration, facet_name, inverse_assertion, inverse_subject, many_properties, reserved, two_inverses, undeclared_subject, unnamed_subject}
 use Rattle.owl_messages.specs.Outcome.{Outcome, noted_as, refused}
 
 -- the part, as a line of the note has it: an axiom has its IRIs in full

@@ -4,7 +4,7 @@ ghost use Rattle.std.specs.Prelude.{◌≡◌, string_bytes, IfOk, option_map};
 ghost use Rattle.std.specs.Str.{encode_utf8_all};
 ghost use Rattle.owl_doc.specs.Entities.{IsHeldItem};
 ghost use Rattle.owl_doc.specs.Parts.{part_at};
-ghost use Rattle.rdf_sayable.specs.Reasons.{why_seen};
+ghost use Rattle.sayable_parts.specs.Reasons.{why_seen};
 ghost use Rattle.owl_messages.specs.Answers.{outcome_of};
 ghost use Rattle.owl_messages.specs.Refusals.{item_text, objection_iri, objection_text, objection_word, tag_of_kind, two_kinds, undeclared, undeclared_line, unsayable, unsayable_line};
 

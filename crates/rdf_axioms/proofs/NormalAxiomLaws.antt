@@ -8,7 +8,7 @@ use Rattle.owl_list.proofs.AscendingLaws.{all_from, all_in, all_later}
 use Rattle.owl_tree.specs.Ontologies.{IsAxiom, IsOntology, Ontology}
 use Rattle.owl_tree.specs.Shape.{IsShaped}
 use Rattle.owl_doc.specs.Parts.{leaves, ontology_leaves}
-use Rattle.rdf_sayable.proofs.PartLaws.{from_leaf}
+use Rattle.sayable_parts.proofs.PartLaws.{from_leaf}
 use Rattle.rdf_sayable.specs.Sayable.{CanSayAll}
 use Rattle.rdf_sayable.proofs.SayableLaws.{said_among, said_by_leaves}
 use Rattle.rdf_normal.specs.Tidied.{IsPlain}

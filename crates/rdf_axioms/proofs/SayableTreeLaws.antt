@@ -26,7 +26,7 @@ use Rattle.rdf_meaning.specs.Kinds.{may_be_declared}
 use Rattle.rdf_meaning.specs.Nodes.{is_facet}
 use Rattle.rdf_terms.specs.Vocabulary.{is_reserved, rdf, xsd}
 use Rattle.owl_doc.specs.Parts.{leaves, leaves_of}
-use Rattle.rdf_sayable.specs.Reasons.{reserved, facet_name}
+use Rattle.sayable_parts.specs.Reasons.{reserved, facet_name}
 use Rattle.rdf_sayable.specs.Sayable.{AreSayable, atom_objection, entity_objection, facet_objection, iri_objection, is_facet_name, objection}
 use Rattle.rdf_mapping.specs.Graphs.{all_labels_in, labels_in}
 use Rattle.rdf_mapping.proofs.TreeDrawingLaws.{all_back, all_front}

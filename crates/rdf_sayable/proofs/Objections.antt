@@ -4,7 +4,7 @@ use Rattle.std.specs.Prelude.{if◌then◌else◌}
 use Rattle.std.proofs.lemmas.Bool.{true≢false}
 use Rattle.owl_tree.specs.declared.tag.Tag.{Tag}
 use Rattle.owl_tree.specs.declared.tag.Tag.TheVariants as tag
-use Rattle.rdf_sayable.specs.Reasons.{Objection}
+use Rattle.sayable_parts.specs.Reasons.{Objection}
 use Rattle.rdf_sayable.specs.Sayable.{iri_objection}
 
 pub chosen : (b c : Bool) (x y : Option Objection) → b ≡ c → b ≡ true → x ≡ (if c then x else y)

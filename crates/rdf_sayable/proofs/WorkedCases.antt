@@ -10,7 +10,7 @@ use Rattle.owl_tree.specs.Trees.{Tree, leaf, node, kids_of}
 use Rattle.rdf_terms.specs.Datatypes.{datatype_map, is_in_map, ordered_row}
 use Rattle.rdf_terms.specs.Vocabulary.{is_reserved, owl, rdf, rdfs, xsd}
 use Rattle.owl_doc.specs.Parts.{leaves}
-use Rattle.rdf_sayable.specs.Reasons.{facet_name, reserved}
+use Rattle.sayable_parts.specs.Reasons.{facet_name, reserved}
 use Rattle.rdf_sayable.specs.Sayable.{first_objection, iri_objection}
 
 abbrev named : Tag → List ℕ → Tree

@@ -3,9 +3,7 @@ use Rattle.std.specs.Prelude.{◌≡◌, ℕ, Bool, ◌||◌, if◌then◌else�
 use Rattle.std.specs.List.{AllByRecursion, starts_with}
 use Rattle.std.specs.Option.{option_or}
 use Rattle.owl_characters.specs.Order.{text_eq}
-use Rattle.owl_doc.specs.declared.item.Cant.{Cant}
-use Rattle.owl_doc.specs.Documents.{Document}
-use Rattle.owl_doc.specs.Entities.{IsHeldItem, is_misused}
+use Rattle.owl_doc.specs.Entities.{is_misused}
 use Rattle.owl_kind.specs.declared.kind.Kind.{Kind}
 use Rattle.owl_kind.specs.declared.kind.Kind.TheVariants.{Class, Datatype, ObjectProperty, DataProperty, AnnotationProperty, Individual}
 use Rattle.owl_tree.specs.declared.atom.Atom.{Atom}
@@ -14,8 +12,9 @@ use Rattle.owl_tree.specs.declared.tag.Tag.{Tag}
 use Rattle.owl_tree.specs.declared.tag.Tag.TheVariants as tag
 use Rattle.owl_tree.specs.Ontologies.{Ontology}
 use Rattle.rdf_terms.specs.Vocabulary.{rdf, xsd}
-use Rattle.owl_doc.specs.Parts.{IsFirstWithout, Leaf, Part, leaves_in, part_at, parts_of}
-use Rattle.rdf_sayable.specs.Reasons.{Objection, facet_name, reserved, why_seen}
+use Rattle.owl_doc.specs.Parts.{Leaf, Part, leaves_in}
+use Rattle.sayable_parts.specs.Reasons.{Objection, facet_name, reserved}
+use Rattle.sayable_parts.specs.Unsaid.{IsFirstUnsaid, Says, SaysAll}
 
 -- By its predicate alone a triple is known to say a facet, so each facet has an IRI of XML Schema, or is rdf:langRange.
 abbrev pub is_facet_name : List ℕ → Bool
@@ -55,24 +54,18 @@ first_objection (l ∷ ls) = option_or (objection l) (first_objection ls)
 abbrev pub AreSayable : List Leaf → Type 0
 AreSayable ls = AllByRecursion (λ l. objection l ≡ None) ls
 
+-- what is to be said first against a part
+abbrev pub part_objection : Part → Option Objection
+part_objection part = first_objection (leaves_in part)
+
 -- the part can be said in RDF
 abbrev pub CanSay : Part → Type 0
-CanSay part = AreSayable (leaves_in part)
+CanSay part = Says part_objection part
 
 -- all that the ontology says can be said in RDF
 abbrev pub CanSayAll : Ontology → Type 0
-CanSayAll o = AllByRecursion CanSay (parts_of o)
-
--- the first of these parts that can't be said, and what is to be said first against it
-pub record IsFirstAgainst (parts : List Part) (part : Part) (why : Objection) : Type 0 where
-  pub first : IsFirstWithout CanSay parts part
-  pub objection : first_objection (leaves_in part) ≡ Some why
+CanSayAll o = SaysAll part_objection o
 
 -- the first part of the ontology that can't be said, its header before its axioms in canonical order
 abbrev pub IsFirstUnsayable : Ontology → Part → Objection → Type 0
-IsFirstUnsayable o part why = IsFirstAgainst (parts_of o) part why
-
--- what a search for the first of these parts of a document finds
-abbrev pub FindsUnsayable : Document → List Part → Option Cant → Type 0
-FindsUnsayable d parts None = AllByRecursion CanSay parts
-FindsUnsayable d parts (Some cant) = IsHeldItem d cant.item × IsFirstAgainst parts (part_at d cant.item) (why_seen cant.why)
+IsFirstUnsayable o part why = IsFirstUnsaid part_objection o part why

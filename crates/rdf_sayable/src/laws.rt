@@ -5,7 +5,7 @@ ghost use Rattle.owl_tree.specs.Equivalence.{IsEquivalent};
 ghost use Rattle.owl_tree.specs.Ontologies.{IsSameOntology, Ontology};
 ghost use Rattle.owl_tree.specs.Trees.{Tree};
 ghost use Rattle.owl_doc.specs.Parts.{Leaf, Part, leaves_in, of_axiom, ontology_leaves};
-ghost use Rattle.rdf_sayable.specs.Reasons.{Objection};
+ghost use Rattle.sayable_parts.specs.Reasons.{Objection};
 ghost use Rattle.rdf_sayable.specs.Sayable.{AreSayable, CanSay, CanSayAll, IsFirstUnsayable};
 
 /// Laws: an ontology can be said exactly where its leaves can. So can each part

@@ -5,7 +5,7 @@ ghost use Rattle.std.specs.List.{list_all, starts_with};
 ghost use Rattle.std.specs.Option.{option_map};
 ghost use Rattle.owl_characters.specs.Iri.{is_ascii};
 ghost use Rattle.owl_characters.specs.Order.{text_eq};
-ghost use Rattle.rdf_sayable.specs.Reasons.{why_seen};
+ghost use Rattle.sayable_parts.specs.Reasons.{why_seen};
 ghost use Rattle.owl_doc.specs.Entities.{is_misused};
 ghost use Rattle.rdf_sayable.specs.Sayable.{atom_objection, entity_objection, facet_objection, iri_objection, is_facet_name};
 

@@ -1,17 +1,33 @@
 //! Whether documents can be said in RDF.
 
-ghost use Rattle.std.specs.Prelude.{◌≡◌, ◌↔◌, ◌<◌, IfSome, IsNone, length, map};
+ghost use Rattle.std.specs.Prelude.{◌≡◌, ◌↔◌, ◌<◌, IfSome, IsNone, length};
 ghost use Rattle.std.specs.Option.{option_map};
 ghost use Rattle.owl_arena.specs.Held.{AreHeld, tree_at};
 ghost use Rattle.owl_doc.specs.Documents.{ontology_of};
 ghost use Rattle.owl_doc.specs.Entities.{IsHeldItem};
-ghost use Rattle.owl_doc.specs.Parts.{leaves, leaves_at, of_axiom, part_at};
-ghost use Rattle.rdf_sayable.specs.Reasons.{why_seen};
-ghost use Rattle.rdf_sayable.specs.Sayable.{CanSayAll, FindsUnsayable, IsFirstUnsayable, first_objection};
+ghost use Rattle.owl_doc.specs.Parts.{leaves, leaves_at, part_at};
+ghost use Rattle.sayable_parts.specs.Reasons.{why_seen};
+ghost use Rattle.rdf_sayable.specs.Sayable.{CanSayAll, IsFirstUnsayable, first_objection, part_objection};
 
 use crate::objection::atom_objection;
 use owl_arena::{Arena, ExprId};
-use owl_doc::{Cant, Doc, Item, Why};
+use owl_doc::{Cant, Doc, Why};
+use sayable_parts::{Saying, first_unsaid};
+
+/// RDF, as a syntax.
+struct Rdf;
+
+impl Saying for Rdf {
+    ghost objection = { λ _. part_objection };
+
+    fn header_objection<'a>(&self, arena: &'a Arena, notes: &[ExprId]) -> Option<Why<'a>> {
+        trees_objection(arena, notes)
+    }
+
+    fn axiom_objection<'a>(&self, arena: &'a Arena, id: ExprId) -> Option<Why<'a>> {
+        tree_objection(arena, id)
+    }
+}
 
 /// The first part of the document that cannot be said in RDF (Mapping to RDF
 /// Graphs, section 2), its header before its axioms in canonical order, with
@@ -23,28 +39,7 @@ pub fn can<'a>(doc: &'a Doc) -> Option<Cant<'a>>
         IsFirstUnsayable (ontology_of doc.now) (part_at doc.now cant.item) (why_seen cant.why)) }
     ensures held { IfSome result (λ cant. IsHeldItem doc.now cant.item) }
 {
-    match trees_objection(doc.arena(), doc.notes()) {
-        Some(why) => Some(Cant {
-            item: Item::Header,
-            why,
-        }),
-        None => unsayable_axiom(doc),
-    }
-}
-
-/// The first axiom that cannot be said.
-fn unsayable_axiom<'a>(doc: &'a Doc) -> Option<Cant<'a>>
-    ensures { FindsUnsayable doc.now (map of_axiom (ontology_of doc.now).axioms) result }
-{
-    'axioms: for id in doc.axioms() {
-        if let Some(why) = tree_objection(doc.arena(), *id) {
-            return Some(Cant {
-                item: Item::Axiom(*id),
-                why,
-            });
-        }
-    }
-    None
+    first_unsaid(doc, &Rdf)
 }
 
 /// What is to be said first against a tree.

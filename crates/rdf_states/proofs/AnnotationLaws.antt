@@ -29,7 +29,7 @@ use Rattle.rdf_meaning.specs.Kinds.{has_kind, may_be_declared}
 use Rattle.rdf_meaning.proofs.KindLaws.{has_kind_is}
 use Rattle.rdf_terms.specs.Vocabulary.{is_reserved}
 use Rattle.owl_doc.specs.Parts.{leaves, leaves_of}
-use Rattle.rdf_sayable.specs.Reasons.{Objection, reserved}
+use Rattle.sayable_parts.specs.Reasons.{Objection, reserved}
 use Rattle.rdf_sayable.specs.Sayable.{AreSayable, iri_objection, objection}
 use Rattle.rdf_normal.proofs.NeedlessLaws.{any_if, both_true, from_filter, not_true, says_more_if}
 use Rattle.rdf_normal.specs.NormalForms.{is_annotated, is_needless, needed, needed_in, says_more, tidied, tidieds}

@@ -19,7 +19,7 @@ use Rattle.rdf_normal.proofs.NormalFormLaws.{KidsMeet, LeavesMeet, annotations_h
 use Rattle.rdf_normal.proofs.AgainLaws.{normal_again}
 use Rattle.rdf_normal.proofs.ShapedLaws.{normal_is_ontology}
 use Rattle.rdf_normal.proofs.TidiedLaws.{settled_form}
-use Rattle.rdf_sayable.proofs.PartLaws.{from_leaf, leaf_in}
+use Rattle.sayable_parts.proofs.PartLaws.{from_leaf, leaf_in}
 use Rattle.owl_doc.specs.Parts.{Leaf, leaves, leaves_of, ontology_leaves}
 use Rattle.rdf_sayable.specs.Sayable.{CanSayAll}
 use Rattle.rdf_sayable.proofs.SayableLaws.{said_among, said_by_leaves}

@@ -19,7 +19,7 @@ use Rattle.owl_tree.specs.Shape.{AreShaped, IsShaped}
 use Rattle.owl_tree.specs.Tags.{is_axiom, number_of}
 use Rattle.owl_tree.specs.Trees.{Tree, leaf, node, no_kids, kid, kids_of, list_of, tag_of}
 use Rattle.owl_doc.specs.Parts.{leaves, leaves_of, ontology_leaves}
-use Rattle.rdf_sayable.proofs.PartLaws.{from_leaf, leaves_both}
+use Rattle.sayable_parts.proofs.PartLaws.{from_leaf, leaves_both}
 use Rattle.rdf_sayable.specs.Sayable.{AreSayable, objection}
 use Rattle.rdf_sayable.proofs.SayableLaws.{said_among, said_by_leaves}
 use Rattle.rdf_normal.specs.Tidied.{IsPlain}

@@ -2,7 +2,7 @@ use Rattle.std.proofs.Common.{refl}
 use Rattle.std.proofs.lemmas.Result.{IfOk-weaker}
 use Rattle.owl_documents.specs.Documents.{said_of}
 use Rattle.owl_doc.specs.Parts.{part_at}
-use Rattle.rdf_sayable.specs.Reasons.{why_seen}
+use Rattle.sayable_parts.specs.Reasons.{why_seen}
 use Rattle.owl_messages.specs.declared.answer.Answer.{Answer}
 use Rattle.owl_answer.proofs.Turtles.{ready_told, unsaid_told}
 use Rattle.owl_answer.proofs.turtle.translate_typed.Goals as goal

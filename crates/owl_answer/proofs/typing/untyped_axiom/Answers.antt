@@ -2,7 +2,7 @@ use Rattle.std.proofs.Common.{◌<◌, ℕ, List, Contains, length, subst, sym}
 use Rattle.owl_arena.specs.Held.{tree_at}
 use Rattle.owl_list.proofs.AscendingLaws.{all_in}
 use Rattle.owl_doc.specs.Parts.{IsFirstWithout, of_axiom, part_entities}
-use Rattle.rdf_sayable.proofs.SearchLaws.{axioms_at, first_axiom}
+use Rattle.sayable_parts.proofs.SearchLaws.{axioms_at, first_axiom}
 use Rattle.owl_answer.specs.Typing.{IsWellTyped}
 use Rattle.owl_answer.proofs.Typings.{not_typed}
 use Rattle.owl_answer.proofs.typing.untyped_axiom.Goals as goal

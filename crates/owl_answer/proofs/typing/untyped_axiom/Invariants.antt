@@ -1,4 +1,4 @@
-use Rattle.rdf_sayable.proofs.SearchLaws.{HoldsBefore}
+use Rattle.sayable_parts.proofs.SearchLaws.{HoldsBefore}
 use Rattle.owl_answer.specs.Typing.{IsWellTyped}
 use Rattle.owl_answer.proofs.typing.untyped_axiom.Given as goal
 

@@ -3,9 +3,10 @@ use Rattle.owl_arena.specs.Held.{tree_at}
 use Rattle.owl_list.proofs.AscendingLaws.{all_in, all_later}
 use Rattle.owl_tree.specs.Trees.{Tree, kids_of}
 use Rattle.owl_doc.specs.Parts.{leaves_of}
-use Rattle.rdf_sayable.specs.Reasons.{why_seen}
+use Rattle.sayable_parts.specs.Reasons.{why_seen}
 use Rattle.rdf_sayable.specs.Sayable.{first_objection}
-use Rattle.rdf_sayable.proofs.Searching.{above_each, above_within, node_objection, one_more_said, said_first}
+use Rattle.sayable_parts.proofs.WalkLaws.{above_each, above_within, all_said, one_more_said, said_first}
+use Rattle.rdf_sayable.proofs.Searching.{along_trees, node_objection, objection_at}
 use Rattle.rdf_sayable.proofs.sayable.+objections.Goals as goal
 
 pub tree_objection-trees_objection-requires : goal.tree_objection-trees_objection-requires
@@ -30,8 +31,14 @@ trees_objection-tree_objection-requires t c =
 
 pub trees_objection-returns-in-Some : goal.trees_objection-returns-in-Some
 trees_objection-returns-in-Some t c =
-    said_first c.args.arena.now.trees c.args.ids.now c.ids.id-index c.id-item.result (why_seen c.in-Some.why) c.ids-test.true c.id-item.is c.ids.invariant c.in-Some.ensures
+    said_first (objection_at c.args.arena.now.trees) c.args.ids.now c.ids.id-index c.id-item.result (why_seen c.in-Some.why) c.ids-test.true c.id-item.is c.ids.invariant c.in-Some.ensures
+    ∙ along_trees c.args.arena.now.trees c.args.ids.now
 
 pub trees_objection-ids-preserved : goal.trees_objection-ids-preserved
 trees_objection-ids-preserved t c =
-    one_more_said c.args.arena.now.trees c.args.ids.now c.ids.id-index c.id-item.result c.ids-test.true c.id-item.is c.ids.invariant c.in_default.ensures
+    one_more_said (objection_at c.args.arena.now.trees) c.args.ids.now c.ids.id-index c.id-item.result c.ids-test.true c.id-item.is c.ids.invariant c.in_default.ensures
+
+pub trees_objection-returns : goal.trees_objection-returns
+trees_objection-returns t c =
+    all_said (objection_at c.args.arena.now.trees) c.args.ids.now c.ids.id-index (omega (arith, c.ids-test.false)) c.ids.invariant
+    ∙ along_trees c.args.arena.now.trees c.args.ids.now

@@ -1,0 +1,5 @@
+mod Finding
+pub mod PartLaws
+pub mod SearchLaws
+pub mod UnsaidLaws
+pub mod WalkLaws
