@@ -17,8 +17,9 @@ pub fn facet_iri(alloc: Global, facet: Facet) -> Result<Iri, NoMemory>
     Iri::of_ascii(alloc, facet_name(facet))
 }
 
+/// The characters of that IRI, which are ASCII.
 #[tactic(auto, unfolding(crate::specs::Places::facet_iri))]
-fn facet_name(facet: Facet) -> &'static str
+pub fn facet_name(facet: Facet) -> &'static str
     ensures name { result.now ≡ facet_iri facet }
     ensures ascii { is_ascii_iri result.now ≡ true }
 {

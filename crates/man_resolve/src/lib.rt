@@ -19,6 +19,8 @@ mod shape;
 mod step;
 
 pub use declarations::declared;
+pub use facets::facet_name;
 pub use fault::ResolveFault;
 pub use laws::{frames_mean_one_ontology, tables_fit_rows};
+pub use names::has_kind;
 pub use resolving::{head, resolve};

@@ -51,13 +51,13 @@ fn may_be(kinds: &Kinds, atom: &Atom, tag: Tag) -> bool
     ensures { result ≡ may_be (knows kinds.now) atom.now tag }
 {
     match entity_of(kind_of(tag), atom) {
-        Some((kind, iri)) => has(kinds, kind, iri),
+        Some((kind, iri)) => has_kind(kinds, kind, iri),
         None => true,
     }
 }
 
 /// Whether the IRI is declared as this kind, or built in.
-fn has(kinds: &Kinds, kind: Kind, iri: &Iri) -> bool
+pub fn has_kind(kinds: &Kinds, kind: Kind, iri: &Iri) -> bool
     ensures { result ≡ knows kinds.now kind iri.now }
 {
     kinds.has(kind, iri)
@@ -74,7 +74,7 @@ fn is_typed(kinds: &Kinds, iri: &Iri) -> bool
         Kind::DataProperty,
         Kind::AnnotationProperty,
     ];
-    typed.iter().any(|kind| has(kinds, *kind, iri))
+    typed.iter().any(|kind| has_kind(kinds, *kind, iri))
 }
 
 /// Why the atom has no kind that it needs.

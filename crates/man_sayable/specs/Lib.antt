@@ -1,0 +1,4 @@
+pub mod FrameKinds
+pub mod Facets
+pub mod Subjects
+pub mod Sayable
