@@ -14,8 +14,11 @@ use Rattle.owl_tree.specs.Rows.{Row, Leaf, Node, row_of}
 use Rattle.owl_tree.specs.Trees.{Tree, Kids, leaf, node, no_kids, kid, atom_in, kids_in, kids_of, list_of, tag_of}
 use Rattle.owl_tree.proofs.TreeLaws.{list_of_kids_of}
 use Rattle.owl_writing.specs.Limits.{IsTooLong}
-use Rattle.fss_write.specs.Parts.{behind, has_parts, kids_parts, kids_parts_at, only_behind, parts_at, repeated, spaced, spacing}
-use Rattle.fss_write.specs.Text.{doubled, doubled_behind, joined, leaf_text, node_parts, parts, parts_of, written_form, written_forms}
+use Rattle.fss_write.specs.Parts.{behind, has_parts, kids_parts, kids_parts_at, parts_at, spaced, spacing}
+use Rattle.written_trees.proofs.RepeatedLaws.{doubled_is, forms_map, kids_written, none_repeated, repeated_map}
+use Rattle.written_trees.specs.Written.{only_behind, repeated}
+use Rattle.fss_write.specs.Text.{joined, leaf_text, node_parts, parts, parts_of}
+use Rattle.written_trees.specs.Written.{doubled, doubled_behind, written_form, written_forms}
 use Rattle.owl_writing.proofs.DraftLaws.{flat_of_map, joined2, longer_by}
 
 -- parts behind parts
@@ -95,67 +98,6 @@ pub one_behind : (some : Bool) (part : List ℕ) → behind some (part ∷ []) �
 one_behind true part = append-nil (spaced part)
 one_behind false part = refl
 
--- kids as they are written
-doubled_behind_is : (n : ℕ) (ts : List Tree) → doubled_behind n ts ≡ ts ++ option_to_list (only_behind n ts)
-doubled_behind_is zero [] = refl
-doubled_behind_is zero (t ∷ []) = refl
-doubled_behind_is zero (t ∷ u ∷ ts) = sym (append-nil (t ∷ u ∷ ts))
-doubled_behind_is (suc n) [] = refl
-doubled_behind_is (suc n) (t ∷ ts) = ap (λ (us : List Tree). t ∷ us) (doubled_behind_is n ts)
-
-doubled_set : (b : Bool) (n : ℕ) (ts : List Tree) → (if b then doubled_behind n ts else ts) ≡ ts ++ option_to_list (if b then only_behind n ts else None)
-doubled_set true n ts = doubled_behind_is n ts
-doubled_set false n ts = sym (append-nil ts)
-
-doubled_is : (row : Row) (ts : List Tree) → doubled row ts ≡ ts ++ option_to_list (repeated row ts)
-doubled_is (Leaf sort) ts = sym (append-nil ts)
-doubled_is (Node front Nothing) ts = sym (append-nil ts)
-doubled_is (Node front (Optional sort)) ts = sym (append-nil ts)
-doubled_is (Node front (AtLeast sort least)) ts = sym (append-nil ts)
-doubled_is (Node front (SomeThen sort last)) ts = sym (append-nil ts)
-doubled_is (Node front (Set sort least)) ts = doubled_set (nat_le 2 least) (length front) ts
-
--- by how many there are
-pub only_there : (n : ℕ) (xs : List ℕ) → n < length xs → length xs - n ≡ 1 → only_behind n xs ≡ Some (get_or xs n 0)
-only_there zero [] l e = absurd (omega arith)
-only_there zero (x ∷ []) l e = refl
-only_there zero (x ∷ y ∷ zs) l e = absurd (omega arith)
-only_there (suc n) [] l e = absurd (omega arith)
-only_there (suc n) (x ∷ xs) l e = only_there n xs (omega arith) (omega arith)
-
-pub only_not : (n : ℕ) (xs : List ℕ) → length xs ≢ n + 1 → only_behind n xs ≡ None
-only_not zero [] l = refl
-only_not zero (x ∷ []) l = absurd (l refl)
-only_not zero (x ∷ y ∷ zs) l = refl
-only_not (suc n) [] l = refl
-only_not (suc n) (x ∷ xs) l = only_not n xs (λ e. l (omega arith))
-
-only_map : {X Y : Type 0} (f : X → Y) (n : ℕ) (xs : List X) → only_behind n (map f xs) ≡ option_map f (only_behind n xs)
-only_map f zero [] = refl
-only_map f zero (x ∷ []) = refl
-only_map f zero (x ∷ y ∷ zs) = refl
-only_map f (suc n) [] = refl
-only_map f (suc n) (x ∷ xs) = only_map f n xs
-
-set_map : {X Y : Type 0} (f : X → Y) (b : Bool) (n : ℕ) (xs : List X) → (if b then only_behind n (map f xs) else None) ≡ option_map f (if b then only_behind n xs else None)
-set_map f true n xs = only_map f n xs
-set_map f false n xs = refl
-
-repeated_map : {X Y : Type 0} (f : X → Y) (row : Row) (xs : List X) → repeated row (map f xs) ≡ option_map f (repeated row xs)
-repeated_map f (Leaf sort) xs = refl
-repeated_map f (Node front Nothing) xs = refl
-repeated_map f (Node front (Optional sort)) xs = refl
-repeated_map f (Node front (AtLeast sort least)) xs = refl
-repeated_map f (Node front (SomeThen sort last)) xs = refl
-repeated_map f (Node front (Set sort least)) xs = set_map f (nat_le 2 least) (length front) xs
-
-forms_map : (ks : Kids) → written_forms ks ≡ map written_form (list_of ks)
-forms_map no_kids = refl
-forms_map (kid k ks) = ap (λ (ts : List Tree). written_form k ∷ ts) (forms_map ks)
-
-kids_written : (t : Tag) (ks : Kids) → kids_in (written_form (node t ks)) ≡ doubled (row_of t) (map written_form (list_of ks))
-kids_written t ks = list_of_kids_of (doubled (row_of t) (written_forms ks)) ∙ ap (doubled (row_of t)) (forms_map ks)
-
 map_both : {X Y Z : Type 0} (f : X → Y) (g : Y → Z) (xs : List X) → map g (map f xs) ≡ map (λ (x : X). g (f x)) xs
 map_both f g [] = refl
 map_both f g (x ∷ xs) = ap (λ (zs : List _). g (f x) ∷ zs) (map_both f g xs)
@@ -190,22 +132,6 @@ pub other_parts : (prefixes : List Prefix) (within : Tag) (t : Tree) → atom_in
 other_parts prefixes within (leaf u b) e = absurd (cc)
 other_parts prefixes within (node u ks) e = ap (node_parts u) (parts_list prefixes u (kids_of (doubled (row_of u) (written_forms ks))))
 
--- no kids are written of a leaf
-none_repeated : (row : Row) → repeated {X = ℕ} row [] ≡ None
-none_repeated (Leaf sort) = refl
-none_repeated (Node front Nothing) = refl
-none_repeated (Node front (Optional sort)) = refl
-none_repeated (Node front (AtLeast sort least)) = refl
-none_repeated (Node front (SomeThen sort last)) = refl
-none_repeated (Node front (Set sort least)) = of_set (nat_le 2 least) (length front) where
-  none_behind : (n : ℕ) → only_behind {X = ℕ} n [] ≡ None
-  none_behind zero = refl
-  none_behind (suc n) = refl
-
-  of_set : (b : Bool) (n : ℕ) → (if b then only_behind {X = ℕ} n [] else None) ≡ None
-  of_set true n = none_behind n
-  of_set false n = refl
-
 empty_numbers : (trees : List Tree) (ids : List ℕ) → trees_at trees ids ≡ [] → ids ≡ []
 empty_numbers trees [] e = refl
 empty_numbers trees (id ∷ ids) e = absurd (cc)
@@ -219,26 +145,6 @@ tree_kids prefixes trees (node t ks) ids e = node_kids prefixes trees t ks ids e
 pub kids_at : (prefixes : List Prefix) (trees : List Tree) (id : ℕ) (t : Tag) (ids : List ℕ) → t ≡ tag_of (tree_at trees id) → trees_at trees ids ≡ kids_in (tree_at trees id) → kids_parts_at prefixes trees id ≡ flat_map (parts_at prefixes trees t) (ids ++ option_to_list (repeated (row_of t) ids))
 kids_at prefixes trees id t ids e f =
     tree_kids prefixes trees (tree_at trees id) ids f ∙ ap (λ (u : Tag). flat_map (parts_at prefixes trees u) (ids ++ option_to_list (repeated (row_of u) ids))) (sym e)
-
--- the one that stands twice is one of the kids
-only_kept : (P : ℕ → Type 0) (n : ℕ) (ids : List ℕ) (id : ℕ) → only_behind n ids ≡ Some id → AllByRecursion P ids → P id
-only_kept P zero [] id e h = absurd (cc)
-only_kept P zero (x ∷ []) id e h = let same : x ≡ id = cc in subst P same h.0
-only_kept P zero (x ∷ y ∷ zs) id e h = absurd (cc)
-only_kept P (suc n) [] id e h = absurd (cc)
-only_kept P (suc n) (x ∷ xs) id e h = only_kept P n xs id e h.1
-
-set_kept : (P : ℕ → Type 0) (b : Bool) (n : ℕ) (ids : List ℕ) (id : ℕ) → (if b then only_behind n ids else None) ≡ Some id → AllByRecursion P ids → P id
-set_kept P true n ids id e h = only_kept P n ids id e h
-set_kept P false n ids id e h = absurd (cc)
-
-pub repeated_kept : (P : ℕ → Type 0) (row : Row) (ids : List ℕ) (id : ℕ) → repeated row ids ≡ Some id → AllByRecursion P ids → P id
-repeated_kept P (Leaf sort) ids id e h = absurd (cc)
-repeated_kept P (Node front Nothing) ids id e h = absurd (cc)
-repeated_kept P (Node front (Optional sort)) ids id e h = absurd (cc)
-repeated_kept P (Node front (AtLeast sort least)) ids id e h = absurd (cc)
-repeated_kept P (Node front (SomeThen sort last)) ids id e h = absurd (cc)
-repeated_kept P (Node front (Set sort least)) ids id e h = set_kept P (nat_le 2 least) (length front) ids id e h
 
 -- the kids around a place
 pub around : (ids : List ℕ) (i : ℕ) (id : ℕ) (rest : List ℕ) → i < length ids → id ≡ get_or ids i id → (take i ids ++ id ∷ []) ++ (drop (suc i) ids ++ rest) ≡ ids ++ rest

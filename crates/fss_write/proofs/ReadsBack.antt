@@ -47,13 +47,14 @@ use Rattle.fss_terms.specs.declared.term.Term.{Term}
 use Rattle.fss_terms.specs.declared.term.Term.TheVariants as term
 use Rattle.owl_writing.specs.Tables.{declared_prefixes, with_prefix, written_prefixes, HaveIris}
 use Rattle.owl_writing.specs.Terms.{full_iri}
-use Rattle.fss_write.specs.Text.{header_line, import_line, item_line, written_text, name_text, parts, prefix_line, text_of, version_text, written_form}
+use Rattle.fss_write.specs.Text.{header_line, import_line, item_line, written_text, name_text, parts, prefix_line, text_of, version_text}
+use Rattle.written_trees.specs.Written.{written_form}
 use Rattle.owl_writing.proofs.WrittenTableLaws.{AreKnown, are_known, written_iris, written_table}
 use Rattle.fss_write.proofs.DeclaredTables.{are_declarable, declaration, declared_table}
 use Rattle.owl_writing.proofs.CutLaws.{Cuts, cuts_space, cuts_token}
 use Rattle.fss_write.proofs.Pieces.{SaysTerms, says_close, says_line, says_none, says_opening, says_space}
 use Rattle.fss_write.proofs.Stops.{token_longest}
-use Rattle.fss_write.proofs.WrittenForms.{equivalent_written, is_written, written_equivalent, written_tag}
+use Rattle.written_trees.proofs.WrittenLaws.{equivalent_written, is_written, written_equivalent, written_tag}
 use Rattle.owl_writing.proofs.PlainLocalLaws.{spells_nothing}
 use Rattle.fss_write.proofs.WrittenTerms.{allows_end, import_word, ontology_word, prefix_word, say_tree}
 

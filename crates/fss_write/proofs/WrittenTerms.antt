@@ -30,7 +30,8 @@ use Rattle.fss_terms.specs.Spelling.{spelling, spellings}
 use Rattle.fss_terms.specs.Terms.{AreTerms, plain, tagged, typed}
 use Rattle.fss_terms.specs.declared.term.Term.{Term}
 use Rattle.fss_terms.specs.declared.term.Term.TheVariants as term
-use Rattle.fss_write.specs.Text.{atom_text, bracketed, joined, literal_text, parts, parts_of, string_text}
+use Rattle.fss_write.specs.Text.{bracketed, joined, parts, parts_of}
+use Rattle.written_trees.specs.Atoms.{atom_text, literal_text, string_text}
 use Rattle.owl_writing.specs.Terms.{iri_text, literal_end}
 use Rattle.owl_writing.proofs.WrittenTableLaws.{AreKnown}
 use Rattle.owl_tokens.specs.Tokens.{Spells}

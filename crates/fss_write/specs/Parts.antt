@@ -6,7 +6,8 @@ use Rattle.owl_tree.specs.declared.tag.Tag.{Tag}
 use Rattle.owl_tree.specs.declared.row.Rest.TheVariants.{Nothing, Optional, AtLeast, SomeThen, Set}
 use Rattle.owl_tree.specs.Rows.{Row, Leaf, Node}
 use Rattle.owl_tree.specs.Trees.{Tree, kids_in, tag_of}
-use Rattle.fss_write.specs.Text.{bracketed, joined, node_name, node_parts, parts, written_form}
+use Rattle.fss_write.specs.Text.{bracketed, joined, node_name, node_parts, parts}
+use Rattle.written_trees.specs.Written.{written_form}
 
 abbrev pub spaced : List ℕ → List ℕ
 spaced part = codes " " ++ part
@@ -20,23 +21,6 @@ behind false texts = joined texts
 abbrev pub has_parts : Bool → List (List ℕ) → Bool
 has_parts before [] = before
 has_parts before (part ∷ others) = true
-
--- the member behind so many, where it is the only one
-abbrev pub only_behind : {X : Type 0} → ℕ → List X → Option X
-only_behind zero [] = None
-only_behind zero (x ∷ []) = Some x
-only_behind zero (x ∷ y ∷ zs) = None
-only_behind (suc n) [] = None
-only_behind (suc n) (x ∷ xs) = only_behind n xs
-
--- the only member of a set of which two have to be written
-abbrev pub repeated : {X : Type 0} → Row → List X → Option X
-repeated (Leaf sort) xs = None
-repeated (Node front Nothing) xs = None
-repeated (Node front (Optional sort)) xs = None
-repeated (Node front (AtLeast sort least)) xs = None
-repeated (Node front (SomeThen sort last)) xs = None
-repeated (Node front (Set sort least)) xs = if nat_le 2 least then only_behind (length front) xs else None
 
 -- a space behind some part
 abbrev pub spacing : Bool → List ℕ

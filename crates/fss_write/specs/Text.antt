@@ -15,19 +15,9 @@ use Rattle.owl_tree.specs.Rows.{Row, Leaf, Node, is_tag, row_of, is_bare, is_gro
 use Rattle.owl_tree.specs.Tags.{keyword_of}
 use Rattle.owl_tree.specs.Trees.{Tree, Kids, leaf, node, no_kids, kid, kids_of, tag_of}
 use Rattle.owl_writing.specs.Tables.{written_prefixes}
+use Rattle.written_trees.specs.Atoms.{atom_text}
+use Rattle.written_trees.specs.Written.{written_form}
 use Rattle.owl_writing.specs.Terms.{full_iri, iri_text, label_text, literal_end}
-
-abbrev pub string_text : List ℕ → List ℕ
-string_text form = codes "\"" ++ (flat_map character_spelling form ++ codes "\"")
-
-abbrev pub literal_text : List Prefix → LiteralParts → List ℕ
-literal_text prefixes literal = string_text literal.lexical ++ literal_end prefixes literal.datatype literal.tag
-
-abbrev pub atom_text : List Prefix → Atom → List ℕ
-atom_text prefixes (Iri iri) = iri_text prefixes iri
-atom_text prefixes (Label label) = label_text label
-atom_text prefixes (Literal literal) = literal_text prefixes literal
-atom_text prefixes (Number number) = decimal number
 
 abbrev pub bracketed : List ℕ → List ℕ → List ℕ
 bracketed name inside = name ++ (codes "(" ++ (inside ++ codes ")"))
@@ -61,33 +51,6 @@ abbrev mutual
 
 abbrev pub tree_text : List Prefix → Tree → List ℕ
 tree_text prefixes t = joined (parts prefixes (tag_of t) t)
-
--- behind so many, one alone stands twice
-abbrev pub doubled_behind : ℕ → List Tree → List Tree
-doubled_behind zero [] = []
-doubled_behind zero (t ∷ []) = t ∷ t ∷ []
-doubled_behind zero (t ∷ u ∷ ts) = t ∷ u ∷ ts
-doubled_behind (suc n) [] = []
-doubled_behind (suc n) (t ∷ ts) = t ∷ doubled_behind n ts
-
--- where a row asks for two members of a set, one alone is written twice
-abbrev pub doubled : Row → List Tree → List Tree
-doubled (Leaf sort) ts = ts
-doubled (Node front Nothing) ts = ts
-doubled (Node front (Optional sort)) ts = ts
-doubled (Node front (AtLeast sort least)) ts = ts
-doubled (Node front (SomeThen sort last)) ts = ts
-doubled (Node front (Set sort least)) ts = if nat_le 2 least then doubled_behind (length front) ts else ts
-
--- the tree as it is written
-abbrev mutual
-  pub written_form : Tree → Tree
-  written_form (leaf t a) = leaf t a
-  written_form (node t ks) = node t (kids_of (doubled (row_of t) (written_forms ks)))
-
-  pub written_forms : Kids → List Tree
-  written_forms no_kids = []
-  written_forms (kid k ks) = written_form k ∷ written_forms ks
 
 abbrev pub written_text : List Prefix → Tree → List ℕ
 written_text prefixes t = tree_text prefixes (written_form t)

@@ -1,7 +1,6 @@
 //! Writes documents in Functional-Style Syntax.
 #![tactic(auto)]
 
-mod atoms;
 mod lines;
 mod tree;
 mod writer;

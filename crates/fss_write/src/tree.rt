@@ -7,42 +7,22 @@ ghost use Rattle.owl_tree.specs.Rows.{row_of};
 ghost use Rattle.owl_tree.specs.Tags.{keyword_of};
 ghost use Rattle.owl_writing.specs.Limits.{IsTooLong};
 ghost use Rattle.owl_writing.specs.declared.fault.WriteFault.{WriteFault};
-ghost use Rattle.fss_write.specs.Parts.{behind, has_parts, kids_parts_at, node_parts_at, node_text_at, only_behind, parts_at, repeated, spacing};
-ghost use Rattle.fss_write.specs.Text.{atom_text, bracketed, leaf_text, node_name, written_text};
+ghost use Rattle.fss_write.specs.Parts.{behind, has_parts, kids_parts_at, node_parts_at, node_text_at, parts_at, spacing};
+ghost use Rattle.written_trees.specs.Written.{only_behind, repeated};
+ghost use Rattle.fss_write.specs.Text.{bracketed, leaf_text, node_name, written_text};
+ghost use Rattle.written_trees.specs.Atoms.{atom_text};
 
-use crate::atoms::add_atom;
 use owl_arena::{Arena, ExprId};
 use owl_atom::Prefixes;
-use owl_tree::{Atom, Rest, Row, Tag};
+use owl_tree::{Atom, Tag};
 use owl_writing::{Draft, WriteFault};
+use written_trees::{add_atom, repeated};
 
 /// What stands before the bracket of a node.
 fn node_name(tag: Tag) -> &'static str
     ensures { chars result.now ≡ node_name tag }
 {
     if tag.is_group() { "" } else { tag.keyword() }
-}
-
-/// The only member of a set of which two members have to be written.
-fn repeated(tag: Tag, kids: &[ExprId]) -> Option<ExprId>
-    ensures { result ≡ repeated (row_of tag) kids.now }
-{
-    match tag.row() {
-        Row::Node(front, Rest::Set(_, least)) if 2 <= least => only_behind(front.len(), kids),
-        _ => None,
-    }
-}
-
-/// The kid behind so many, where it is the only one.
-#[tactic(auto, using(crate::proofs::PartTexts::only_there, crate::proofs::PartTexts::only_not))]
-fn only_behind(count: usize, kids: &[ExprId]) -> Option<ExprId>
-    ensures { result ≡ only_behind count kids.now }
-{
-    if count < kids.len() && kids.len() - count == 1 {
-        Some(kids[count])
-    } else {
-        None
-    }
 }
 
 /// Adds a space where some part stands before.

@@ -9,9 +9,11 @@ use Rattle.owl_tree.specs.Rows.{row_of}
 use Rattle.fss_write.specs.Text.{leaf_text}
 use Rattle.owl_writing.specs.declared.fault.WriteFault.TheVariants.{TooLong}
 use Rattle.owl_writing.specs.Limits.{IsTooLong}
-use Rattle.fss_write.specs.Parts.{behind, has_parts, kids_parts_at, parts_at, repeated, spacing}
+use Rattle.fss_write.specs.Parts.{behind, has_parts, kids_parts_at, parts_at, spacing}
+use Rattle.written_trees.specs.Written.{repeated}
 use Rattle.owl_writing.proofs.DraftLaws.{joined2, passed_on, taken_one}
-use Rattle.fss_write.proofs.PartTexts.{AreAdded, added_all, added_one, added_too_long, around, kids_at, last_some, last_text, last_too_long, leaf_parts, one_behind, other_parts, repeated_kept}
+use Rattle.fss_write.proofs.PartTexts.{AreAdded, added_all, added_one, added_too_long, around, kids_at, last_some, last_text, last_too_long, leaf_parts, one_behind, other_parts}
+use Rattle.written_trees.proofs.RepeatedLaws.{repeated_kept}
 use Rattle.fss_write.proofs.tree.+tree.Goals as goal
 
 pub add_kids-returns-in_err-after_part-clause-too_long : goal.add_kids-returns-in_err-after_part-clause-too_long

@@ -6,7 +6,7 @@ ghost use Rattle.std.specs.Fmt.{decimal};
 ghost use Rattle.owl_tokens.specs.Tokens.{character_spelling};
 ghost use Rattle.owl_writing.specs.Limits.{IsTooLong};
 ghost use Rattle.owl_writing.specs.declared.fault.WriteFault.{WriteFault};
-ghost use Rattle.fss_write.specs.Text.{atom_text, literal_text, string_text};
+ghost use Rattle.written_trees.specs.Atoms.{atom_text, literal_text, string_text};
 
 use owl_atom::{Literal, Prefixes};
 use owl_tree::Atom;

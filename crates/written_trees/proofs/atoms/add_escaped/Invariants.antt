@@ -1,7 +1,7 @@
 use Rattle.std.specs.Str.{chars}
 use Rattle.owl_tokens.specs.Tokens.{character_spelling}
 use Rattle.owl_writing.proofs.CharacterLaws.{IsLeft}
-use Rattle.fss_write.proofs.atoms.add_escaped.Given as goal
+use Rattle.written_trees.proofs.atoms.add_escaped.Given as goal
 
 abbrev pub invariant-loop-c : goal.invariant-loop-c
 invariant-loop-c l = IsLeft character_spelling l.fn.draft (chars l.form) l.draft l.c-iterator.rest.now

@@ -5,7 +5,7 @@ use Rattle.owl_tokens.specs.Tokens.{character_spelling}
 use Rattle.owl_writing.specs.declared.fault.WriteFault.TheVariants.{TooLong}
 use Rattle.owl_writing.proofs.CharacterLaws.{left_at_first, left_after, left_at_last, left_too_long}
 use Rattle.owl_writing.proofs.DraftLaws.{passed_on}
-use Rattle.fss_write.proofs.atoms.add_escaped.Goals as goal
+use Rattle.written_trees.proofs.atoms.add_escaped.Goals as goal
 
 pub loop-c-init : goal.loop-c-init
 loop-c-init c = left_at_first character_spelling c.args.draft.now c.args.form.now _ c.utf8.form (ap (λ (s : Chars). s.rest.now) c.into_iter-c-iterator.ensures.into_iter_gives ∙ c.chars-c-items.ensures.rest)

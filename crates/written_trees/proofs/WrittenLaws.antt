@@ -27,7 +27,7 @@ use Rattle.owl_tree.proofs.ShapeLaws.{equivalent_shape}
 use Rattle.owl_tree.proofs.TreeLaws.{list_of_kids_of}
 use Rattle.owl_tree.specs.Trees.{Tree, Kids, leaf, node, no_kids, kid, kids_of, list_of, tag_of}
 use Rattle.fss_terms.specs.Spelling.{HasMembers, HaveMembers, IsWritten, MeetsMinimum}
-use Rattle.fss_write.specs.Text.{doubled, doubled_behind, written_form, written_forms}
+use Rattle.written_trees.specs.Written.{doubled, doubled_behind, written_form, written_forms}
 
 -- one that stands twice is arranged as one
 
