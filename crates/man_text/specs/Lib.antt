@@ -1,0 +1,5 @@
+pub mod Words
+pub mod Undecided
+pub mod Blocks
+pub mod Text
+pub mod Readable
