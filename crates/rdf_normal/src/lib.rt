@@ -4,10 +4,10 @@
 #![tactic(auto)]
 
 mod build;
-mod copied;
+mod copies;
 mod fault;
 mod laws;
-mod make;
+mod making;
 mod needless;
 mod own;
 mod settling;
@@ -16,9 +16,11 @@ mod staying;
 mod steps;
 mod tidying;
 
+pub use copies::copied;
 pub use fault::NormFault;
 pub use laws::{
     declarations_stay, leaves_stay, normal_forms_are_ontologies, normal_forms_stay, what_is_kept,
 };
+pub use making::make;
 pub use staying::is_normal;
 pub use steps::normal;

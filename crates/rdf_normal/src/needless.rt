@@ -13,7 +13,7 @@ ghost use Rattle.rdf_normal.specs.OneTriple.{is_negative, is_one_triple, lists_m
 ghost use Rattle.rdf_normal.specs.declared.fault.NormFault.{NormFault};
 
 use crate::fault::NormFault;
-use crate::make::{make, push};
+use crate::making::{make, push};
 use owl_arena::{Arena, ExprId};
 use owl_list::arrange;
 use owl_tree::Tag;

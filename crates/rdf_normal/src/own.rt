@@ -10,7 +10,7 @@ ghost use Rattle.owl_tree.specs.Trees.{kids_in};
 ghost use Rattle.rdf_normal.specs.declared.fault.NormFault.{NormFault};
 
 use crate::fault::NormFault;
-use crate::make::{make, push};
+use crate::making::{make, push};
 use owl_arena::{Arena, ExprId};
 use owl_atom::Iri;
 use owl_tree::{Atom, Tag};

@@ -10,7 +10,7 @@ ghost use Rattle.rdf_normal.specs.NormalForms.{are_equals, inverted, is_paired, 
 ghost use Rattle.rdf_normal.specs.declared.fault.NormFault.{NormFault};
 
 use crate::fault::NormFault;
-use crate::make::{make, push};
+use crate::making::{make, push};
 use owl_arena::{Arena, ExprId};
 use owl_tree::Tag;
 use std::alloc::Global;

@@ -10,7 +10,7 @@ ghost use Rattle.rdf_normal.specs.NormalForms.{absorbed_count, normal_form};
 ghost use Rattle.rdf_normal.specs.declared.fault.NormFault.{NormFault};
 
 use crate::build::build;
-use crate::copied::copied;
+use crate::copies::copied;
 use crate::fault::NormFault;
 use crate::settling::settle_all;
 use owl_doc::Doc;

@@ -11,7 +11,7 @@ ghost use Rattle.rdf_normal.specs.NormalForms.{tidied};
 ghost use Rattle.rdf_normal.specs.declared.fault.NormFault.{NormFault};
 
 use crate::fault::NormFault;
-use crate::make::{make, push};
+use crate::making::{make, push};
 use crate::needless::needed;
 use owl_arena::{Arena, ExprId};
 use owl_tree::Tag;

@@ -4,7 +4,7 @@ use Rattle.std.proofs.lemmas.Result.{on_ok_weaker}
 use Rattle.owl_arena.proofs.HeldLaws.{entry_at}
 use Rattle.owl_tree.specs.Shape.{IsShaped}
 use Rattle.rdf_normal.proofs.Copying.{copied_one, leaf_is, node_copied}
-use Rattle.rdf_normal.proofs.copied.copy_tree.Goals as goal
+use Rattle.rdf_normal.proofs.copies.copy_tree.Goals as goal
 
 pub add_leaf-requires : goal.add_leaf-requires
 add_leaf-requires c = subst IsShaped (sym (leaf_is _ _ _ c.tag-tag.ensures (search rules))) (entry_at c.args.arena.now.trees c.args.id c.requires.shared c.requires.id).shaped

@@ -5,7 +5,7 @@ ghost use Rattle.owl_arena.specs.Shared.{AreShared};
 ghost use Rattle.rdf_normal.specs.declared.fault.NormFault.{NormFault};
 
 use crate::fault::NormFault;
-use crate::make::{add_leaf, make};
+use crate::making::{add_leaf, make};
 use owl_arena::{Arena, ExprId};
 use std::alloc::Global;
 

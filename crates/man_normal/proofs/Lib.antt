@@ -1,0 +1,5 @@
+pub mod DeclaringLaws
+pub mod FormLaws
+pub mod FormingLaws
+pub mod HeadLaws
+pub mod SubjectRows
