@@ -1,0 +1,5 @@
+pub mod PieceLaws
+pub mod JoinedLaws
+pub mod ListedLaws
+pub mod PlanLaws
+pub mod BlockLaws
