@@ -7,6 +7,7 @@ use Rattle.std.proofs.lemmas.List.{append-nil, append_assoc}
 use Rattle.man_resolve.specs.Expressions.{Knows}
 use Rattle.man_resolve.specs.Items.{declaration_of}
 use Rattle.man_text.specs.Blocks.{declared_name, headed, kind_tag, note_subject, subject_as}
+use Rattle.man_text.proofs.DeclaredLaws.{declaring}
 use Rattle.owl_arena.specs.Held.{AreHeld, node_over, tree_at, trees_at}
 use Rattle.owl_arena.specs.Shared.{AreShared}
 use Rattle.owl_arena.proofs.HeldLaws.{entry_at}
@@ -46,9 +47,6 @@ pub name_shaped : (t : Tag) (k : Kind) (iri : List ℕ) → t ≡ kind_tag k →
 name_shaped t k iri e h = subst (λ (u : Tag). IsShaped (leaf u (atom.Iri iri))) (sym e) (takes_iri k iri, h)
 
 -- ---- declarations
-
-abbrev pub declaring : Tree → Tree
-declaring t = node tag.Declaration (kids_of (node tag.Notes no_kids ∷ t ∷ []))
 
 no_notes : canonical (node tag.Notes no_kids) ≡ node tag.Notes no_kids
 unfolding row_of

@@ -1,15 +1,13 @@
 -- The normal form of an ontology is an ontology, can be written where that can be said, and is typed where that is.
-use Rattle.std.proofs.Common.{◌≡◌, ℕ, Bool, true, false, if◌then◌else◌, Option, None, Some, IfSome, List, [], ◌∷◌, ◌++◌, map, refl, sym, ap, ◌∙◌, subst, inl, inr}
-use Rattle.std.specs.Prelude.{◌⊎◌, ◌||◌, ◌&&◌, Contains}
-use Rattle.std.specs.Cmp.{Equal-is}
-use Rattle.std.specs.List.{AllByRecursion, flat_map, list_any, slice_get}
+use Rattle.std.proofs.Common.{◌≡◌, ℕ, Bool, true, false, Option, None, Some, IfSome, List, [], ◌∷◌, ◌++◌, map, refl, sym, ap, ◌∙◌, subst, inl, inr}
+use Rattle.std.specs.Prelude.{◌&&◌, Contains}
+use Rattle.std.specs.List.{AllByRecursion, flat_map, slice_get}
 use Rattle.std.specs.Option.{option_or}
-use Rattle.std.specs.Ordering.{eq_by_cmp}
 use Rattle.std.proofs.lemmas.Bool.{and_from}
 use Rattle.std.proofs.lemmas.List.{append-nil}
 use Rattle.std.proofs.lemmas.List.Elements.{Contains-append_cases, Contains-append_left, Contains-append_right}
-use Rattle.std.proofs.lemmas.Map.Views.{Contains-from_any}
 use Rattle.std.proofs.lemmas.Option.{get_or_from_slice_get, slice_get_within}
+use Rattle.man_resolve.proofs.KnowingLaws.{knows_told}
 use Rattle.man_resolve.specs.Expressions.{Knows, knows}
 use Rattle.man_sayable.specs.declared.inside.Look.TheVariants.{Facets, Properties}
 use Rattle.man_sayable.specs.FrameKinds.{frame_kind}
@@ -19,15 +17,18 @@ use Rattle.man_sayable.proofs.FrameKindLaws.{frame_known}
 use Rattle.man_sayable.proofs.SayableLaws.{axiom_said, same_ontology_said}
 use Rattle.man_text.specs.Blocks.{declared_name, headed, kind_tag, normal_form, note_subject, subject_as}
 use Rattle.man_text.specs.Readable.{CanBeWritten, IsTypedUnder}
+use Rattle.man_text.proofs.CanonicalLaws.{each_canonical}
+use Rattle.man_text.proofs.DeclaredLaws.{IsDeclarationOf, declaring, name_declares}
+use Rattle.man_text.proofs.ShapedBlockLaws.{shaped_list}
+use Rattle.man_text.proofs.TypedLaws.{all_behind, all_front}
 use Rattle.owl_doc.specs.Entities.{AreWellTyped, entities, entities_of, kind_of}
 use Rattle.owl_doc.specs.Parts.{of_axiom}
 use Rattle.owl_kind.specs.declared.kind.Kind.{Kind}
 use Rattle.owl_kind.specs.declared.kind.Kind.TheVariants as kind
-use Rattle.owl_kind.specs.Kinds.{Entity, HasKind, is_built_in}
-use Rattle.owl_kind.specs.Order.{entity_cmp}
-use Rattle.owl_kind.proofs.OrderLaws.{only_equal_entities_tie}
+use Rattle.owl_kind.specs.Kinds.{Entity, HasKind}
+use Rattle.owl_kind.proofs.Found.{from_joined, joined_from}
 use Rattle.owl_list.specs.Ascending.{HoldSame, ascending}
-use Rattle.owl_list.proofs.AscendingLaws.{all_before_map, all_from, all_in, all_map, ascending_holds, from_map, in_cases, in_head, in_none, in_tail}
+use Rattle.owl_list.proofs.AscendingLaws.{all_before_map, all_from, all_in, all_map, ascending_holds, in_cases, in_none}
 use Rattle.owl_tree.specs.Atoms.{IsAtom}
 use Rattle.owl_tree.specs.Canonical.{canonical}
 use Rattle.owl_tree.specs.declared.atom.Atom.{Atom}
@@ -39,38 +40,15 @@ use Rattle.owl_tree.specs.Ontologies.{HoldEquivalent, IsAxiom, IsOntology, Ontol
 use Rattle.owl_tree.specs.Order.{tree_cmp}
 use Rattle.owl_tree.specs.OrderLaws.{only_equal_trees_tie, trees_total}
 use Rattle.owl_tree.specs.Rows.{admits, fits, is_tag, row_of}
-use Rattle.owl_tree.specs.Shape.{AreShaped, FitsRow, IsShaped}
+use Rattle.owl_tree.specs.Shape.{FitsRow, IsShaped}
 use Rattle.owl_tree.specs.Tags.{is_axiom, number_of}
 use Rattle.owl_tree.specs.Trees.{Kids, Tree, kid, kids_in, kids_of, leaf, list_of, no_kids, node, tag_of}
-use Rattle.owl_tree.proofs.CanonicalLaws.{canonical_again}
 use Rattle.owl_tree.proofs.EquivalenceLaws.{equivalent_refl}
 use Rattle.owl_tree.proofs.OntologyLaws.{canonical_is_ontology, canonical_ontology_again, canonical_same_ontology, equivalent_lists}
 use Rattle.sayable_parts.specs.Reasons.{Objection}
 use Rattle.man_normal.specs.Subjects.{kid_at, subject_in}
-use Rattle.man_normal.proofs.DeclaringLaws.{declared_leaf, declaring, declaring_form, name_shaped, no_label}
+use Rattle.man_normal.proofs.DeclaringLaws.{declared_leaf, declaring_form, name_shaped, no_label}
 use Rattle.man_normal.proofs.HeadLaws.{declared_in, head_by, headed_by_subject}
-
--- ---- names
-
--- it is the declaration of the name
-pub record IsDeclarationOf (name u : Tree) : Type 0 where
-  pub own_tag : Tag
-  pub atom : Atom
-  pub name_is : name ≡ leaf own_tag atom
-  pub entity : admits sort.Entity own_tag ≡ true
-  pub is : u ≡ declaring (leaf own_tag atom)
-
-leaf_declares : (entity anonymous : Bool) (t : Tag) (a : Atom) (u : Tree) → admits sort.Entity t ≡ entity → Contains (if entity then (if anonymous then [] else declaring (leaf t a) ∷ []) else []) u → IsDeclarationOf (leaf t a) u
-leaf_declares true true t a u e m = absurd (in_none u m)
-leaf_declares true false t a u e m = elim (in_cases (declaring (leaf t a)) [] u m) [
-  | inl f ↦ record { own_tag = t; atom = a; name_is = refl; entity = e; is = sym f }
-  | inr n ↦ absurd (in_none u n)
-]
-leaf_declares false b t a u e m = absurd (in_none u m)
-
-name_declares : (s u : Tree) → Contains (declared_name s) u → IsDeclarationOf s u
-name_declares (leaf t a) u m = leaf_declares (admits sort.Entity t) (is_tag tag.Anonymous t) t a u refl m
-name_declares (node t ks) u m = absurd (in_none u m)
 
 -- ---- where names stand
 
@@ -114,13 +92,9 @@ head_declares ks t u h e m =
 
 -- ---- declarations are shaped
 
-each_shaped : (ks : Kids) → AreShaped ks → AllByRecursion IsShaped (list_of ks)
-each_shaped no_kids h = tt
-each_shaped (kid t ks) h = (h.0, each_shaped ks h.1)
-
 kids_shaped : (t : Tree) → IsShaped t → AllByRecursion IsShaped (kids_in t)
 kids_shaped (leaf t a) h = tt
-kids_shaped (node t ks) h = each_shaped ks h.1
+kids_shaped (node t ks) h = shaped_list ks h.1
 
 plain_shaped : (iri : List ℕ) → IsAtom (atom.Iri iri) → IsShaped (leaf tag.PlainIri (atom.Iri iri))
 unfolding row_of
@@ -217,35 +191,6 @@ forms_held ts h =
     subst (λ (us : List Tree). HoldSame (ascending tree_cmp us) ts) (sym (forms_stay ts h))
     (ascending_holds tree_cmp trees_total only_equal_trees_tie ts)
 
-each_canonical : (ts : List Tree) → canonical_list ts ≡ ts → AllByRecursion (λ t. canonical t ≡ t) ts
-each_canonical ts e = all_from (λ t. canonical t ≡ t) ts (λ t m.
-    let there = (ascending_holds tree_cmp trees_total only_equal_trees_tie (map canonical ts) t).0 (subst (λ (us : List Tree). Contains us t) (sym e) m) in
-    let value = from_map canonical ts t there in
-    ap canonical (sym value.value) ∙ canonical_again value.element ∙ value.value)
-
--- ---- what a function makes of a list
-
-module _ (f : Tree → List Tree) where
-  in_flat : (ts : List Tree) (t u : Tree) → Contains ts t → Contains (f t) u → Contains (flat_map f ts) u
-  in_flat [] t u m n = absurd (in_none t m)
-  in_flat (x ∷ xs) t u m n = elim (in_cases x xs t m) [
-    | inl e ↦ Contains-append_left (f x) (flat_map f xs) u (subst (λ (z : Tree). Contains (f z) u) (sym e) n)
-    | inr k ↦ Contains-append_right (f x) (flat_map f xs) u (in_flat xs t u k n)
-  ]
-
-  -- one of them makes it
-  record IsMadeOf (ts : List Tree) (u : Tree) : Type 0 where
-    pub source : Tree
-    pub inside : Contains ts source
-    pub made : Contains (f source) u
-
-  from_flat : (ts : List Tree) (u : Tree) → Contains (flat_map f ts) u → IsMadeOf ts u
-  from_flat [] u m = absurd (in_none u m)
-  from_flat (t ∷ ts) u m = elim (Contains-append_cases (f t) (flat_map f ts) u m) [
-    | inl n ↦ record { source = t; inside = in_head t ts; made = n }
-    | inr n ↦ let rest = from_flat ts u n in record { source = rest.source; inside = in_tail t ts rest.source rest.inside; made = rest.made }
-  ]
-
 -- ---- the normal form
 
 module _ (looks : Knows) (o : Ontology) (is : IsOntology o) (same : canonical_ontology o ≡ o) where
@@ -272,11 +217,11 @@ module _ (looks : Knows) (o : Ontology) (is : IsOntology o) (same : canonical_on
 
   is_head : (u : Tree) → Contains heads u → IsHeadOfOne u
   is_head u m =
-      let one = from_flat (headed looks) o.axioms u m in
+      let one = from_joined (headed looks) o.axioms u m in
       record {
-        source = one.source;
-        inside = one.inside;
-        head = head_declares looks one.source u (all_in IsAxiom o.axioms one.source is.axioms one.inside) (all_in (λ t. canonical t ≡ t) o.axioms one.source canonical_axioms one.inside) one.made;
+        source = one.0;
+        inside = one.1;
+        head = head_declares looks one.0 u (all_in IsAxiom o.axioms one.0 is.axioms one.1) (all_in (λ t. canonical t ≡ t) o.axioms one.0 canonical_axioms one.1) one.2;
       }
 
   head_is_axiom : (u : Tree) → IsHeadOfOne u → IsAxiom u
@@ -315,7 +260,7 @@ module _ (looks : Knows) (o : Ontology) (is : IsOntology o) (same : canonical_on
 
   head_again : (t u : Tree) → Contains all t → Contains (headed looks t) u → Contains all u
   head_again t u m n = elim (Contains-append_cases o.axioms heads t m) [
-    | inl k ↦ Contains-append_right o.axioms heads u (in_flat (headed looks) o.axioms t u k n)
+    | inl k ↦ Contains-append_right o.axioms heads u (joined_from (headed looks) o.axioms u t k n)
     | inr k ↦
         let head = (is_head t k).head in
         elim (in_cases t [] u (subst (λ (us : List Tree). Contains us u) (declaration_headed looks head.name t head.declares) n)) [
@@ -331,8 +276,8 @@ module _ (looks : Knows) (o : Ontology) (is : IsOntology o) (same : canonical_on
   from_again u m = elim (Contains-append_cases (canonical_list all) (flat_map (headed looks) (canonical_list all)) u m) [
     | inl n ↦ (form_holds u).0 n
     | inr n ↦
-        let one = from_flat (headed looks) (canonical_list all) u n in
-        head_again one.source u ((form_holds one.source).0 one.inside) one.made
+        let one = from_joined (headed looks) (canonical_list all) u n in
+        head_again one.0 u ((form_holds one.0).0 one.1) one.2
   ]
 
   hold_again : HoldEquivalent again all
@@ -378,38 +323,18 @@ form_can_be_written kinds o is same said = record {
   normal = form_again (knows kinds) o is same;
 }
 
--- ---- kinds
-
-either : (a b : Bool) → (a || b) ≡ true → (a ≡ true) ⊎ (b ≡ true)
-either true b e = inl refl
-either false b e = inr e
-
-has_kind : (kinds : List Entity) (k : Kind) (iri : List ℕ) → knows kinds k iri ≡ true → HasKind kinds k iri
-unfolding knows
-has_kind kinds k iri e =
-    let it : Entity = record { kind = k; iri = iri } in
-    elim (either (list_any (eq_by_cmp entity_cmp it) kinds) (is_built_in k iri) e) [
-      | inl h ↦ inl (Contains-from_any (λ x y f. only_equal_entities_tie x y ((Equal-is (entity_cmp x y)).0 f)) it kinds h)
-      | inr h ↦ inr h
-    ]
-
 -- ---- it is typed
 
 module _ (kinds : List Entity) where
   abbrev IsTyped : Tree → Type 0
   IsTyped t = AreWellTyped kinds (entities t)
 
-  front_typed : (xs ys : List Entity) → AreWellTyped kinds (xs ++ ys) → AreWellTyped kinds xs
-  front_typed [] ys h = tt
-  front_typed (x ∷ xs) ys h = (h.0, front_typed xs ys h.1)
-
-  rest_typed : (xs ys : List Entity) → AreWellTyped kinds (xs ++ ys) → AreWellTyped kinds ys
-  rest_typed [] ys h = h
-  rest_typed (x ∷ xs) ys h = rest_typed xs ys h.1
+  abbrev HasItsKind : Entity → Type 0
+  HasItsKind e = HasKind kinds e.kind e.iri
 
   each_typed : (ks : Kids) → AreWellTyped kinds (entities_of ks) → AllByRecursion IsTyped (list_of ks)
   each_typed no_kids h = tt
-  each_typed (kid t ks) h = (front_typed (entities t) (entities_of ks) h, each_typed ks (rest_typed (entities t) (entities_of ks) h))
+  each_typed (kid t ks) h = (all_front HasItsKind (entities t) (entities_of ks) h, each_typed ks (all_behind HasItsKind (entities t) (entities_of ks) h))
 
   kids_typed : (t : Tree) → IsTyped t → AllByRecursion IsTyped (kids_in t)
   kids_typed (leaf t a) h = tt
@@ -430,7 +355,7 @@ module _ (kinds : List Entity) where
 
   subject_typed : (found : Option Kind) (iri : List ℕ) → frame_kind (knows kinds) iri ≡ found → IsTyped (subject_as found iri)
   subject_typed None iri e = plain_typed iri
-  subject_typed (Some k) iri e = kind_typed k iri (has_kind kinds k iri (frame_known (knows kinds) iri k e))
+  subject_typed (Some k) iri e = kind_typed k iri (knows_told kinds k iri (frame_known (knows kinds) iri k e))
 
   note_typed : (t : Tree) → IsTyped t → IsTyped (note_subject (knows kinds) t)
   note_typed (leaf t (atom.Iri iri)) h = subject_typed (frame_kind (knows kinds) iri) iri refl

@@ -8,22 +8,20 @@ use Rattle.man_resolve.specs.Expressions.{Knows}
 use Rattle.man_resolve.specs.Places.{sentence_of}
 use Rattle.man_text.specs.Blocks.{block_with, declared_name, headed, is_chain, note_subject, stated, where_of}
 use Rattle.man_text.proofs.ShapedLaws.{three_kids, two_kids}
-use Rattle.man_text.proofs.ShapedBlockLaws.{Four}
-use Rattle.owl_tree.proofs.TreeLaws.{list_of_kids_of}
+use Rattle.man_text.proofs.ShapedBlockLaws.{four_kids, shaped_list}
 use Rattle.owl_tree.specs.Canonical.{canonical}
 use Rattle.owl_tree.specs.declared.atom.Atom.{Atom}
-use Rattle.owl_tree.specs.declared.row.Rest.TheVariants.{Nothing}
-use Rattle.owl_tree.specs.declared.row.Sort.{Sort}
 use Rattle.owl_tree.specs.declared.row.Sort.TheVariants as sort
 use Rattle.owl_tree.specs.declared.tag.Tag.{Tag}
 use Rattle.owl_tree.specs.declared.tag.Tag.TheVariants as tag
 use Rattle.owl_tree.specs.Ontologies.{IsAxiom}
-use Rattle.owl_tree.specs.Rows.{admits, fits, fits_front, is_tag, row_of, takes}
-use Rattle.owl_tree.specs.Shape.{AreShaped, IsShaped}
+use Rattle.owl_tree.specs.Rows.{admits, fits, is_tag, row_of, takes}
+use Rattle.owl_tree.specs.Shape.{IsShaped}
 use Rattle.owl_tree.specs.Tags.{is_axiom, number_of}
-use Rattle.owl_tree.specs.Trees.{Kids, Tree, kid, kids_in, kids_of, leaf, list_of, no_kids, node, tag_of}
+use Rattle.owl_tree.specs.Trees.{Kids, Tree, kids_in, kids_of, leaf, list_of, node, tag_of}
 use Rattle.fss_terms.specs.Spelling.{HasMembers}
 use Rattle.written_trees.specs.Written.{doubled, written_form, written_forms}
+use Rattle.written_trees.proofs.RepeatedLaws.{kids_written}
 use Rattle.written_trees.proofs.WrittenLaws.{is_written}
 use Rattle.man_normal.specs.Subjects.{kid_at, subject_in, subject_place}
 
@@ -56,13 +54,6 @@ chain_by_tag (leaf t a) h = chain_leaf t a h.0
 chain_by_tag (node t ks) h = chain_node t _
 
 -- ---- axioms, by their tags
-
-four_kids : (s r q o : Sort) (ts : List Tree) → fits_front (s ∷ r ∷ q ∷ o ∷ []) Nothing (map tag_of ts) ≡ true → Four s r q o ts
-four_kids s r q o [] e = absurd (cc)
-four_kids s r q o (a ∷ ts) e =
-    let parts = and_parts (admits s (tag_of a)) (fits_front (r ∷ q ∷ o ∷ []) Nothing (map tag_of ts)) e in
-    let rest = three_kids r q o ts parts.1 in
-    record { a = a; b = rest.a; d = rest.b; e = rest.d; is = ap (λ (us : List Tree). a ∷ us) rest.is; first = parts.0; second = rest.first; third = rest.second; fourth = rest.third }
 
 -- what the block is of: a name that an IRI has by its kind, where annotations are of it
 abbrev pub head_by : Knows → Bool → Option Tree → Option Tree
@@ -183,14 +174,6 @@ head_is ks _ ts h e shaped two = absurd (cc)
 
 -- ---- axioms
 
-forms_are : (ks : Kids) → written_forms ks ≡ map written_form (list_of ks)
-forms_are no_kids = refl
-forms_are (kid t ks) = ap (λ (us : List Tree). written_form t ∷ us) (forms_are ks)
-
-shaped_list : (ks : Kids) → AreShaped ks → AllByRecursion IsShaped (list_of ks)
-shaped_list no_kids h = tt
-shaped_list (kid t ks) h = (h.0, shaped_list ks h.1)
-
 no_leaf : (t : Tag) (a : Atom) → IsTrue (is_axiom t) → takes (row_of t) a ≡ true → ⊥
 unfolding row_of number_of
 no_leaf tag.Class a h e = absurd (cc)
@@ -201,7 +184,7 @@ pub headed_by_subject : (ks : Knows) (t : Tree) → IsAxiom t → canonical t �
 headed_by_subject ks (leaf t a) h e = absurd (no_leaf t a h.tag h.shaped.0)
 headed_by_subject ks (node t us) h e =
     let written = doubled (row_of t) (written_forms us) in
-    let same : list_of (kids_of written) ≡ doubled (row_of t) (map written_form (list_of us)) = list_of_kids_of written ∙ ap (doubled (row_of t)) (forms_are us) in
+    let same : list_of (kids_of written) ≡ doubled (row_of t) (map written_form (list_of us)) = kids_written t us in
     let members : HasMembers (written_form (node t us)) = (is_written (node t us) h.shaped e).members in
     ap (λ (ts : List Tree). declared_in (block_with ks t ts).subject) same
     ∙ head_is ks t (list_of us) h.tag h.shaped.0.row (shaped_list us h.shaped.1) (λ f. sym (ap (λ (ts : List Tree). length ts) same) ∙ members.1 f)

@@ -3,6 +3,7 @@ use Rattle.std.proofs.Common.{◌≡◌, ◌+◌, ℕ, Bool, true, false, Option
 use Rattle.std.specs.Prelude.{if◌then◌else◌, nat_le}
 use Rattle.std.specs.List.{fold}
 use Rattle.std.proofs.lemmas.List.{append_assoc, append-nil}
+use Rattle.std.proofs.lemmas.List.Folds.{fold_stays}
 use Rattle.grammar.specs.Derivations.{Event}
 use Rattle.grammar.specs.Derivations.Event.{Do, Take}
 use Rattle.man_grammar.specs.Acts.{act_numbered}
@@ -144,14 +145,6 @@ done_forgotten (Some a) next s = acted_forgotten a next s
 
 -- ---- acts and steps
 
-acts_stop : (next : Option (Placed Token)) (f : TokenFault) (acts : List ℕ) → fold (done_next next) (Err f) acts ≡ Err f
-acts_stop next f [] = refl
-acts_stop next f (a ∷ acts) = acts_stop next f acts
-
-steps_stop : (f : TokenFault) (steps : List (Step Token)) → fold stepped (Err f) steps ≡ Err f
-steps_stop f [] = refl
-steps_stop f (x ∷ steps) = steps_stop f steps
-
 coming_behind : (acts : List ℕ) (es : List (Event Token)) → coming (map Do acts ++ es) ≡ coming es
 coming_behind [] es = refl
 coming_behind (a ∷ acts) es = coming_behind acts es
@@ -168,7 +161,7 @@ acts_forgotten (a ∷ acts) next es s e =
     by_result : ((t : State) → run acted_at_zero (map Do acts ++ es) (unplaced_state t) ≡ and_then (forgotten (all_done acts next t)) (λ u. run acted_at_zero es u))
         → (r : Result State TokenFault) → and_then (forgotten r) (λ t. run acted_at_zero (map Do acts ++ es) t) ≡ and_then (forgotten (fold (done_next next) r acts)) (λ t. run acted_at_zero es t)
     by_result others (Ok t) = others t
-    by_result others (Err f) = sym (ap (λ (r : Result State TokenFault). and_then (forgotten r) (λ t. run acted_at_zero es t)) (acts_stop next f acts))
+    by_result others (Err f) = sym (ap (λ (r : Result State TokenFault). and_then (forgotten r) (λ t. run acted_at_zero es t)) (fold_stays (done_next next) (Err f) (λ b. refl) acts))
 
 ends_there : (r : Result State TokenFault) → and_then r (λ t. Ok t) ≡ r
 ends_there (Ok t) = refl
@@ -189,4 +182,4 @@ steps_forgotten (x ∷ steps) acts s =
     by_result : ((t : State) → forgotten (answered steps acts (Ok t)) ≡ run acted_at_zero (events_of steps ++ map Do acts) (unplaced_state t))
         → (r : Result State TokenFault) → forgotten (answered steps acts r) ≡ and_then (forgotten r) (λ t. run acted_at_zero (Take x.token.token ∷ (events_of steps ++ map Do acts)) t)
     by_result others (Ok t) = others t
-    by_result others (Err f) = ap (λ (r : Result State TokenFault). forgotten (and_then r (λ t. all_done acts None t))) (steps_stop f steps)
+    by_result others (Err f) = ap (λ (r : Result State TokenFault). forgotten (and_then r (λ t. all_done acts None t))) (fold_stays stepped (Err f) (λ y. refl) steps)

@@ -12,7 +12,7 @@ mod Bodies
 mod Sections
 mod Items
 mod Heads
-mod Tables
+pub mod TableLaws
 mod Prefixes
 mod Places
 mod Forgetting

@@ -1,12 +1,13 @@
 -- The text of an ontology reads back to it.
-use Rattle.std.proofs.Common.{◌≡◌, ◌≤◌, ℕ, arith, Bool, true, false, if◌then◌else◌, Option, None, Some, Ok, List, [], ◌∷◌, ◌++◌, length, map, refl, sym, ap, ◌∙◌, subst, inl, inr}
-use Rattle.std.specs.Prelude.{◌⊎◌, ◌||◌, IfSome, Contains}
-use Rattle.std.specs.List.{AllByRecursion, cons_option, flat_map, list_any}
+use Rattle.std.proofs.Common.{◌≡◌, ◌≤◌, ℕ, arith, true, Option, None, Some, Ok, List, [], ◌∷◌, ◌++◌, length, map, refl, sym, ap, ◌∙◌, subst, inl, inr}
+use Rattle.std.specs.Prelude.{IfSome, Contains}
+use Rattle.std.specs.List.{AllByRecursion, cons_option, flat_map}
 use Rattle.std.specs.Option.{option_to_list}
 use Rattle.std.specs.Str.{all_scalars, encode_utf8_all}
 use Rattle.std.proofs.lemmas.List.{append-nil}
-use Rattle.std.proofs.lemmas.List.Elements.{Contains-append_cases, Contains-append_left, Contains-append_right}
+use Rattle.std.proofs.lemmas.List.Elements.{Contains-append_cases, Contains-append_right}
 use Rattle.man_raw.specs.Documents.{DocumentTree}
+use Rattle.man_resolve.proofs.KnowingLaws.{knows_told, told_knows}
 use Rattle.man_resolve.specs.Expressions.{Knows, knows}
 use Rattle.man_resolve.specs.Items.{resolved}
 use Rattle.man_resolve.specs.Resolved.{FramesMean, HasDeepTree, HaveNoClash}
@@ -18,159 +19,76 @@ use Rattle.owl_atom.specs.Prefixes.{IsTable}
 use Rattle.owl_characters.specs.Iri.{IsIri}
 use Rattle.owl_characters.specs.Limit.{most_bytes}
 use Rattle.owl_doc.specs.Entities.{AreWellTyped, entities, entities_of, entity_of, kind_of}
+use Rattle.owl_doc.specs.Heads.{iri_in, version_in}
 use Rattle.owl_doc.specs.Parts.{leaves, of_axiom}
-use Rattle.owl_kind.specs.declared.kind.Kind.{Kind}
 use Rattle.owl_kind.specs.declared.kind.Kind.TheVariants as kind
-use Rattle.owl_kind.specs.Kinds.{Entity, HasKind, is_built_in}
-use Rattle.owl_kind.specs.Order.{entity_cmp}
-use Rattle.owl_kind.proofs.OrderLaws.{entities_total, only_equal_entities_tie}
-use Rattle.std.specs.Cmp.{Equal-is}
-use Rattle.std.specs.Ordering.{eq_by_cmp}
-use Rattle.std.proofs.lemmas.Cmp.{eq_by_cmp_equiv}
-use Rattle.std.proofs.lemmas.Map.Views.{Contains-from_any, list_any-from_Contains}
-use Rattle.owl_list.proofs.AscendingLaws.{all_from, all_in, ascending_holds, from_map, in_cases, in_head, in_map, in_none}
+use Rattle.owl_kind.specs.Kinds.{Entity, HasKind}
+use Rattle.owl_kind.proofs.Found.{joined_from}
+use Rattle.owl_list.proofs.AscendingLaws.{all_before_map, all_from, all_in, from_map, in_head, in_map, in_none}
 use Rattle.owl_tree.specs.Canonical.{canonical}
-use Rattle.owl_tree.proofs.CanonicalLaws.{canonical_again}
-use Rattle.owl_tree.specs.declared.atom.Atom.{Atom}
-use Rattle.owl_tree.specs.declared.row.Sort.TheVariants as sort
-use Rattle.owl_tree.specs.declared.tag.Tag.{Tag}
-use Rattle.owl_tree.specs.declared.tag.Tag.TheVariants as tag
 use Rattle.owl_tree.specs.Equivalence.{IsEquivalent}
 use Rattle.owl_tree.specs.Ontologies.{Head, IsAnnotation, IsAxiom, IsHead, IsName, IsOntology, IsSameOntology, Ontology, OntologyName, canonical_list, canonical_ontology, ontology_weight}
 use Rattle.owl_tree.proofs.OntologyLaws.{canonical_same_ontology, same_ontology_weight}
-use Rattle.owl_tree.specs.Order.{tree_cmp}
-use Rattle.owl_tree.specs.OrderLaws.{only_equal_trees_tie, trees_total}
-use Rattle.owl_tree.specs.Rows.{admits, is_tag}
-use Rattle.owl_tree.specs.Trees.{Tree, depth, kids_of, leaf, node}
+use Rattle.owl_tree.specs.Trees.{Tree, depth, kids_of}
 use Rattle.owl_writing.specs.Tables.{HaveIris, as_declared, written_prefixes}
 use Rattle.rdf_meaning.proofs.KindLaws.{no_shared}
 use Rattle.sayable_parts.proofs.PartLaws.{equivalent_leaves}
 use Rattle.written_trees.specs.Written.{written_form}
 use Rattle.written_trees.proofs.WrittenLaws.{equivalent_written, written_equivalent}
-use Rattle.man_text.specs.Blocks.{block_of, declared_name, document_of, head_tree, headed, iri_in, item_of, normal_form, version_in}
+use Rattle.man_text.specs.Blocks.{block_of, declared_name, document_of, head_tree, headed, item_of, normal_form}
 use Rattle.man_text.specs.Readable.{CanBeWritten, IsTypedUnder, ReadsOntology}
 use Rattle.man_text.specs.Text.{manchester_prefixes, manchester_text}
 use Rattle.man_text.specs.Undecided.{unplaced_document}
-use Rattle.man_text.proofs.AxiomLaws.{bare_notes}
+use Rattle.man_text.proofs.CanonicalLaws.{each_canonical}
+use Rattle.man_text.proofs.DeclaredLaws.{IsDeclarationOf, name_declares}
 use Rattle.man_text.proofs.HeadLaws.{among_typed, depth_written}
 use Rattle.man_text.proofs.OntologyLaws.{AllSaid, CanBeSaid, IsKnownUnder, IsSaidOf, all_axioms_said, annotations_mean, document_means, item_written, note_written, notes_written}
 use Rattle.man_text.proofs.PlacedItemLaws.{resolved_anywhere}
 use Rattle.man_text.proofs.ShapedNotesLaws.{IsNoteTree}
-use Rattle.man_text.proofs.TypedLaws.{AreTyped}
+use Rattle.man_text.proofs.TypedLaws.{AreTyped, all_behind, all_front}
 use Rattle.man_text.proofs.WritableLaws.{IsHeadTree, IsItem, IsWritable}
 use Rattle.man_read_back.proofs.ReadsBackLaws.{text_reads_back}
 
--- ---- canonical forms
-
-each_canonical : (ts : List Tree) → canonical_list ts ≡ ts → AllByRecursion (λ t. canonical t ≡ t) ts
-each_canonical ts e = all_from (λ t. canonical t ≡ t) ts (λ t m.
-    let there = (ascending_holds tree_cmp trees_total only_equal_trees_tie (map canonical ts) t).0 (subst (λ (us : List Tree). Contains us t) (sym e) m) in
-    let value = from_map canonical ts t there in
-    ap canonical (sym value.value) ∙ canonical_again value.element ∙ value.value)
-
 -- ---- kinds
-
-module _ (kinds : List Entity) (k : Kind) (iri : List ℕ) where
-  abbrev it : Entity
-  it = record { kind = k; iri = iri }
-
-  first_holds : (a b : Bool) → a ≡ true → (a || b) ≡ true
-  first_holds true b e = refl
-  first_holds false b e = absurd (cc)
-
-  second_holds : (a b : Bool) → b ≡ true → (a || b) ≡ true
-  second_holds true b e = refl
-  second_holds false b e = e
-
-  either : (a b : Bool) → (a || b) ≡ true → (a ≡ true) ⊎ (b ≡ true)
-  either true b e = inl refl
-  either false b e = inr e
-
-  known_so : HasKind kinds k iri → knows kinds k iri ≡ true
-  unfolding knows
-  known_so (inl h) = first_holds (list_any (eq_by_cmp entity_cmp it) kinds) (is_built_in k iri) (list_any-from_Contains (eq_by_cmp_equiv entities_total) it kinds h)
-  known_so (inr h) = second_holds (list_any (eq_by_cmp entity_cmp it) kinds) (is_built_in k iri) h
-
-  has_known : knows kinds k iri ≡ true → HasKind kinds k iri
-  unfolding knows
-  has_known e = elim (either (list_any (eq_by_cmp entity_cmp it) kinds) (is_built_in k iri) e) [
-    | inl h ↦ inl (Contains-from_any (λ x y f. only_equal_entities_tie x y ((Equal-is (entity_cmp x y)).0 f)) it kinds h)
-    | inr h ↦ inr h
-  ]
 
 module _ (kinds : List Entity) where
   all_known : (es : List Entity) → AreWellTyped kinds es → AreTyped (knows kinds) es
   all_known [] h = tt
-  all_known (e ∷ es) h = (known_so kinds e.kind e.iri h.0, all_known es h.1)
+  all_known (e ∷ es) h = (told_knows kinds e.kind e.iri h.0, all_known es h.1)
 
   each_known : (ts : List Tree) → AllByRecursion (λ t. AreWellTyped kinds (entities t)) ts → AllByRecursion (λ t. AreTyped (knows kinds) (entities t)) ts
   each_known [] h = tt
   each_known (t ∷ ts) h = (all_known (entities t) h.0, each_known ts h.1)
 
   apart : HaveNoClash kinds → (iri : List ℕ) → knows kinds kind.ObjectProperty iri ≡ true → knows kinds kind.DataProperty iri ≡ true → ⊥
-  apart none iri e f = no_shared kinds none iri (inr (inl (has_known kinds kind.ObjectProperty iri e, has_known kinds kind.DataProperty iri f)))
+  apart none iri e f = no_shared kinds none iri (inr (inl (knows_told kinds kind.ObjectProperty iri e, knows_told kinds kind.DataProperty iri f)))
 
 -- the annotations one by one
 notes_each : (P : Entity → Type 0) (ts : List Tree) → AllByRecursion P (entities_of (kids_of ts)) → AllByRecursion (λ t. AllByRecursion P (entities t)) ts
 notes_each P [] h = tt
-notes_each P (t ∷ ts) h = (front P (entities t) (entities_of (kids_of ts)) h, notes_each P ts (rest P (entities t) (entities_of (kids_of ts)) h))
-  where
-    front : (P : Entity → Type 0) (xs ys : List Entity) → AllByRecursion P (xs ++ ys) → AllByRecursion P xs
-    front P [] ys h = tt
-    front P (x ∷ xs) ys h = (h.0, front P xs ys h.1)
-
-    rest : (P : Entity → Type 0) (xs ys : List Entity) → AllByRecursion P (xs ++ ys) → AllByRecursion P ys
-    rest P [] ys h = h
-    rest P (x ∷ xs) ys h = rest P xs ys h.1
+notes_each P (t ∷ ts) h = (all_front P (entities t) (entities_of (kids_of ts)) h, notes_each P ts (all_behind P (entities t) (entities_of (kids_of ts)) h))
 
 -- ---- names that head blocks
 
--- what is declared is a leaf, without annotations
-pub record IsBareDeclaration (u : Tree) : Type 0 where
-  pub own_tag : Tag
-  pub atom : Atom
-  pub is : u ≡ node tag.Declaration (kids_of (bare_notes ∷ leaf own_tag atom ∷ []))
-
-leaf_declared : (entity anonymous : Bool) (t : Tag) (a : Atom) (u : Tree) → Contains (if entity then (if anonymous then [] else node tag.Declaration (kids_of (bare_notes ∷ leaf t a ∷ [])) ∷ []) else []) u → IsBareDeclaration u
-leaf_declared true true t a u m = absurd (in_none u m)
-leaf_declared true false t a u m = elim (in_cases (node tag.Declaration (kids_of (bare_notes ∷ leaf t a ∷ []))) [] u m) [
-  | inl e ↦ record { own_tag = t; atom = a; is = sym e }
-  | inr n ↦ absurd (in_none u n)
-]
-leaf_declared false b t a u m = absurd (in_none u m)
-
-name_declared : (s u : Tree) → Contains (declared_name s) u → IsBareDeclaration u
-name_declared (leaf t a) u m = leaf_declared (admits sort.Entity t) (is_tag tag.Anonymous t) t a u m
-name_declared (node t ks) u m = absurd (in_none u m)
-
-head_declared : (o : Option Tree) (u : Tree) → Contains (flat_map declared_name (option_to_list o)) u → IsBareDeclaration u
+head_declared : (o : Option Tree) (u : Tree) → Contains (flat_map declared_name (option_to_list o)) u → (s : Tree) × IsDeclarationOf s u
 head_declared None u m = absurd (in_none u m)
-head_declared (Some s) u m = elim (Contains-append_cases (declared_name s) [] u m) [
-  | inl n ↦ name_declared s u n
-  | inr n ↦ absurd (in_none u n)
-]
+head_declared (Some s) u m = (s, name_declares s u (subst (λ (us : List Tree). Contains us u) (append-nil (declared_name s)) m))
 
-declared_entities : (u : Tree) (h : IsBareDeclaration u) → entities u ≡ cons_option (entity_of (kind_of h.own_tag) h.atom) [] ++ []
-declared_entities u h = ap entities h.is
+module _ (s u : Tree) (h : IsDeclarationOf s u) where
+  declared_entities : entities u ≡ cons_option (entity_of (kind_of h.own_tag) h.atom) [] ++ []
+  declared_entities = ap entities h.is
 
-declared_leaf : (u : Tree) (h : IsBareDeclaration u) → Contains (leaves u) (record { tag = h.own_tag; atom = h.atom })
-declared_leaf u h = subst (λ (v : Tree). Contains (leaves v) (record { tag = h.own_tag; atom = h.atom })) (sym h.is) (in_head (record { tag = h.own_tag; atom = h.atom }) [])
+  declared_leaf : Contains (leaves u) (record { tag = h.own_tag; atom = h.atom })
+  declared_leaf = subst (λ (v : Tree). Contains (leaves v) (record { tag = h.own_tag; atom = h.atom })) (sym h.is) (in_head (record { tag = h.own_tag; atom = h.atom }) [])
 
--- a bare declaration that is equivalent to what is typed is typed
-declared_typed : (ks : Knows) (u v : Tree) → IsBareDeclaration u → IsEquivalent u v → AreTyped ks (entities v) → AreTyped ks (entities u)
-declared_typed ks u v h same typed =
-    let there = (equivalent_leaves u v same (record { tag = h.own_tag; atom = h.atom })).0 (declared_leaf u h) in
-    subst (AreTyped ks) (sym (declared_entities u h ∙ append-nil (cons_option (entity_of (kind_of h.own_tag) h.atom) []))) (among_typed ks v (record { tag = h.own_tag; atom = h.atom }) typed there)
+  -- a declaration that is equivalent to what is typed is typed
+  declared_typed : (ks : Knows) (v : Tree) → IsEquivalent u v → AreTyped ks (entities v) → AreTyped ks (entities u)
+  declared_typed ks v same typed =
+      let there = (equivalent_leaves u v same (record { tag = h.own_tag; atom = h.atom })).0 declared_leaf in
+      subst (AreTyped ks) (sym (declared_entities ∙ append-nil (cons_option (entity_of (kind_of h.own_tag) h.atom) []))) (among_typed ks v (record { tag = h.own_tag; atom = h.atom }) typed there)
 
-declared_depth : (u : Tree) → IsBareDeclaration u → depth u ≤ 2
-declared_depth u h = subst (λ (v : Tree). depth v ≤ 2) (sym h.is) (omega arith)
-
-in_flat : {X : Type 0} (f : X → List Tree) (xs : List X) (x : X) (u : Tree) → Contains xs x → Contains (f x) u → Contains (flat_map f xs) u
-in_flat f [] x u m n = absurd (in_none x m)
-in_flat f (y ∷ ys) x u m n = elim (in_cases y ys x m) [
-  | inl e ↦ Contains-append_left (f y) (flat_map f ys) u (subst (λ z. Contains (f z) u) (sym e) n)
-  | inr k ↦ Contains-append_right (f y) (flat_map f ys) u (in_flat f ys x u k n)
-]
+  declared_depth : depth u ≤ 2
+  declared_depth = subst (λ (v : Tree). depth v ≤ 2) (sym h.is) (omega arith)
 
 -- ---- heads
 
@@ -206,11 +124,7 @@ module _ (kinds : List Entity) (o : Ontology) (within : IsWithinLimits o) (can :
   axioms_again = ap (λ (p : Ontology). p.axioms) within.canonical
 
   unopposed : AllByRecursion (λ t. CanSay kinds (of_axiom t)) o.axioms
-  unopposed = subst (λ (ts : List Tree). AllByRecursion (λ t. CanSay kinds (of_axiom t)) ts) axioms_again (all_before_map_said (canonical_list o.axioms) can.sayable.1)
-    where
-      all_before_map_said : (ts : List Tree) → AllByRecursion (CanSay kinds) (map of_axiom ts) → AllByRecursion (λ t. CanSay kinds (of_axiom t)) ts
-      all_before_map_said [] h = tt
-      all_before_map_said (t ∷ ts) h = (h.0, all_before_map_said ts h.1)
+  unopposed = subst (λ (ts : List Tree). AllByRecursion (λ t. CanSay kinds (of_axiom t)) ts) axioms_again (all_before_map of_axiom (CanSay kinds) (canonical_list o.axioms) can.sayable.1)
 
   each_said : (ts : List Tree) → AllByRecursion IsAxiom ts → AllByRecursion (λ t. canonical t ≡ t) ts → AllByRecursion (λ t. CanSay kinds (of_axiom t)) ts → AllByRecursion (CanBeSaid looks) ts
   each_said [] h k s = tt
@@ -231,9 +145,9 @@ module _ (kinds : List Entity) (o : Ontology) (within : IsWithinLimits o) (can :
   normal_same = subst (IsSameOntology (normal_form looks o)) can.normal (canonical_same_ontology (normal_form looks o))
 
   head_there : (t u : Tree) → Contains o.axioms t → Contains (headed looks t) u → (v : Tree) × Contains o.axioms v × IsEquivalent u v
-  head_there t u m n = normal_same.axioms.there u (Contains-append_right o.axioms (flat_map (headed looks) o.axioms) u (in_flat (headed looks) o.axioms t u m n))
+  head_there t u m n = normal_same.axioms.there u (Contains-append_right o.axioms (flat_map (headed looks) o.axioms) u (joined_from (headed looks) o.axioms u t m n))
 
-  bare_head : (t u : Tree) → Contains (headed looks t) u → IsBareDeclaration u
+  bare_head : (t u : Tree) → Contains (headed looks t) u → (s : Tree) × IsDeclarationOf s u
   bare_head t u n = head_declared (block_of looks t).subject u n
 
   -- ---- it stands in a text
@@ -267,7 +181,8 @@ module _ (kinds : List Entity) (o : Ontology) (within : IsWithinLimits o) (can :
       own = all_in (λ x. AreTyped ks (entities x)) o.axioms t typed_axioms m;
       head = λ u n.
           let there = head_there t u m n in
-          declared_typed ks u there.0 (bare_head t u n) there.2 (all_in (λ x. AreTyped ks (entities x)) o.axioms there.0 typed_axioms there.1);
+          let bare = bare_head t u n in
+          declared_typed bare.0 u bare.1 ks there.0 there.2 (all_in (λ x. AreTyped ks (entities x)) o.axioms there.0 typed_axioms there.1);
     })
 
     all : AllSaid looks ks o.axioms
@@ -301,7 +216,7 @@ module _ (kinds : List Entity) (o : Ontology) (within : IsWithinLimits o) (can :
         let own = depth_written t in
         let d = all_in (λ x. depth x ≤ deepest) o.axioms t within.shallow_axioms m in
         subst (λ (x : Tree). depth x ≤ deepest) (sym e) (omega arith)
-    said_shallow u (IsSaidOf.a_name t m n) = let d = declared_depth u (bare_head t u n) in omega arith
+    said_shallow u (IsSaidOf.a_name t m n) = let bare = bare_head t u n in let d = declared_depth bare.0 u bare.1 in omega arith
 
     shallow : HasDeepTree meant_so → ⊥
     shallow h = elim (Contains-append_cases (map written_form o.annotations) all.said h.tree h.of) [

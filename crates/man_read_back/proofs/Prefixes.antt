@@ -3,7 +3,7 @@ use Rattle.std.proofs.Common.{◌≡◌, ◌⊎◌, inl, inr, ◌||◌, ℕ, Boo
 use Rattle.std.specs.Prelude.{find, if◌then◌else◌, unwrap_or}
 use Rattle.std.specs.List.{AllByRecursion, list_any}
 use Rattle.std.specs.Option.{option_map}
-use Rattle.std.proofs.lemmas.Bool.{both_ways, or_right}
+use Rattle.std.proofs.lemmas.Bool.{both_ways, or_parts, or_right}
 use Rattle.std.proofs.lemmas.List.{append_assoc}
 use Rattle.grammar.specs.declared.symbol.Symbol.{Symbol}
 use Rattle.grammar.specs.declared.symbol.Symbol.TheVariants.{Rule}
@@ -30,7 +30,7 @@ use Rattle.man_read_back.proofs.Reading.{by, manchester}
 use Rattle.man_read_back.proofs.Steps as steps
 use Rattle.man_read_back.proofs.Steps.{Starts}
 use Rattle.man_read_back.proofs.Stops.{longest_before_stop, longest_closed}
-use Rattle.man_read_back.proofs.Tables.{AreFree, IsDeclarable, declared, never_declared, still_free}
+use Rattle.man_read_back.proofs.TableLaws.{AreFree, IsDeclarable, declared, never_declared, still_free}
 use Rattle.man_read_back.proofs.Words.{class_is, colon_word}
 
 -- while prefixes are declared
@@ -42,14 +42,10 @@ declaring prefixes name = record start { names = record { prefixes = prefixes; d
 differs : (word name : List ℕ) → text_eq word name ≡ false → text_eq name word ≡ false
 differs word name f = unequal name word (λ e. both_ways (text_eq word name) f (equal word name (sym e)))
 
-or_false : (a b : Bool) → (a || b) ≡ false → (a ≡ false) × (b ≡ false)
-or_false true b e = absurd (cc)
-or_false false b e = (refl, e)
-
 none_found : (ks : List Class) (name : List ℕ) → list_any (λ c. text_eq (word_of c) name) ks ≡ false → find (λ k. text_eq name (word_of k)) ks ≡ None
 none_found [] name h = refl
 none_found (c ∷ ks) name h =
-    let parts = or_false (text_eq (word_of c) name) (list_any (λ k. text_eq (word_of k) name) ks) h in
+    let parts = or_parts (text_eq (word_of c) name) (list_any (λ k. text_eq (word_of k) name) ks) h in
     rw (differs (word_of c) name parts.0) (none_found ks name parts.1)
 
 namespace_class : (name : List ℕ) → is_keyword name ≡ false → class_of (token.Name name []) ≡ class_number class.Namespace

@@ -47,7 +47,7 @@ use Rattle.man_read_back.proofs.Said.{Outside, Reader}
 use Rattle.man_read_back.proofs.Steps as steps
 use Rattle.man_read_back.proofs.Steps.{Reads, Starts, run}
 use Rattle.man_read_back.proofs.Stops.{Ends}
-use Rattle.man_read_back.proofs.Tables.{IsDeclarable, all_free, are_declarable, declared, kept_table, known_prefixes, read_prefixes}
+use Rattle.man_read_back.proofs.TableLaws.{IsDeclarable, all_free, are_declarable, declared, kept_table, known_prefixes, read_prefixes}
 use Rattle.man_read_back.proofs.Words.{colon_word}
 
 -- what the state behind the text is

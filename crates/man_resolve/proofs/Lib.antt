@@ -1,4 +1,4 @@
-mod KnowingLaws
+pub mod KnowingLaws
 mod BuildingLaws
 mod PartLaws
 mod GroupLaws

@@ -23,4 +23,7 @@ pub use facets::facet_name;
 pub use fault::ResolveFault;
 pub use laws::{frames_mean_one_ontology, tables_fit_rows};
 pub use names::has_kind;
+pub use place::Place;
 pub use resolving::{head, resolve};
+pub use sentence::{Sentence, sentence_of};
+pub use shape::ByKind;

@@ -88,11 +88,11 @@ clear_kids (node t ks) h =
     (neither (own_objection Properties (node t ks)) (kids_objection Properties ks) h.properties).1
     (neither (own_objection Facets (node t ks)) (kids_objection Facets ks) h.facets).1
 
-not_against : (b : Bool) (why : Objection) → against b why ≡ None → b ≡ false
+pub not_against : (b : Bool) (why : Objection) → against b why ≡ None → b ≡ false
 not_against true why e = absurd (none-some why (sym e))
 not_against false why e = refl
 
-second_fails : (a b : Bool) → (a && b) ≡ false → a ≡ true → b ≡ false
+pub second_fails : (a b : Bool) → (a && b) ≡ false → a ≡ true → b ≡ false
 second_fails true b e h = e
 second_fails false b e h = cc
 

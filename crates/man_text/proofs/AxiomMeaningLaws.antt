@@ -4,7 +4,7 @@ use Rattle.std.proofs.lemmas.Bool.{and_from, le-leb}
 use Rattle.std.specs.Prelude.{◌==◌, nat_le, ◌+◌}
 use Rattle.std.specs.List.{flat_map}
 use Rattle.std.proofs.lemmas.Bool.Decides.{nat_tests}
-use Rattle.std.proofs.lemmas.List.{append-nil}
+use Rattle.std.proofs.lemmas.List.{append-nil, map-append}
 use Rattle.man_raw.specs.declared.document.RawPart.{RawPart}
 use Rattle.man_raw.specs.declared.form.Form.TheVariants as form
 use Rattle.man_raw.specs.declared.form.What.TheVariants as what
@@ -38,10 +38,6 @@ use Rattle.man_text.proofs.ExpressionMeaningLaws.{decided_so, expression_means, 
 use Rattle.man_text.proofs.MeaningLaws.{MeanEach, all_mean, bare_property, both_mean, leaf_means, object_means, over_means, set_counts}
 use Rattle.man_text.proofs.NoteLaws.{notes_mean}
 use Rattle.man_text.proofs.TypedLaws.{AreTyped, typed_first, typed_rest}
-
-map_both : {X Y : Type 0} (f : X → Y) (xs ys : List X) → map f (xs ++ ys) ≡ map f xs ++ map f ys
-map_both f [] ys = refl
-map_both f (x ∷ xs) ys = ap (λ (l : List _). f x ∷ l) (map_both f xs ys)
 
 -- a name means what it means as a piece
 named_is : (ks : Knows) (p : Place) (t : Tree) → IsLeafAt p t → named ks (undecided t) p ≡ meant ks (undecided t) p
@@ -129,7 +125,7 @@ module _ (ks : Knows) where
   frame_says h p subject part t e at typed says =
       ap (said_of ks (a_frame h subject (part ∷ []))) (subject_means h p subject e at typed)
       ∙ ap (λ (x : Told Tree). map Ok (flat_map declaration_of (subject ∷ [])) ++ x ∷ []) says
-      ∙ sym (map_both Ok (flat_map declaration_of (subject ∷ [])) (t ∷ []))
+      ∙ sym (map-append Ok (flat_map declaration_of (subject ∷ [])) (t ∷ []))
 
   -- an item that is no frame
   pub item_says : (h : Heading) (part : RawPart) (t : Tree) → name_place h ≡ None → axiom_of ks h [] part ≡ Ok t

@@ -1,5 +1,7 @@
 pub mod WritableLaws
 pub mod WorkedCases
+pub mod CanonicalLaws
+pub mod DeclaredLaws
 pub mod ExpressionLaws
 pub mod TypedLaws
 pub mod MeaningLaws
@@ -18,6 +20,7 @@ pub mod ShapedAxiomLaws
 pub mod ShapedBlockLaws
 pub mod WrittenAxiomLaws
 pub mod HeadLaws
+pub mod WordLaws
 pub mod PlaceLaws
 pub mod PlacedItemLaws
 pub mod OntologyLaws

@@ -7,6 +7,7 @@ use Rattle.man_raw.specs.declared.form.Facet.{Facet}
 use Rattle.man_raw.specs.declared.form.Form.TheVariants as form
 use Rattle.man_raw.specs.declared.form.What.TheVariants as what
 use Rattle.man_raw.specs.Raws.{RawTree, raw, trees_of}
+use Rattle.man_sayable.proofs.FacetLaws.{named_facet}
 use Rattle.man_resolve.specs.declared.place.Place.{Place}
 use Rattle.man_resolve.specs.declared.place.Place.TheVariants as place
 use Rattle.owl_tree.specs.Rows.{row_of}
@@ -21,7 +22,7 @@ use Rattle.owl_tree.specs.declared.tag.Tag.TheVariants as tag
 use Rattle.owl_tree.specs.Trees.{Tree, kids_of, leaf, node}
 use Rattle.rdf_terms.specs.Literals.{LiteralParts}
 use Rattle.man_text.specs.Undecided.{form_of, is_bracketed, is_counted, leaf_what, facet_what, operand, operands, piece, undecided}
-use Rattle.man_text.proofs.TypedLaws.{AreTyped, facet_found, typed_first, typed_rest}
+use Rattle.man_text.proofs.TypedLaws.{AreTyped, typed_first, typed_rest}
 use Rattle.man_text.proofs.ExpressionLaws.{IsClassOrRange, IsConnected, IsEnumeration, IsFacetPairTree, IsIriAt, IsLabelAt, IsLeafAt, IsLiteralAt, IsNameAt, IsPropertyOf, Side, class_and, class_or, data_property, datas, filler_place, inverse_property, object_property, objects, of_class, of_individuals, of_literals, of_range, pair_of, range_and, range_or}
 
 -- a set may have so many members
@@ -133,7 +134,7 @@ module _ (ks : Knows) where
       let facet = leaf tag.Facet (atom.Iri iri) in
       let literal = leaf tag.Literal (atom.Literal value) in
       let two = both_mean (meant ks (operand (undecided facet)) place.Facet) (all_of (all_at place.Literal (meanings ks (trees_of (operand (undecided literal) ∷ []))))) facet (literal ∷ [])
-      (ap (λ (o : Option Facet). meant ks (operand (piece (facet_what iri o) [])) place.Facet) found ∙ ap (λ (i : List ℕ). Ok (leaf tag.Facet (atom.Iri i))) (facet_found iri f found))
+      (ap (λ (o : Option Facet). meant ks (operand (piece (facet_what iri o) [])) place.Facet) found ∙ ap (λ (i : List ℕ). Ok (leaf tag.Facet (atom.Iri i))) (named_facet iri f found))
       (all_mean place.Literal (operand (undecided literal) ∷ []) (literal ∷ []) (leaf_means place.Literal literal (IsLeafAt.literal_leaf place.Literal value IsLiteralAt.literal is) (untyped value), tt)) in
       ap (λ (x : Told (List Tree)). node_of (stem tag.FacetPair x)) two
 

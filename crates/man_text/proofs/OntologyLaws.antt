@@ -14,7 +14,7 @@ use Rattle.man_resolve.specs.Items.{annotations_of, axioms_of, head_in, meanings
 use Rattle.man_sayable.specs.Sayable.{IsUnopposed}
 use Rattle.owl_atom.specs.declared.prefixes.Prefix.{Prefix}
 use Rattle.owl_doc.specs.Entities.{entities, entities_of}
-use Rattle.owl_doc.specs.Heads.{name_of}
+use Rattle.owl_doc.specs.Heads.{iri_in, name_of, version_in}
 use Rattle.owl_kind.specs.declared.kind.Kind.TheVariants as kind
 use Rattle.owl_list.proofs.AscendingLaws.{in_cases, in_head, in_none, in_tail}
 use Rattle.owl_tree.specs.Canonical.{canonical}
@@ -30,7 +30,7 @@ use Rattle.owl_tree.specs.Trees.{Kids, Tree, depth, kids_in, kids_of, leaf, most
 use Rattle.owl_tree.proofs.TreeLaws.{kids_of_list_of}
 use Rattle.written_trees.specs.Written.{written_form}
 use Rattle.written_trees.proofs.WrittenLaws.{is_written, written_tag}
-use Rattle.man_text.specs.Blocks.{block_of, block_with, document_of, headed, head_tree, item_of, iri_in, notes_of, version_in}
+use Rattle.man_text.specs.Blocks.{block_of, block_with, document_of, headed, head_tree, item_of, notes_of}
 use Rattle.man_text.specs.Undecided.{form_of, is_bracketed, is_counted, operand, operands, undecided}
 use Rattle.man_text.proofs.AxiomLaws.{IsAxiomOver, IsEntityTag, bare_notes}
 use Rattle.man_text.proofs.AxiomMeaningLaws.{list_back}

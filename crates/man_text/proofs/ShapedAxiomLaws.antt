@@ -1,8 +1,7 @@
 -- Shaped axioms that can be said, by the blocks in which they are written.
-use Rattle.std.proofs.Common.{◌≡◌, ◌≤◌, suc, arith, Bool, true, false, not, None, List, [], ◌∷◌, length, map, refl, sym, ap, subst}
+use Rattle.std.proofs.Common.{◌≡◌, ◌≤◌, suc, arith, true, false, not, None, List, [], ◌∷◌, length, map, refl, sym, ap, subst}
 use Rattle.std.specs.Prelude.{◌&&◌, IsTrue}
-use Rattle.std.proofs.lemmas.Bool.{and_parts}
-use Rattle.std.proofs.lemmas.Option.{none-some}
+use Rattle.std.proofs.lemmas.Bool.{and_parts, not-false}
 use Rattle.fss_terms.specs.Spelling.{MeetsMinimum}
 use Rattle.man_raw.specs.declared.heading.Heading.{Heading}
 use Rattle.man_raw.specs.declared.heading.Heading.TheVariants as heading
@@ -13,7 +12,8 @@ use Rattle.man_resolve.specs.declared.place.Place.TheVariants as place
 use Rattle.man_resolve.specs.Expressions.{Knows}
 use Rattle.man_sayable.specs.Sayable.{frame_objection}
 use Rattle.man_sayable.specs.Subjects.{against, has_tag_at, subject_objection, subject_of}
-use Rattle.sayable_parts.specs.Reasons.{Objection, inverse_subject, two_inverses, unnamed_subject}
+use Rattle.man_sayable.proofs.SayableLaws.{not_against}
+use Rattle.sayable_parts.specs.Reasons.{inverse_subject, two_inverses, unnamed_subject}
 use Rattle.owl_tree.specs.declared.row.Rest.TheVariants.{Set}
 use Rattle.owl_tree.specs.declared.row.Sort.{Sort}
 use Rattle.owl_tree.specs.declared.row.Sort.TheVariants as sort
@@ -30,14 +30,6 @@ use Rattle.man_text.proofs.ShapedLaws.{AllOf, Three, Two, annotation_property_at
 use Rattle.man_text.proofs.ShapedNotesLaws.{notes_at}
 
 -- ---- what is not said against an axiom
-
-pub free_of : (b : Bool) (why : Objection) → against b why ≡ None → b ≡ false
-free_of true why e = absurd (none-some why (sym e))
-free_of false why e = refl
-
-pub not_false : (b : Bool) → not b ≡ false → b ≡ true
-not_false true e = refl
-not_false false e = absurd (cc)
 
 -- an object property that is no inverse is a name
 pub named_of : (t : Tag) → admits sort.ObjectPropertyExpression t ≡ true → is_tag tag.ObjectInverseOf t ≡ false → admits sort.ObjectProperty t ≡ true
@@ -170,11 +162,11 @@ module _ (looks : Knows) where
   -- what is not said against the second kid
   second_named : (ts : List Tree) (notes subject body : Tree) → subject_objection (subject_of tag.ObjectPropertyDomain) ts ≡ None → ts ≡ notes ∷ subject ∷ body ∷ [] → is_tag tag.ObjectInverseOf (tag_of subject) ≡ false
   unfolding subject_of
-  second_named ts notes subject body e same = free_of _ inverse_subject (subst (λ (us : List Tree). against (has_tag_at tag.ObjectInverseOf 1 us) inverse_subject ≡ None) same e)
+  second_named ts notes subject body e same = not_against _ inverse_subject (subst (λ (us : List Tree). against (has_tag_at tag.ObjectInverseOf 1 us) inverse_subject ≡ None) same e)
 
   second_class : (ts : List Tree) (notes subject : Tree) (others : List Tree) → subject_objection (subject_of tag.SubClassOf) ts ≡ None → ts ≡ notes ∷ subject ∷ others → is_tag tag.Class (tag_of subject) ≡ true
   unfolding subject_of
-  second_class ts notes subject others e same = not_false _ (free_of _ unnamed_subject (subst (λ (us : List Tree). against (not (has_tag_at tag.Class 1 us)) unnamed_subject ≡ None) same e))
+  second_class ts notes subject others e same = not-false _ (not_against _ unnamed_subject (subst (λ (us : List Tree). against (not (has_tag_at tag.Class 1 us)) unnamed_subject ≡ None) same e))
 
   pub beside_block : (t : Tag) (h : Heading) (s : Section) (p q : Place) (ts : List Tree) → IsBeside t h s p q → (t ≡ tag.SubObjectPropertyOf → ⊥) → (t ≡ tag.InverseObjectProperties → ⊥) → AxiomFacts looks t ts → HasBlock looks t ts
   unfolding row_of subject_of
@@ -289,7 +281,7 @@ module _ (looks : Knows) where
   unfolding subject_of
   word_over t h p ts is kids facts e none =
       let own = subst Facts kids.is facts in
-      let plain = free_of _ inverse_subject (subst (λ (us : List Tree). against (has_tag_at tag.ObjectInverseOf 1 us) inverse_subject ≡ None) kids.is none) in
+      let plain = not_against _ inverse_subject (subst (λ (us : List Tree). against (has_tag_at tag.ObjectInverseOf 1 us) inverse_subject ≡ None) kids.is none) in
       let name = object_name_at kids.b (named_of (tag_of kids.b) kids.second plain) own.1.0.shaped in
       by_kids looks t ts _ kids.is
       (record { own = _; is = IsAxiomOver.word t h p kids.a kids.b is (first_notes kids.a kids.first own.0) (subst (λ (q : Place). IsLeafAt q kids.b) (sym e) name) })
@@ -321,7 +313,7 @@ module _ (looks : Knows) where
       record {
         own = _;
         is = IsAxiomOver.beside tag.InverseObjectProperties heading.ObjectProperty section.InverseOf place.ObjectName place.Object notes a b IsBeside.inverse_properties (first_notes notes parts.0 facts.0)
-            (object_name_at a (named_tag (tag_of a) (not_false _ (free_of _ two_inverses none))) facts.1.0.shaped) (object_body b all.1.0 facts.1.1.0);
+            (object_name_at a (named_tag (tag_of a) (not-false _ (not_against _ two_inverses none))) facts.1.0.shaped) (object_body b all.1.0 facts.1.1.0);
       }
   inverse_over (notes ∷ a ∷ b ∷ d ∷ ts) many row facts none = absurd (let m : suc (suc (suc (suc (length ts)))) ≡ 3 = many in omega arith)
 

@@ -1,8 +1,8 @@
 -- Each shaped axiom that can be said has a block.
-use Rattle.std.proofs.Common.{◌≡◌, ◌⊎◌, inl, inr, ℕ, Bool, true, false, not, Option, None, Some, List, [], ◌∷◌, ◌++◌, map, refl, sym, ap, ◌∙◌, subst}
+use Rattle.std.proofs.Common.{◌≡◌, ◌⊎◌, inl, inr, ℕ, true, false, not, Option, None, Some, List, [], ◌∷◌, ◌++◌, map, refl, sym, ap, ◌∙◌, subst}
 use Rattle.std.specs.Prelude.{◌&&◌, ◌||◌, IsTrue, Contains}
 use Rattle.std.specs.List.{AllByRecursion, list_all}
-use Rattle.std.proofs.lemmas.Bool.{and_from, and_parts}
+use Rattle.std.proofs.lemmas.Bool.{and_from, and_parts, not-false, or_parts}
 use Rattle.std.proofs.lemmas.Option.{none-some}
 use Rattle.man_resolve.specs.declared.place.Place.{Place}
 use Rattle.man_resolve.specs.declared.place.Place.TheVariants as place
@@ -13,6 +13,7 @@ use Rattle.man_resolve.specs.Expressions.{Knows}
 use Rattle.man_sayable.specs.FrameKinds.{frame_kind}
 use Rattle.man_sayable.specs.Sayable.{annotated_objection, frame_objection, has_kids, undeclared}
 use Rattle.man_sayable.specs.Subjects.{against, has_tag_at, subject_of}
+use Rattle.man_sayable.proofs.SayableLaws.{not_against, second_fails}
 use Rattle.sayable_parts.specs.Reasons.{annotated_declaration, inverse_assertion, inverse_subject, undeclared_subject, unnamed_subject}
 use Rattle.owl_kind.specs.declared.kind.Kind.{Kind}
 use Rattle.owl_list.proofs.AscendingLaws.{in_cases, in_none}
@@ -31,14 +32,14 @@ use Rattle.owl_tree.specs.Trees.{Kids, Tree, kid, kids_in, kids_of, leaf, list_o
 use Rattle.owl_tree.proofs.TreeLaws.{kids_of_list_of}
 use Rattle.man_text.proofs.AxiomLaws.{AreProperties, IsAbout, IsAxiomOver, IsBeside, IsBodyAt, IsEntityTag, IsFactTag, IsNamedProperty, bare_notes}
 use Rattle.man_text.proofs.ExpressionLaws.{IsLeafAt, IsNameAt, IsNotesTree, Side, datas, notes_of, objects}
-use Rattle.man_text.proofs.ShapedAxiomLaws.{AxiomFacts, AxiomForm, HasBlock, axiom_form, beside_block, by_kids, first_notes, free_of, inverse_block, listed_block, named_of, not_false, property_list_block, typing_block, union_block, word_block}
+use Rattle.man_text.proofs.ShapedAxiomLaws.{AxiomFacts, AxiomForm, HasBlock, axiom_form, beside_block, by_kids, first_notes, inverse_block, listed_block, named_of, property_list_block, typing_block, union_block, word_block}
 use Rattle.man_text.proofs.ShapedExpressionLaws.{Facts}
 use Rattle.man_text.proofs.ShapedLaws.{AllOf, all_of_sort, annotation_property_at, class_name_at, data_at, individual_at, literal_at, object_name_at, property_at, set_kids, side_sort, three_kids, two_kids, value_at}
 use Rattle.man_text.proofs.SortLaws.{IsLeafOf, IsNodeOf}
 
 -- ---- kids of kids
 
-shaped_list : (ks : Kids) → AreShaped ks → AllByRecursion IsShaped (list_of ks)
+pub shaped_list : (ks : Kids) → AreShaped ks → AllByRecursion IsShaped (list_of ks)
 shaped_list no_kids h = tt
 shaped_list (kid t ks) h = (h.0, shaped_list ks h.1)
 
@@ -83,14 +84,6 @@ chain_at (node t ks) e shaped =
     let chain = chain_of (list_of ks) row (shaped_list ks shaped.1) in
     subst IsChain (ap (node tag.ObjectPropertyChain) (kids_of_list_of ks) ∙ ap (λ (u : Tag). node u ks) (sym e)) chain
 
-either_false : (a b : Bool) → (a || b) ≡ false → (a ≡ false) × (b ≡ false)
-either_false true b e = absurd (cc)
-either_false false b e = (refl, e)
-
-second_false : (a b : Bool) → (a && b) ≡ false → a ≡ true → b ≡ false
-second_false true b e f = e
-second_false false b e f = absurd (cc)
-
 module _ (looks : Knows) where
   -- what is not said against the subject of a subproperty
   abbrev SubFree : Tree → Tree → Type 0
@@ -105,12 +98,12 @@ module _ (looks : Knows) where
         (object_name_at sub (ap (admits sort.ObjectProperty) e) facts.1.0.shaped) (IsBodyAt.property_body super (property_at objects super third facts.1.1.0.shaped));
   }
   by_sub notes sub super _ an_inverse e facts first third free =
-      let never : is_tag tag.ObjectInverseOf (tag_of sub) ≡ false = (either_false _ _ free).0 in
+      let never : is_tag tag.ObjectInverseOf (tag_of sub) ≡ false = (or_parts _ _ free).0 in
       let here : is_tag tag.ObjectInverseOf (tag_of sub) ≡ true = ap (is_tag tag.ObjectInverseOf) e in absurd (cc)
   by_sub notes sub super _ a_chain e facts first third free =
       let chain = chain_at sub e facts.1.0.shaped in
       let here : is_tag tag.ObjectPropertyChain (tag_of sub) ≡ true = ap (is_tag tag.ObjectPropertyChain) e in
-      let plain = second_false _ _ (either_false _ _ free).1 here in
+      let plain = second_fails _ _ (or_parts _ _ free).1 here in
       let named = object_name_at super (named_of (tag_of super) third plain) facts.1.1.0.shaped in
       subst (λ (t : Tree). HasBlock looks tag.SubObjectPropertyOf (notes ∷ t ∷ super ∷ [])) (sym chain.is)
       (record { own = _; is = IsAxiomOver.chain notes chain.a chain.b chain.others super (first_notes notes first facts.0) chain.links named })
@@ -119,7 +112,7 @@ module _ (looks : Knows) where
   unfolding row_of subject_of
   sub_property_block ts f =
       let kids = three_kids sort.Notes sort.SubObjectPropertyExpression sort.ObjectPropertyExpression ts f.row in
-      let free = free_of _ inverse_subject (subst (λ (us : List Tree). against (has_tag_at tag.ObjectInverseOf 1 us || has_tag_at tag.ObjectPropertyChain 1 us && has_tag_at tag.ObjectInverseOf 2 us) inverse_subject ≡ None) kids.is f.subject) in
+      let free = not_against _ inverse_subject (subst (λ (us : List Tree). against (has_tag_at tag.ObjectInverseOf 1 us || has_tag_at tag.ObjectPropertyChain 1 us && has_tag_at tag.ObjectInverseOf 2 us) inverse_subject ≡ None) kids.is f.subject) in
       by_kids looks tag.SubObjectPropertyOf ts _ kids.is
       (by_sub kids.a kids.b kids.d (tag_of kids.b) (sub_tag (tag_of kids.b) kids.second) refl (subst Facts kids.is f.kids) kids.first kids.third free)
 
@@ -136,7 +129,7 @@ pub record Four (s r q o : Sort) (ts : List Tree) : Type 0 where
   pub third : admits q (tag_of d) ≡ true
   pub fourth : admits o (tag_of e) ≡ true
 
-four_kids : (s r q o : Sort) (ts : List Tree) → fits_front (s ∷ r ∷ q ∷ o ∷ []) Nothing (map tag_of ts) ≡ true → Four s r q o ts
+pub four_kids : (s r q o : Sort) (ts : List Tree) → fits_front (s ∷ r ∷ q ∷ o ∷ []) Nothing (map tag_of ts) ≡ true → Four s r q o ts
 four_kids s r q o [] e = absurd (cc)
 four_kids s r q o (a ∷ ts) e =
     let parts = and_parts (admits s (tag_of a)) (fits_front (r ∷ q ∷ o ∷ []) Nothing (map tag_of ts)) e in
@@ -161,7 +154,7 @@ module _ (looks : Knows) where
   object_fact_over : (t : Tag) (ts : List Tree) → IsFactTag objects t → Four sort.Notes sort.ObjectPropertyExpression sort.Individual sort.Individual ts → Facts ts → against (has_tag_at tag.ObjectInverseOf 1 ts) inverse_assertion ≡ None → HasBlock looks t ts
   object_fact_over t ts is kids facts none =
       let own = subst Facts kids.is facts in
-      let plain = free_of _ inverse_assertion (subst (λ (us : List Tree). against (has_tag_at tag.ObjectInverseOf 1 us) inverse_assertion ≡ None) kids.is none) in
+      let plain = not_against _ inverse_assertion (subst (λ (us : List Tree). against (has_tag_at tag.ObjectInverseOf 1 us) inverse_assertion ≡ None) kids.is none) in
       by_kids looks t ts _ kids.is
       (record { own = _; is = IsAxiomOver.fact objects t kids.a kids.b kids.d kids.e is (first_notes kids.a kids.first own.0) (object_named kids.b (object_name_at kids.b (named_of (tag_of kids.b) kids.second plain) own.1.0.shaped)) (individual_at kids.d kids.third own.1.1.0.shaped) (individual_at kids.e kids.fourth own.1.1.1.0.shaped) })
 
@@ -329,7 +322,7 @@ module _ (looks : Knows) where
   key_block ts f =
       let kids = four_kids sort.Notes sort.ClassExpression sort.ObjectKeys sort.DataKeys ts f.row in
       let own = subst Facts kids.is f.kids in
-      let named : is_tag tag.Class (tag_of kids.b) ≡ true = not_false _ (free_of _ unnamed_subject (subst (λ (us : List Tree). against (not (has_tag_at tag.Class 1 us)) unnamed_subject ≡ None) kids.is f.subject)) in
+      let named : is_tag tag.Class (tag_of kids.b) ≡ true = not-false _ (not_against _ unnamed_subject (subst (λ (us : List Tree). against (not (has_tag_at tag.Class 1 us)) unnamed_subject ≡ None) kids.is f.subject)) in
       let first = object_keys_at kids.d kids.third own.1.1.0.shaped in
       let second = data_keys_at kids.e kids.fourth own.1.1.1.0.shaped in
       let groups = kids.is ∙ ap (λ (u : Tree). kids.a ∷ kids.b ∷ u ∷ kids.e ∷ []) first.is ∙ ap (λ (u : Tree). kids.a ∷ kids.b ∷ node tag.ObjectKeys (kids_of first.members) ∷ u ∷ []) second.is in
@@ -358,7 +351,7 @@ module _ (looks : Knows) where
   declaration_block ts f =
       let kids = two_kids sort.Notes sort.Entity ts f.row in
       let own = subst Facts kids.is f.kids in
-      let free = free_of _ annotated_declaration (subst (λ (us : List Tree). frame_objection looks tag.Declaration us ≡ None) kids.is f.frame) in
+      let free = not_against _ annotated_declaration (subst (λ (us : List Tree). frame_objection looks tag.Declaration us ≡ None) kids.is f.frame) in
       let bare = no_notes kids.a (first_notes kids.a kids.first own.0) free in
       by_kids looks tag.Declaration ts _ (kids.is ∙ ap (λ (u : Tree). u ∷ kids.b ∷ []) bare) (declared_entity kids.b kids.second own.1.0.shaped)
 

@@ -1,5 +1,5 @@
 -- Shaped class expressions and data ranges that can be said, by their forms.
-use Rattle.std.proofs.Common.{◌≡◌, ◌≤◌, ℕ, arith, Bool, true, false, Option, None, Some, List, [], ◌∷◌, length, map, refl, sym, ap, ◌∙◌, subst}
+use Rattle.std.proofs.Common.{◌≡◌, ◌≤◌, ℕ, arith, true, Option, None, Some, List, [], ◌∷◌, length, map, refl, sym, ap, ◌∙◌, subst}
 use Rattle.std.specs.List.{AllByRecursion}
 use Rattle.std.proofs.lemmas.Bool.{and_from, and_parts}
 use Rattle.std.proofs.lemmas.Option.{none-some}
@@ -9,8 +9,8 @@ use Rattle.man_resolve.specs.declared.place.Place.{Place}
 use Rattle.man_resolve.specs.declared.place.Place.TheVariants as place
 use Rattle.man_sayable.specs.Facets.{facet_named}
 use Rattle.man_sayable.specs.Sayable.{are_many, facet_objection, properties_objection, wordless}
-use Rattle.man_sayable.specs.Subjects.{against}
-use Rattle.sayable_parts.specs.Reasons.{Objection, facet_name, many_properties}
+use Rattle.man_sayable.proofs.SayableLaws.{not_against}
+use Rattle.sayable_parts.specs.Reasons.{facet_name, many_properties}
 use Rattle.owl_tree.specs.declared.atom.Atom.{Atom}
 use Rattle.owl_tree.specs.declared.atom.Atom.TheVariants as atom
 use Rattle.owl_tree.specs.declared.row.Rest.TheVariants.{Set}
@@ -118,16 +118,12 @@ quantified_over s t ts is pair there facts =
     let own = subst Facts pair.is facts in
     subst (Over place.Class t) (sym pair.is) (IsExpressionAt.quantified s t pair.a pair.b is (property_at s pair.a pair.first own.0.shaped) (own.1.0.expression (filler_place s) there pair.second))
 
-few_of : (b : Bool) (why : Objection) → against b why ≡ None → b ≡ false
-few_of true why e = absurd (none-some why (sym e))
-few_of false why e = refl
-
 quantified_node : (s : Side) (t : Tag) (ts : List Tree) → IsQuantified s t → fits (row_of t) (map tag_of ts) ≡ true → properties_objection (node t (kids_of ts)) ≡ None → list_of (kids_of ts) ≡ ts → Facts ts → Over place.Class t ts
 unfolding row_of number_of
 quantified_node _ _ ts object_some e few same facts = quantified_over objects tag.ObjectSomeValuesFrom ts object_some (two_kids sort.ObjectPropertyExpression sort.ClassExpression ts e) of_class facts
 quantified_node _ _ ts object_only e few same facts = quantified_over objects tag.ObjectAllValuesFrom ts object_only (two_kids sort.ObjectPropertyExpression sort.ClassExpression ts e) of_class facts
-quantified_node _ _ ts data_some e few same facts = quantified_over datas tag.DataSomeValuesFrom ts data_some (some_then sort.DataPropertyExpression sort.DataRange ts e (ap are_many (sym same) ∙ few_of (are_many (list_of (kids_of ts))) many_properties few)) of_range facts
-quantified_node _ _ ts data_only e few same facts = quantified_over datas tag.DataAllValuesFrom ts data_only (some_then sort.DataPropertyExpression sort.DataRange ts e (ap are_many (sym same) ∙ few_of (are_many (list_of (kids_of ts))) many_properties few)) of_range facts
+quantified_node _ _ ts data_some e few same facts = quantified_over datas tag.DataSomeValuesFrom ts data_some (some_then sort.DataPropertyExpression sort.DataRange ts e (ap are_many (sym same) ∙ not_against (are_many (list_of (kids_of ts))) many_properties few)) of_range facts
+quantified_node _ _ ts data_only e few same facts = quantified_over datas tag.DataAllValuesFrom ts data_only (some_then sort.DataPropertyExpression sort.DataRange ts e (ap are_many (sym same) ∙ not_against (are_many (list_of (kids_of ts))) many_properties few)) of_range facts
 
 valued_node : (s : Side) (t : Tag) (ts : List Tree) → IsValued s t → fits (row_of t) (map tag_of ts) ≡ true → Facts ts → Over place.Class t ts
 unfolding row_of

@@ -1,12 +1,5 @@
 -- Trees whose names have the kinds that they are taken for, part by part.
-use Rattle.std.proofs.Common.{◌≡◌, ℕ, Bool, true, false, if◌then◌else◌, Some, List, [], ◌∷◌, ◌++◌, refl, subst}
-use Rattle.std.specs.Prelude.{find}
-use Rattle.std.proofs.lemmas.Option.{none-some, same_Some}
-use Rattle.std.proofs.lemmas.Slice.Eq.{bytes_eq-Decides}
-use Rattle.man_raw.specs.declared.form.Facet.{Facet}
-use Rattle.man_resolve.specs.Places.{facet_iri}
-use Rattle.owl_characters.specs.Order.{text_eq}
-use Rattle.man_sayable.specs.Facets.{facet_named, facets}
+use Rattle.std.proofs.Common.{◌≡◌, true, List, [], ◌∷◌, ◌++◌}
 use Rattle.std.specs.List.{AllByRecursion}
 use Rattle.man_resolve.specs.Expressions.{Knows}
 use Rattle.owl_doc.specs.Entities.{entities, entities_of}
@@ -34,17 +27,6 @@ typed_first ks t ts h = all_front (λ (e : Entity). ks e.kind e.iri ≡ true) (e
 
 pub typed_rest : (ks : Knows) (t : Tree) (ts : Kids) → AreTyped ks (entities_of (kid t ts)) → AreTyped ks (entities_of ts)
 typed_rest ks t ts h = all_behind (λ (e : Entity). ks e.kind e.iri ≡ true) (entities t) (entities_of ts) h
-
--- what is found passes the test
-pub found_passes : {X : Type 0} (test : X → Bool) (xs : List X) (x : X) → find test xs ≡ Some x → test x ≡ true
-found_passes test [] x e = absurd (none-some x e)
-found_passes {X} test (y ∷ ys) x e = by_test (test y) refl e (found_passes test ys x) where
-  by_test : (b : Bool) → test y ≡ b → (if b then Some y else find test ys) ≡ Some x → (find test ys ≡ Some x → test x ≡ true) → test x ≡ true
-  by_test true h e rest = subst (λ (z : X). test z ≡ true) (same_Some y x e) h
-  by_test false h e rest = rest e
-
-pub facet_found : (iri : List ℕ) (f : Facet) → facet_named iri ≡ Some f → facet_iri f ≡ iri
-facet_found iri f e = (bytes_eq-Decides (facet_iri f) iri).0 (found_passes (λ g. text_eq (facet_iri g) iri) facets f e)
 
 -- of trees, and of those behind them
 pub typed_both : (ks : Knows) (ts us : List Tree) → AreTyped ks (entities_of (kids_of ts)) → AreTyped ks (entities_of (kids_of us)) → AreTyped ks (entities_of (kids_of (ts ++ us)))

@@ -1,13 +1,12 @@
 -- What is known of an axiom as it is written, where it can be said.
-use Rattle.std.proofs.Common.{◌≡◌, ℕ, zero, suc, Bool, true, false, not, if◌then◌else◌, Option, None, Some, List, [], ◌∷◌, refl, sym, ap, ◌∙◌}
+use Rattle.std.proofs.Common.{◌≡◌, ℕ, zero, suc, Bool, true, false, not, if◌then◌else◌, None, Some, List, [], ◌∷◌, refl, ap, ◌∙◌}
 use Rattle.std.specs.Prelude.{◌&&◌, ◌||◌, IsTrue, nat_le, length}
 use Rattle.std.specs.List.{AllByRecursion, slice_get}
-use Rattle.std.specs.Option.{option_or}
-use Rattle.std.proofs.lemmas.Option.{none-some}
 use Rattle.man_resolve.specs.Expressions.{Knows}
 use Rattle.man_sayable.specs.declared.inside.Look.TheVariants.{Properties, Facets}
 use Rattle.man_sayable.specs.Sayable.{IsUnopposed, annotated_objection, are_many, facet_objection, frame_objection, has_kids, inner_objection, kids_objection, properties_objection}
 use Rattle.man_sayable.specs.Subjects.{against, has_tag_at, is_tagged, subject_objection, subject_of}
+use Rattle.sayable_parts.proofs.WalkLaws.{neither}
 use Rattle.sayable_parts.specs.Reasons.{Objection, annotated_declaration, inverse_assertion, inverse_subject, many_properties, two_inverses, unnamed_subject}
 use Rattle.std.proofs.lemmas.Bool.{and_from}
 use Rattle.owl_tree.specs.declared.atom.Atom.{Atom}
@@ -28,12 +27,8 @@ use Rattle.man_text.proofs.ShapedExpressionLaws.{AreSaid, IsSaid, all_facts}
 
 -- ---- what stands inside can be said, as it is written
 
-neither : (a b : Option Objection) → option_or a b ≡ None → (a ≡ None) × (b ≡ None)
-neither None b e = (refl, e)
-neither (Some why) b e = absurd (none-some why (sym e))
-
 mutual
-  clear_said : (t : Tree) → inner_objection Properties t ≡ None → inner_objection Facets t ≡ None → IsSaid t
+  pub clear_said : (t : Tree) → inner_objection Properties t ≡ None → inner_objection Facets t ≡ None → IsSaid t
   clear_said (leaf t a) e f = f
   clear_said (node t ks) e f =
       let own = neither (properties_objection (node t ks)) (kids_objection Properties ks) e in
@@ -91,7 +86,7 @@ few_written tag.DataAllValuesFrom ks h = few_by (list_of (kids_of (written_forms
 few_written _ ks h = refl
 
 mutual
-  said_written : (t : Tree) → IsSaid t → IsSaid (written_form t)
+  pub said_written : (t : Tree) → IsSaid t → IsSaid (written_form t)
   said_written (leaf t a) h = h
   said_written (node t ks) h = (few_written t ks h.0, said_kids (doubled (row_of t) (written_forms ks)) (all_doubled IsSaid (row_of t) (written_forms ks) (each_written ks h.1)))
 

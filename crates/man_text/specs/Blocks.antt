@@ -21,6 +21,7 @@ use Rattle.man_resolve.specs.Items.{declaration_of}
 use Rattle.man_resolve.specs.Places.{sentence_of}
 use Rattle.man_sayable.specs.FrameKinds.{frame_kind}
 use Rattle.owl_atom.specs.declared.prefixes.Prefix.{Prefix}
+use Rattle.owl_doc.specs.Heads.{iri_in, version_in}
 use Rattle.owl_kind.specs.declared.kind.Kind.{Kind}
 use Rattle.owl_kind.specs.declared.kind.Kind.TheVariants as kind
 use Rattle.owl_tree.specs.declared.atom.Atom.TheVariants as atom
@@ -28,7 +29,7 @@ use Rattle.owl_tree.specs.declared.tag.Tag.{Tag}
 use Rattle.owl_tree.specs.declared.tag.Tag.TheVariants as tag
 use Rattle.owl_tree.specs.declared.row.Sort.TheVariants as sort
 use Rattle.owl_tree.specs.Rows.{admits}
-use Rattle.owl_tree.specs.Ontologies.{Head, Ontology, OntologyName}
+use Rattle.owl_tree.specs.Ontologies.{Head, Ontology}
 use Rattle.owl_tree.specs.Trees.{Tree, kids_in, leaf, node, tag_of}
 use Rattle.written_trees.specs.Written.{written_form}
 use Rattle.man_text.specs.Undecided.{piece, undecided}
@@ -87,15 +88,6 @@ where_of tag.AnnotationPropertyDomain chain = in_section heading.AnnotationPrope
 where_of tag.AnnotationPropertyRange chain = in_section heading.AnnotationProperty section.Range
 where_of t chain = in_section heading.Individual section.Annotations
 
--- the frame of an entity
-unfoldable pub kind_heading : Kind → Heading
-kind_heading kind.Class = heading.Class
-kind_heading kind.Datatype = heading.Datatype
-kind_heading kind.ObjectProperty = heading.ObjectProperty
-kind_heading kind.DataProperty = heading.DataProperty
-kind_heading kind.AnnotationProperty = heading.AnnotationProperty
-kind_heading kind.Individual = heading.Individual
-
 unfoldable pub kind_tag : Kind → Tag
 kind_tag kind.Class = tag.Class
 kind_tag kind.Datatype = tag.Datatype
@@ -104,6 +96,7 @@ kind_tag kind.DataProperty = tag.DataProperty
 kind_tag kind.AnnotationProperty = tag.AnnotationProperty
 kind_tag kind.Individual = tag.NamedIndividual
 
+-- the frame of an entity
 unfoldable pub entity_heading : Tag → Heading
 entity_heading tag.Class = heading.Class
 entity_heading tag.Datatype = heading.Datatype
@@ -219,14 +212,6 @@ normal_form ks o = record o { axioms = o.axioms ++ flat_map (headed ks) o.axioms
 abbrev pub notes_of : List Tree → List RawTree
 notes_of [] = []
 notes_of (t ∷ ts) = piece (what.Form form.Notes) (map (λ u. undecided (written_form u)) (t ∷ ts)) ∷ []
-
-abbrev pub iri_in : Option OntologyName → Option (List ℕ)
-iri_in None = None
-iri_in (Some name) = Some name.iri
-
-abbrev pub version_in : Option OntologyName → Option (List ℕ)
-version_in None = None
-version_in (Some name) = name.version
 
 abbrev pub head_tree : Head → HeadTree
 head_tree h = record { iri = iri_in h.name; version = version_in h.name; imports = h.imports }

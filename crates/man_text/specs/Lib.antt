@@ -3,3 +3,4 @@ pub mod Undecided
 pub mod Blocks
 pub mod Text
 pub mod Readable
+pub mod Expressions

@@ -1,5 +1,5 @@
 -- The text of a document in Manchester Syntax, in characters (sections 2.1 to 2.6). What is written stands in front of more.
-use Rattle.std.specs.Prelude.{ℕ, Bool, not, filter, List, [], ◌∷◌, ◌++◌, codes, Option, None, Some}
+use Rattle.std.specs.Prelude.{ℕ, Bool, false, not, filter, List, [], ◌∷◌, ◌++◌, codes, map, Option, None, Some}
 use Rattle.std.specs.List.{list_any}
 use Rattle.man_grammar.specs.ClassNumbers.{colon_keywords, word_of}
 use Rattle.man_grammar.specs.declared.class.Class.TheVariants as class
@@ -115,8 +115,12 @@ document_text d = prefix_lines d.prefixes (head_lines d.head (notes_lines d.pref
 unfoldable pub is_keyword : List ℕ → Bool
 is_keyword name = list_any (λ c. text_eq (word_of c) name) colon_keywords
 
+-- the name and the IRI of a prefix, of which no mark is written
+abbrev pub unmarked : Prefix → Prefix
+unmarked prefix = record { name = prefix.name; iri = prefix.iri; fixed = false; declared = false }
+
 abbrev pub manchester_prefixes : List Prefix → List Prefix
-manchester_prefixes prefixes = filter (λ (prefix : Prefix). not (is_keyword prefix.name)) (written_prefixes prefixes)
+manchester_prefixes prefixes = map unmarked (filter (λ (prefix : Prefix). not (is_keyword prefix.name)) (written_prefixes prefixes))
 
 -- the text of an ontology in canonical form, with these prefixes, where the names have these kinds
 abbrev pub manchester_text : Knows → List Prefix → Ontology → List ℕ

@@ -4,4 +4,4 @@
 
 mod laws;
 
-pub use laws::texts_are_written_so;
+pub use laws::words_mean_their_expressions;

@@ -7,7 +7,7 @@ use Rattle.std.specs.Option.{option_map}
 use Rattle.std.proofs.lemmas.Bool.{both_ways, cases_Bool, not-true}
 use Rattle.std.proofs.lemmas.Slice.Eq.{bytes_eq-Decides}
 use Rattle.man_grammar.specs.Documents.{AreSamePrefixes}
-use Rattle.man_text.specs.Text.{is_keyword, manchester_prefixes}
+use Rattle.man_text.specs.Text.{is_keyword, manchester_prefixes, unmarked}
 use Rattle.man_grammar.specs.ClassNumbers.{word_of}
 use Rattle.owl_atom.specs.PrefixLaws.{Below, below_none, passed}
 use Rattle.owl_atom.specs.Prefixes.{AreAscending, IsTable, fixed_prefixes, iri_of, is_declared, prefix_in}
@@ -16,7 +16,7 @@ use Rattle.owl_characters.specs.Iri.{IsIri}
 use Rattle.owl_characters.specs.Names.{IsPrefixName}
 use Rattle.owl_characters.specs.Order.{text_cmp, text_eq}
 use Rattle.owl_characters.specs.OrderLaws.{less_unequal}
-use Rattle.owl_list.proofs.AscendingLaws.{all_from, all_in}
+use Rattle.owl_list.proofs.AscendingLaws.{all_from, all_in, from_map}
 use Rattle.owl_list.proofs.FilterLaws.{from_filter}
 use Rattle.owl_writing.proofs.TableLaws.{looked_up}
 use Rattle.owl_writing.proofs.WrittenTableLaws.{AreKnown, fixed_stands, not_fixed, written_table}
@@ -109,7 +109,7 @@ kept_found : (ps : List Prefix) (name : List ℕ) → not (is_keyword name) ≡ 
 kept_found [] name k = refl
 kept_found (p ∷ ps) name k = kept_by (not (is_keyword p.name)) (text_eq p.name name) p ps (filter (λ (q : Prefix). not (is_keyword q.name)) ps) name refl refl k (kept_found ps name k)
 
-all_kept : (Each : Prefix → Type 0) (test : Prefix → Bool) (ps : List Prefix) → AllByRecursion Each ps → AllByRecursion Each (filter test ps)
+pub all_kept : (Each : Prefix → Type 0) (test : Prefix → Bool) (ps : List Prefix) → AllByRecursion Each ps → AllByRecursion Each (filter test ps)
 all_kept Each test ps h = all_from Each (filter test ps) (λ p m. all_in Each ps p h (from_filter test ps p m).inside)
 
 kept_up : (b : Bool) (p : Prefix) (others : List Prefix) → Below p.name others → AreAscending others → AreAscending (cond b (p ∷ others) others)
@@ -133,46 +133,86 @@ same_iri : (o : Option Prefix) → option_map (λ (p : Prefix). p.iri) (option_m
 same_iri None = refl
 same_iri (Some p) = refl
 
-module _ (prefixes : List Prefix) (table : IsTable prefixes) where
-  abbrev ps : List Prefix
-  ps = manchester_prefixes prefixes
+-- ---- the same without their marks
 
+declared_again : (ps : List Prefix) → map as_declared (map unmarked ps) ≡ map as_declared ps
+declared_again [] = refl
+declared_again (p ∷ ps) = ap (λ (qs : List Prefix). as_declared p ∷ qs) (declared_again ps)
+
+declared_unmarked : (ps prefixes : List Prefix) → declared (map unmarked ps) prefixes ≡ declared ps prefixes
+declared_unmarked [] prefixes = refl
+declared_unmarked (p ∷ ps) prefixes = declared_unmarked ps (as_declared p ∷ prefixes)
+
+pub all_unmarked : (Each : Prefix → Type 0) (ps : List Prefix) → ((p : Prefix) → Each p → Each (unmarked p)) → AllByRecursion Each ps → AllByRecursion Each (map unmarked ps)
+all_unmarked Each [] f h = tt
+all_unmarked Each (p ∷ ps) f h = (f p h.0, all_unmarked Each ps f h.1)
+
+unmarked_ascending : (ps : List Prefix) → AreAscending ps → AreAscending (map unmarked ps)
+unmarked_ascending [] up = tt
+unmarked_ascending (p ∷ ps) up = (all_unmarked (λ q. text_cmp p.name q.name ≡ Less) ps (λ q h. h) up.0, unmarked_ascending ps up.1)
+
+unmarked_declarable : (p : Prefix) → IsDeclarable p → IsDeclarable (unmarked p)
+unmarked_declarable p h = record { name = h.name; iri = h.iri; no_keyword = h.no_keyword; fixed = h.fixed }
+
+module _ (prefixes : List Prefix) (table : IsTable prefixes) where
   abbrev is_kept : Prefix → Bool
   is_kept p = not (is_keyword p.name)
 
-  pub kept_table : IsTable ps
-  kept_table = let all = written_table prefixes table in record { ascending = kept_ascending is_kept (written_prefixes prefixes) all.ascending; names = all_kept (λ p. IsPrefixName p.name) is_kept (written_prefixes prefixes) all.names }
+  abbrev kept : List Prefix
+  kept = filter is_kept (written_prefixes prefixes)
 
-  absent_is_free : (name : List ℕ) → prefix_in ps name ≡ None → prefix_in fixed_prefixes name ≡ None
+  abbrev ps : List Prefix
+  ps = manchester_prefixes prefixes
+
+  kept_up_there : AreAscending kept
+  kept_up_there = kept_ascending is_kept (written_prefixes prefixes) (written_table prefixes table).ascending
+
+  pub kept_table : IsTable ps
+  kept_table = let all = written_table prefixes table in record {
+    ascending = unmarked_ascending kept kept_up_there;
+    names = all_unmarked (λ p. IsPrefixName p.name) kept (λ p h. h) (all_kept (λ p. IsPrefixName p.name) is_kept (written_prefixes prefixes) all.names);
+  }
+
+  absent_is_free : (name : List ℕ) → prefix_in kept name ≡ None → prefix_in fixed_prefixes name ≡ None
   absent_is_free name e = elim (cases_Bool (is_keyword name)) as (λ _. prefix_in fixed_prefixes name ≡ None) [
     | inl k ↦ keyword_is_free name k
     | inr f ↦ not_fixed prefixes table name (sym (kept_found (written_prefixes prefixes) name (ap not f)) ∙ e)
   ]
 
+  read_kept : AreSamePrefixes (map as_declared kept) (declared kept fixed_prefixes)
+  read_kept name =
+      sym (declared_found kept fixed_prefixes name kept_up_there
+      ∙ or_none (prefix_in (map as_declared kept) name) (prefix_in fixed_prefixes name) (λ e. absent_is_free name (unmapped (prefix_in kept name) (sym (found_declared kept name) ∙ e))))
+
   -- what was declared is what was written
   pub read_prefixes : AreSamePrefixes (map as_declared ps) (declared ps fixed_prefixes)
   read_prefixes name =
-      sym (declared_found ps fixed_prefixes name kept_table.ascending
-      ∙ or_none (prefix_in (map as_declared ps) name) (prefix_in fixed_prefixes name) (λ e. absent_is_free name (unmapped (prefix_in ps name) (sym (found_declared ps name) ∙ e))))
+      ap (λ (qs : List Prefix). prefix_in qs name) (declared_again kept) ∙ read_kept name ∙ ap (λ (qs : List Prefix). prefix_in qs name) (sym (declared_unmarked kept fixed_prefixes))
+
+  kept_iri : (p : Prefix) → Contains kept p → iri_of (declared kept fixed_prefixes) p.name ≡ Some p.iri
+  kept_iri p m =
+      ap (option_map (λ (q : Prefix). q.iri)) (sym (read_kept p.name) ∙ found_declared kept p.name)
+      ∙ same_iri (prefix_in kept p.name)
+      ∙ ap (option_map (λ (q : Prefix). q.iri)) (looked_up kept p kept_up_there m)
 
   own_iri : (p : Prefix) → Contains ps p → iri_of (declared ps fixed_prefixes) p.name ≡ Some p.iri
   own_iri p m =
-      ap (option_map (λ (q : Prefix). q.iri)) (sym (read_prefixes p.name) ∙ found_declared ps p.name)
-      ∙ same_iri (prefix_in ps p.name)
-      ∙ ap (option_map (λ (q : Prefix). q.iri)) (looked_up ps p kept_table.ascending m)
+      let value = from_map unmarked kept p m in
+      subst (λ (q : Prefix). iri_of (declared ps fixed_prefixes) q.name ≡ Some q.iri) value.value
+      (ap (λ (qs : List Prefix). iri_of qs value.element.name) (declared_unmarked kept fixed_prefixes) ∙ kept_iri value.element value.inside)
 
   pub known_prefixes : AreKnown ps (declared ps fixed_prefixes)
   known_prefixes = record { names = kept_table.names; each = own_iri; ascending = kept_table.ascending }
 
-  declarable : HaveIris (written_prefixes prefixes) → (p : Prefix) → Contains ps p → IsDeclarable p
+  declarable : HaveIris (written_prefixes prefixes) → (p : Prefix) → Contains kept p → IsDeclarable p
   declarable iris p m =
-      let kept = from_filter is_kept (written_prefixes prefixes) p m in
+      let within = from_filter is_kept (written_prefixes prefixes) p m in
       let all = written_table prefixes table in
-      let own = ap (option_map (λ (q : Prefix). q.iri)) (looked_up (written_prefixes prefixes) p all.ascending kept.inside) in
+      let own = ap (option_map (λ (q : Prefix). q.iri)) (looked_up (written_prefixes prefixes) p all.ascending within.inside) in
       record {
-        name = all_in (λ (q : Prefix). IsPrefixName q.name) (written_prefixes prefixes) p all.names kept.inside;
-        iri = all_in (λ (q : Prefix). IsIri q.iri) (written_prefixes prefixes) p iris kept.inside;
-        no_keyword = not-true (is_keyword p.name) kept.passes;
+        name = all_in (λ (q : Prefix). IsPrefixName q.name) (written_prefixes prefixes) p all.names within.inside;
+        iri = all_in (λ (q : Prefix). IsIri q.iri) (written_prefixes prefixes) p iris within.inside;
+        no_keyword = not-true (is_keyword p.name) within.passes;
         fixed = elim (fixed_stands prefixes table p.name) [
           | inl none ↦ inl none
           | inr at ↦ inr (at.1 ∙ sym at.2 ∙ own)
@@ -180,4 +220,4 @@ module _ (prefixes : List Prefix) (table : IsTable prefixes) where
       }
 
   pub are_declarable : HaveIris (written_prefixes prefixes) → AllByRecursion IsDeclarable ps
-  are_declarable iris = all_from IsDeclarable ps (declarable iris)
+  are_declarable iris = all_unmarked IsDeclarable kept unmarked_declarable (all_from IsDeclarable kept (declarable iris))
