@@ -1,6 +1,7 @@
 -- Texts of blocks.
-use Rattle.std.proofs.Common.{◌≡◌, ℕ, zero, suc, Bool, true, false, codes, List, [], ◌∷◌, ◌++◌, map, Option, None, Some, ◌<◌, length, arith, refl, sym, ap, ◌∙◌}
+use Rattle.std.proofs.Common.{◌≡◌, ℕ, true, false, codes, List, [], ◌∷◌, ◌++◌, map, Option, None, Some, ◌<◌, length, arith, refl, sym, ap, ◌∙◌}
 use Rattle.std.proofs.lemmas.List.{append-nil, append_assoc}
+use Rattle.std.proofs.lemmas.Simd.{map-map}
 use Rattle.man_grammar.specs.ClassNumbers.{word_of}
 use Rattle.man_raw.specs.declared.form.Characteristic.{Characteristic}
 use Rattle.man_raw.specs.declared.form.Form.{Form}
@@ -8,27 +9,27 @@ use Rattle.man_raw.specs.declared.form.Form.TheVariants as form
 use Rattle.man_raw.specs.declared.form.What.{What}
 use Rattle.man_raw.specs.declared.form.What.TheVariants as what
 use Rattle.man_raw.specs.declared.heading.Section.{Section}
-use Rattle.man_raw.specs.Raws.{RawTree, RawTrees, raw, none, more, trees_of}
+use Rattle.man_raw.specs.Raws.{RawTree, raw, none, more}
 use Rattle.std.specs.Option.{option_map}
-use Rattle.man_text.specs.Text.{text, behind, body_text, name_text, parts_text, section_front}
-use Rattle.man_text.specs.Undecided.{form_of, in_order, leaf_what, operands, piece, undecided}
+use Rattle.man_raw.specs.declared.document.RawPart.{RawPart}
+use Rattle.man_raw.specs.Documents.{ItemTree}
+use Rattle.man_text.specs.Text.{text, behind, body_text, item_text, name_text, part_text, parts_text, section_front}
+use Rattle.man_text.specs.Undecided.{form_of, in_order, leaf_what, piece, undecided}
 use Rattle.man_text.specs.Words.{Words, between, characteristic_class, colon, heading_class, list_gap, words_of}
 use Rattle.man_text.specs.Blocks.{kind_tag, listed, pair, subject_as}
 use Rattle.owl_kind.specs.declared.kind.Kind.{Kind}
 use Rattle.owl_kind.specs.declared.kind.Kind.TheVariants as kind
 use Rattle.owl_writing.specs.Terms.{iri_text}
 use Rattle.man_write.specs.declared.plan.Body as held
-use Rattle.man_write.specs.declared.plan.Body.TheVariants as body
 use Rattle.man_write.specs.declared.plan.Plan as plan
 use Rattle.owl_arena.specs.Held.{tree_at}
 use Rattle.owl_atom.specs.declared.prefixes.Prefix.{Prefix}
-use Rattle.owl_tree.specs.declared.tag.Tag.{Tag}
 use Rattle.owl_tree.specs.Rows.{row_of}
-use Rattle.owl_tree.specs.Trees.{Tree, Kids, leaf, node, kids_in, kids_of, list_of, tag_of}
+use Rattle.owl_tree.specs.Trees.{Tree, leaf, node, kids_in, kids_of, tag_of}
 use Rattle.written_trees.specs.Written.{doubled, written_form, written_forms}
 use Rattle.man_write.specs.declared.listed.Members as members
-use Rattle.man_write.specs.Parts.{form_text, forms_at, joined_from, operand_text, operands_at, said, said_at, words_seen}
-use Rattle.man_write.specs.Plans.{annotations_text, block_text, body_alone, body_seen, body_words, element_text, form_at, is_list_form, is_list_node, members_in, members_text, notes_text, pair_text, part_seen, parts_seen, plan_seen, plan_text, subject_seen}
+use Rattle.man_write.specs.Parts.{form_text, forms_at, joined_from, operand_text, operands_at, said, said_at}
+use Rattle.man_write.specs.Plans.{annotations_text, block_text, body_alone, body_seen, body_words, element_text, form_at, is_list_form, is_list_node, members_in, notes_text, pair_text, part_seen, parts_seen, plan_seen, plan_text, subject_seen}
 use Rattle.man_write.proofs.PieceLaws.{all_joined, alone, behind_more, form_said, operands_alone, text_goes, text_more}
 
 -- a form in a section
@@ -36,14 +37,10 @@ list_said : (p : List Prefix) (s : Section) (ts : List RawTree) → body_alone p
 list_said p s [] = refl
 list_said p s (t ∷ ts) = all_joined p (between (list_gap s)) t ts [] ∙ append-nil (joined_from (between (list_gap s)) 0 (map (alone p) (t ∷ ts)))
 
-map_both : {X Y Z : Type 0} (f : X → Y) (g : Y → Z) (xs : List X) → map g (map f xs) ≡ map (λ (x : X). g (f x)) xs
-map_both f g [] = refl
-map_both f g (x ∷ xs) = ap (λ (zs : List _). g (f x) ∷ zs) (map_both f g xs)
-
 pub list_body : (p : List Prefix) (trees : List Tree) (s : Section) (ids : List ℕ) → joined_from (body_words s form.List) 0 (map (said_at p trees) ids) ≡ body_alone p s (listed (forms_at trees ids))
 list_body p trees s ids =
     let tree : ℕ → Tree = λ id. written_form (tree_at trees id) in
-    sym (list_said p s (map undecided (forms_at trees ids)) ∙ ap (joined_from (body_words s form.List) 0) (map_both undecided (alone p) (forms_at trees ids) ∙ map_both tree (said p) ids))
+    sym (list_said p s (map undecided (forms_at trees ids)) ∙ ap (joined_from (body_words s form.List) 0) (map-map (alone p) undecided (forms_at trees ids) ∙ map-map (said p) tree ids))
 
 -- two parts of a form
 two_parts : (w : Words) (a b : List ℕ) → form_text w (a ∷ b ∷ []) ≡ w.front ++ (a ++ (w.first ++ (b ++ w.last)))
@@ -96,51 +93,47 @@ subject_text p iri (Some k) = sym (append-nil (iri_text p iri))
 pub named_text : (p : List Prefix) (iri : List ℕ) (kind : Option Kind) → codes " " ++ iri_text p iri ≡ codes " " ++ text p (undecided (subject_as kind iri)) []
 named_text p iri kind = ap (λ (x : List ℕ). codes " " ++ x) (subject_text p iri kind)
 
--- the parts of a block in front of more
-body_form_goes : (p : List Prefix) (s : Section) (f : Form) (ts : RawTrees) (rest : List ℕ) → body_text p s (raw 0 (what.Form f) ts) rest ≡ body_text p s (raw 0 (what.Form f) ts) [] ++ rest
-body_form_goes p s form.List none rest = refl
-body_form_goes p s form.List (more t ts) rest = ap (text p t) (behind_more p (list_gap s) (list_gap s) ts [] rest) ∙ text_more p t (behind p (list_gap s) (list_gap s) ts []) rest
-body_form_goes p s f ts rest = text_goes p (raw 0 (what.Form f) ts) rest
+-- the parts of an item in front of more
+body_more : (p : List Prefix) (s : Section) (t : RawTree) (xs rest : List ℕ) → body_text p s t (xs ++ rest) ≡ body_text p s t xs ++ rest
+body_more p s (raw at (what.Form form.List) none) xs rest = text_more p (raw at (what.Form form.List) none) xs rest
+body_more p s (raw at (what.Form form.List) (more t ts)) xs rest = ap (text p t) (behind_more p (list_gap s) (list_gap s) ts xs rest) ∙ text_more p t (behind p (list_gap s) (list_gap s) ts xs) rest
+body_more p s (raw at (what.Form f) ts) xs rest = text_more p (raw at (what.Form f) ts) xs rest
+body_more p s (raw at (what.Atom a) ts) xs rest = text_more p (raw at (what.Atom a) ts) xs rest
+body_more p s (raw at (what.Word a) ts) xs rest = text_more p (raw at (what.Word a) ts) xs rest
+body_more p s (raw at (what.Facet a) ts) xs rest = text_more p (raw at (what.Facet a) ts) xs rest
 
-body_goes : (p : List Prefix) (s : Section) (w : What) (ts : RawTrees) (rest : List ℕ) → body_text p s (raw 0 w ts) rest ≡ body_text p s (raw 0 w ts) [] ++ rest
-body_goes p s (what.Form f) ts rest = body_form_goes p s f ts rest
-body_goes p s (what.Atom a) ts rest = text_goes p (raw 0 (what.Atom a) ts) rest
-body_goes p s (what.Word a) ts rest = text_goes p (raw 0 (what.Word a) ts) rest
-body_goes p s (what.Facet a) ts rest = text_goes p (raw 0 (what.Facet a) ts) rest
+part_more : (p : List Prefix) (part : RawPart) (xs rest : List ℕ) → part_text p part (xs ++ rest) ≡ part_text p part xs ++ rest
+part_more p part xs rest =
+    let front = section_front part.section in
+    ap (λ (x : List ℕ). front ++ text p part.notes x) (body_more p part.section part.body xs rest)
+    ∙ ap (λ (x : List ℕ). front ++ x) (text_more p part.notes (body_text p part.section part.body xs) rest)
+    ∙ sym (append_assoc front (text p part.notes (body_text p part.section part.body xs)) rest)
 
-tree_body_goes : (p : List Prefix) (s : Section) (t : Tree) (rest : List ℕ) → body_text p s (undecided t) rest ≡ body_text p s (undecided t) [] ++ rest
-tree_body_goes p s (leaf u a) rest = body_goes p s (leaf_what u a) none rest
-tree_body_goes p s (node u ks) rest = body_goes p s (what.Form (form_of u)) _ rest
+parts_more : (p : List Prefix) (parts : List RawPart) (xs rest : List ℕ) → parts_text p parts (xs ++ rest) ≡ parts_text p parts xs ++ rest
+parts_more p [] xs rest = refl
+parts_more p (part ∷ parts) xs rest = ap (part_text p part) (parts_more p parts xs rest) ∙ part_more p part (parts_text p parts xs) rest
 
-seen_goes : (p : List Prefix) (s : Section) (trees : List Tree) (b : held.Body) (rest : List ℕ) → body_text p s (body_seen trees b) rest ≡ body_text p s (body_seen trees b) [] ++ rest
-seen_goes p s trees (body.Whole id) rest = tree_body_goes p s (form_at trees id) rest
-seen_goes p s trees (body.List m) rest = body_goes p s (what.Form form.List) (trees_of (map undecided (forms_at trees (members_in m)))) rest
-seen_goes p s trees (body.Pair f x y) rest = body_goes p s (what.Form f) (trees_of (undecided (form_at trees x) ∷ undecided (form_at trees y) ∷ [])) rest
-seen_goes p s trees (body.Word w) rest = body_goes p s (what.Word w) none rest
+name_more : (p : List Prefix) (o : Option RawTree) (xs rest : List ℕ) → name_text p o (xs ++ rest) ≡ name_text p o xs ++ rest
+name_more p None xs rest = refl
+name_more p (Some t) xs rest = ap (λ (x : List ℕ). codes " " ++ x) (text_more p t xs rest)
 
-element_goes : (p : List Prefix) (trees : List Tree) (s : Section) (part : ℕ × held.Body) (rest : List ℕ) → parts_text p (parts_seen trees s (Some part)) rest ≡ element_text p trees s part ++ rest
-element_goes p trees s part rest =
-    let notes = undecided (form_at trees part.0) in
-    let b = body_seen trees part.1 in
-    ap (λ (x : List ℕ). section_front s ++ text p notes x) (seen_goes p s trees part.1 rest)
-    ∙ ap (λ (x : List ℕ). section_front s ++ x) (text_goes p notes (body_alone p s b ++ rest) ∙ sym (append_assoc (text p notes []) (body_alone p s b) rest))
-    ∙ sym (append_assoc (section_front s) (text p notes [] ++ body_alone p s b) rest)
+pub item_more : (p : List Prefix) (item : ItemTree) (xs rest : List ℕ) → item_text p item (xs ++ rest) ≡ item_text p item xs ++ rest
+item_more p item xs rest =
+    let front = colon (heading_class item.heading) in
+    let parts = parts_text p item.parts (codes "\n" ++ xs) in
+    ap (λ (x : List ℕ). front ++ name_text p item.name x) (parts_more p item.parts (codes "\n" ++ xs) rest)
+    ∙ ap (λ (x : List ℕ). front ++ x) (name_more p item.name parts rest)
+    ∙ sym (append_assoc front (name_text p item.name parts) rest)
 
 pub element_is : (p : List Prefix) (trees : List Tree) (s : Section) (part : ℕ × held.Body) → element_text p trees s part ≡ part_seen p trees s (Some part)
-element_is p trees s part = sym (element_goes p trees s part [] ∙ append-nil (element_text p trees s part))
-
-part_goes : (p : List Prefix) (trees : List Tree) (s : Section) (part : Option (ℕ × held.Body)) (rest : List ℕ) → parts_text p (parts_seen trees s part) rest ≡ part_seen p trees s part ++ rest
-part_goes p trees s None rest = refl
-part_goes p trees s (Some part) rest = element_goes p trees s part rest ∙ ap (λ (x : List ℕ). x ++ rest) (element_is p trees s part)
-
-name_goes : (p : List Prefix) (o : Option RawTree) (rest : List ℕ) → name_text p o rest ≡ name_text p o [] ++ rest
-name_goes p None rest = refl
-name_goes p (Some t) rest = ap (λ (x : List ℕ). codes " " ++ x) (text_goes p t rest)
+element_is p trees s part = ap (λ (x : List ℕ). section_front s ++ x) (sym (text_goes p (undecided (form_at trees part.0)) (body_alone p s (body_seen trees part.1))))
 
 pub plan_is : (p : List Prefix) (trees : List Tree) (b : plan.Plan) → plan_text p trees b ≡ block_text p (plan_seen trees b)
 plan_is p trees b =
     let name = option_map undecided (option_map (subject_seen trees) b.subject) in
-    ap (λ (x : List ℕ). colon (heading_class b.heading) ++ x) (sym (name_goes p name (parts_text p (parts_seen trees b.section b.part) (codes "\n")) ∙ ap (λ (x : List ℕ). name_text p name [] ++ x) (part_goes p trees b.section b.part (codes "\n"))))
+    let parts = parts_seen trees b.section b.part in
+    ap (λ (x : List ℕ). colon (heading_class b.heading) ++ x)
+    (ap (λ (x : List ℕ). name_text p name [] ++ x) (sym (parts_more p parts [] (codes "\n"))) ∙ sym (name_more p name [] (parts_text p parts (codes "\n"))))
 
 -- annotations by their numbers
 pub notes_are : (p : List Prefix) (trees : List Tree) (m : members.Members) (ids : List ℕ) → members_in m ≡ ids ++ [] → 0 < length ids → notes_text p trees m ≡ annotations_text p trees ids

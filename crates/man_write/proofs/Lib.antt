@@ -3,3 +3,6 @@ pub mod JoinedLaws
 pub mod ListedLaws
 pub mod PlanLaws
 pub mod BlockLaws
+pub mod DocumentLaws
+pub mod TableLaws
+pub mod KeywordLaws

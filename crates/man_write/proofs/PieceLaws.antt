@@ -1,17 +1,17 @@
 -- Texts of pieces in front of more.
-use Rattle.std.proofs.Common.{◌≡◌, ℕ, zero, suc, Bool, true, false, List, [], ◌∷◌, ◌++◌, Option, None, Some, codes, refl, sym, ap, ◌∙◌}
+use Rattle.std.proofs.Common.{◌≡◌, ℕ, suc, Bool, true, false, List, [], ◌∷◌, ◌++◌, Option, None, Some, codes, refl, sym, ap, ◌∙◌}
 use Rattle.std.specs.Prelude.{map, if◌then◌else◌}
 use Rattle.std.specs.Option.{option_map, option_to_list}
-use Rattle.std.proofs.lemmas.List.{append-nil, append_assoc}
+use Rattle.std.proofs.lemmas.List.{append-nil, append_assoc, map-append}
+use Rattle.std.proofs.lemmas.Simd.{map-map}
 use Rattle.man_raw.specs.declared.form.Facet.{Facet}
 use Rattle.man_raw.specs.declared.form.Form.{Form}
 use Rattle.man_raw.specs.declared.form.Form.TheVariants as form
-use Rattle.man_raw.specs.declared.form.What.{What}
 use Rattle.man_raw.specs.declared.form.What.TheVariants as what
 use Rattle.man_raw.specs.Raws.{RawTree, RawTrees, raw, none, more, trees_of}
 use Rattle.man_text.specs.Text.{text, behind, leaf_text, words_in}
 use Rattle.man_sayable.specs.Facets.{facet_named}
-use Rattle.man_text.specs.Undecided.{facet_what, form_of, in_order, is_bracketed, is_counted, leaf_what, operand, operands, piece, turned, undecided}
+use Rattle.man_text.specs.Undecided.{facet_what, form_of, in_order, is_bracketed, is_counted, leaf_what, operand, operands, piece, turned}
 use Rattle.man_text.specs.Words.{Words, words_of}
 use Rattle.owl_arena.specs.Held.{tree_at, trees_at}
 use Rattle.owl_atom.specs.declared.prefixes.Prefix.{Prefix}
@@ -21,10 +21,9 @@ use Rattle.owl_tree.specs.declared.tag.Tag.{Tag}
 use Rattle.owl_tree.specs.declared.tag.Tag.TheVariants as tag
 use Rattle.owl_tree.specs.Rows.{row_of}
 use Rattle.owl_tree.specs.Trees.{Tree, Kids, leaf, node, no_kids, kid, atom_in, kids_in, kids_of, list_of, tag_of}
-use Rattle.owl_tree.proofs.TreeLaws.{list_of_kids_of}
 use Rattle.written_trees.specs.Written.{doubled, repeated, written_form, written_forms}
 use Rattle.written_trees.proofs.RepeatedLaws.{doubled_is, kids_written, none_repeated, repeated_map}
-use Rattle.man_write.specs.Parts.{form_text, forms_at, gap, is_operand_bracketed, joined_from, kids_at, operand_at, operand_text, operands_at, said, turned_if}
+use Rattle.man_write.specs.Parts.{form_text, forms_at, is_operand_bracketed, joined_from, kids_at, operand_at, operand_text, operands_at, said, turned_if}
 
 module _ (p : List Prefix) where
   -- a text in front of more is itself, and then more
@@ -115,14 +114,6 @@ node_said p (leaf u a) e = absurd (cc)
 node_said p (node u ks) e = undecided_said p u (kids_of (doubled (row_of u) (written_forms ks)))
 
 -- the kids as they are written
-map_both : {X Y Z : Type 0} (f : X → Y) (g : Y → Z) (xs : List X) → map g (map f xs) ≡ map (λ (x : X). g (f x)) xs
-map_both f g [] = refl
-map_both f g (x ∷ xs) = ap (λ (zs : List _). g (f x) ∷ zs) (map_both f g xs)
-
-map_append : {X Y : Type 0} (f : X → Y) (xs ys : List X) → map f (xs ++ ys) ≡ map f xs ++ map f ys
-map_append f [] ys = refl
-map_append f (x ∷ xs) ys = ap (λ (zs : List _). f x ∷ zs) (map_append f xs ys)
-
 map_option : {X Y : Type 0} (f : X → Y) (o : Option X) → option_to_list (option_map f o) ≡ map f (option_to_list o)
 map_option f None = refl
 map_option f (Some x) = refl
@@ -137,17 +128,17 @@ kids_written_at trees (leaf u a) ids e =
     ap (λ (xs : List ℕ). forms_at trees (xs ++ option_to_list (repeated (row_of u) xs))) none ∙ ap (λ (o : Option ℕ). forms_at trees (option_to_list o)) (none_repeated (row_of u))
 kids_written_at trees (node u ks) ids e =
     let form : ℕ → Tree = λ id. written_form (tree_at trees id) in
-    let forms : map written_form (list_of ks) ≡ map form ids = ap (map written_form) (sym e) ∙ map_both (tree_at trees) written_form ids in
+    let forms : map written_form (list_of ks) ≡ map form ids = ap (map written_form) (sym e) ∙ map-map written_form (tree_at trees) ids in
     let written : kids_in (written_form (node u ks)) ≡ map form ids ++ option_to_list (option_map form (repeated (row_of u) ids)) =
     kids_written u ks ∙ ap (doubled (row_of u)) forms ∙ doubled_is (row_of u) (map form ids) ∙ ap (λ (o : Option Tree). map form ids ++ option_to_list o) (repeated_map form (row_of u) ids) in
-    map_append form ids (option_to_list (repeated (row_of u) ids)) ∙ ap (λ (z : List Tree). map form ids ++ z) (sym (map_option form (repeated (row_of u) ids))) ∙ sym written
+    map-append form ids (option_to_list (repeated (row_of u) ids)) ∙ ap (λ (z : List Tree). map form ids ++ z) (sym (map_option form (repeated (row_of u) ids))) ∙ sym written
 
 -- the operands of a node by the numbers of its kids
 pub operands_are : (p : List Prefix) (trees : List Tree) (id : ℕ) (b : Bool) (ids : List ℕ) → b ≡ is_counted (form_of (tag_of (tree_at trees id))) → forms_at trees ids ≡ kids_at trees id
     → map (operand_at p trees) (turned_if b ids) ≡ operands_at p trees id
 operands_are p trees id b ids e k =
     let form : ℕ → Tree = λ kid. written_form (tree_at trees kid) in
-    sym (map_both form (operand_text p) (turned_if b ids))
+    sym (map-map (operand_text p) form (turned_if b ids))
     ∙ ap (map (operand_text p)) (map_turned_if form b ids ∙ ap (turned_if b) k ∙ ap (λ (c : Bool). turned_if c (kids_at trees id)) e)
 
 -- operands in brackets and without

@@ -1,11 +1,10 @@
 -- Blocks by the number of their kids.
-use Rattle.std.proofs.Common.{◌≡◌, ◌≢◌, ℕ, zero, suc, ◌+◌, ◌<◌, ◌≤◌, Bool, true, false, List, [], ◌∷◌, ◌++◌, length, drop, map, Option, None, Some, refl, sym, ap, ◌∙◌, subst, arith}
+use Rattle.std.proofs.Common.{◌≡◌, ◌≢◌, ℕ, ◌<◌, false, List, [], ◌∷◌, ◌++◌, length, drop, Some, refl, sym, ap, ◌∙◌, arith}
 use Rattle.std.specs.Prelude.{slice_get}
-use Rattle.man_text.specs.Blocks.{Block, Where, a_part, begins_with_chain, block_with, declared, entity_heading, note_subject, is_chain, frame, listed, pair, unframed, characteristic_of, fact_form, stated}
-use Rattle.man_text.specs.Undecided.{piece, undecided}
+use Rattle.std.proofs.lemmas.List.{map-append}
+use Rattle.man_text.specs.Blocks.{Block, Where, a_part, begins_with_chain, block_with, declared, entity_heading, note_subject, is_chain, frame, listed, pair, stated}
 use Rattle.man_raw.specs.declared.document.RawPart.{RawPart}
 use Rattle.man_raw.specs.declared.form.Form.TheVariants as form
-use Rattle.man_raw.specs.declared.form.What.TheVariants as what
 use Rattle.man_raw.specs.declared.heading.Heading.{Heading}
 use Rattle.man_raw.specs.declared.heading.Section.TheVariants as section
 use Rattle.man_resolve.specs.Expressions.{Knows}
@@ -14,8 +13,9 @@ use Rattle.man_resolve.specs.declared.sentence.Sentence.TheVariants.{Beside, Ahe
 use Rattle.owl_tree.specs.declared.tag.Tag.{Tag}
 use Rattle.owl_tree.specs.declared.tag.Tag.TheVariants as tag
 use Rattle.owl_arena.specs.Held.{tree_at}
-use Rattle.owl_tree.specs.Trees.{Tree, kids_in, leaf, node, tag_of}
+use Rattle.owl_tree.specs.Trees.{Tree, leaf, node, tag_of}
 use Rattle.written_trees.specs.Written.{written_form}
+use Rattle.written_trees.proofs.WrittenLaws.{written_tag}
 use Rattle.man_write.specs.declared.manner.Manner.TheVariants as manner
 use Rattle.man_write.specs.Parts.{forms_at, kids_at}
 use Rattle.man_write.specs.Plans.{bare, form_at, is_chain_node, manner_of, stated_as, stated_at}
@@ -165,10 +165,6 @@ not_noted k trees (x ∷ y ∷ z ∷ []) h = refl
 not_noted k trees (x ∷ y ∷ z ∷ u ∷ []) h = absurd (h refl)
 not_noted k trees (x ∷ y ∷ z ∷ u ∷ v ∷ ids) h = refl
 
-pub tag_written : (t : Tree) → tag_of (written_form t) ≡ tag_of t
-tag_written (leaf u a) = refl
-tag_written (node u ks) = refl
-
 abbrev pub block_by : Heading → Tree → List RawPart → Block
 block_by h t parts = record { heading = h; subject = Some t; parts = parts }
 
@@ -178,7 +174,7 @@ declared_by k trees [] id h l e i = absurd (cc)
 declared_by k trees (x ∷ []) id h l e i = absurd (cc)
 declared_by k trees (x ∷ y ∷ []) id h l e i =
     let same : id ≡ y = cc in
-    ap (λ (g : Heading). block_by g (form_at trees id) []) (i ∙ ap entity_heading (sym (tag_written (tree_at trees id)))) ∙ ap (λ (n : ℕ). declared (form_at trees n)) same
+    ap (λ (g : Heading). block_by g (form_at trees id) []) (i ∙ ap entity_heading (sym (written_tag (tree_at trees id)))) ∙ ap (λ (n : ℕ). declared (form_at trees n)) same
 declared_by k trees (x ∷ y ∷ z ∷ ids) id h l e i = absurd (omega (arith, l))
 
 pub noted_by : (k : Knows) (trees : List Tree) (ids : List ℕ) (a b d e : ℕ) (h : Heading) (s : Tree) → ids ≡ a ∷ b ∷ d ∷ e ∷ [] → s ≡ note_subject k (form_at trees d) → h ≡ entity_heading (tag_of (note_subject k (form_at trees d)))
@@ -189,12 +185,8 @@ noted_by k trees ids a b d e h s i j l =
     ∙ ap (λ (u : Tree). block_by (entity_heading (tag_of (note_subject k (form_at trees d)))) u parts) j
     ∙ ap (λ (ns : List ℕ). block_with k tag.AnnotationAssertion (forms_at trees ns)) (sym i)
 
-forms_append : (trees : List Tree) (xs ys : List ℕ) → forms_at trees (xs ++ ys) ≡ forms_at trees xs ++ forms_at trees ys
-forms_append trees [] ys = refl
-forms_append trees (x ∷ xs) ys = ap (λ (ts : List Tree). form_at trees x ∷ ts) (forms_append trees xs ys)
-
 pub key_by : (trees : List Tree) (w : Where) (t : Tag) (ids : List ℕ) (a b d e : ℕ) (xs ys : List ℕ) → ids ≡ a ∷ b ∷ d ∷ e ∷ [] → forms_at trees xs ≡ kids_at trees d → forms_at trees ys ≡ kids_at trees e
     → frame w (form_at trees b) (form_at trees a) (listed (forms_at trees (xs ++ ys))) ≡ stated_as manner.Key w t (forms_at trees ids)
 key_by trees w t ids a b d e xs ys i j l =
-    ap (λ (ts : List Tree). frame w (form_at trees b) (form_at trees a) (listed ts)) (forms_append trees xs ys ∙ ap (λ (ts : List Tree). ts ++ forms_at trees ys) j ∙ ap (λ (ts : List Tree). kids_at trees d ++ ts) l)
+    ap (λ (ts : List Tree). frame w (form_at trees b) (form_at trees a) (listed ts)) (map-append (form_at trees) xs ys ∙ ap (λ (ts : List Tree). ts ++ forms_at trees ys) j ∙ ap (λ (ts : List Tree). kids_at trees d ++ ts) l)
     ∙ ap (λ (ns : List ℕ). stated_as manner.Key w t (forms_at trees ns)) (sym i)

@@ -7,10 +7,8 @@ use Rattle.man_text.specs.Undecided.{form_of, in_order, is_bracketed, operand, t
 use Rattle.man_text.specs.Words.{Words, words_of}
 use Rattle.owl_arena.specs.Held.{tree_at}
 use Rattle.owl_atom.specs.declared.prefixes.Prefix.{Prefix}
-use Rattle.owl_tree.specs.declared.tag.Tag.{Tag}
-use Rattle.owl_tree.specs.Rows.{row_of}
 use Rattle.owl_tree.specs.Trees.{Tree, kids_in, leaf, node, tag_of}
-use Rattle.written_trees.specs.Written.{repeated, written_form}
+use Rattle.written_trees.specs.Written.{written_form}
 use Rattle.man_write.specs.declared.listed.Listed.{Listed}
 use Rattle.man_write.specs.declared.words.Around.{Around}
 

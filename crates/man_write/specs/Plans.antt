@@ -12,6 +12,9 @@ use Rattle.man_resolve.specs.declared.sentence.Sentence.{Sentence}
 use Rattle.man_resolve.specs.declared.sentence.Sentence.TheVariants.{Beside, Ahead, Members, Properties, Key, Fact, Note, Word, Wrong}
 use Rattle.man_resolve.specs.Places.{sentence_of}
 use Rattle.man_resolve.specs.Expressions.{Knows}
+use Rattle.std.specs.List.{flat_map}
+use Rattle.owl_doc.specs.Documents.{Document}
+use Rattle.owl_doc.specs.Heads.{iri_in, version_in}
 use Rattle.man_text.specs.Blocks.{Block, Where, block_of, a_part, begins_with_chain, characteristic_of, fact_form, frame, in_section, item_of, listed, pair, stated, subject_as, unframed, where_of}
 use Rattle.man_text.specs.Text.{body_text, item_text, name_text, parts_text, prefix_line, section_front}
 use Rattle.man_text.specs.Undecided.{form_of, piece, undecided}
@@ -19,8 +22,7 @@ use Rattle.man_text.specs.Words.{Words, between, colon, heading_class, list_gap,
 use Rattle.man_grammar.specs.declared.class.Class.TheVariants as class
 use Rattle.owl_writing.specs.Terms.{full_iri}
 use Rattle.owl_atom.specs.declared.prefixes.Prefix.{Prefix}
-use Rattle.owl_arena.specs.Held.{AreHeld, tree_at}
-use Rattle.owl_tree.specs.declared.atom.Atom.TheVariants as atom
+use Rattle.owl_arena.specs.Held.{AreHeld, tree_at, trees_at}
 use Rattle.owl_tree.specs.declared.tag.Tag.{Tag}
 use Rattle.owl_tree.specs.declared.tag.Tag.TheVariants as tag
 use Rattle.owl_tree.specs.Trees.{Tree, kids_in, leaf, node}
@@ -202,3 +204,12 @@ abbrev pub annotations_text : List Prefix → List Tree → List ℕ → List �
 annotations_text p trees [] = []
 annotations_text p trees (id ∷ ids) =
     (words_of form.Notes).front ++ (joined_from (words_of form.Notes) 0 (map (said_at p trees) (id ∷ ids)) ++ codes "\n")
+
+-- the lines of a document, one after the other
+abbrev pub document_lines : Knows → List Prefix → Document → List ℕ
+document_lines ks p d =
+    flat_map prefix_text p
+    ++ (header_text (iri_in d.head.name) (version_in d.head.name)
+    ++ (flat_map import_text d.head.imports
+    ++ (annotations_text p d.arena.trees d.notes
+    ++ flat_map (block_of_text ks p) (trees_at d.arena.trees d.axioms))))

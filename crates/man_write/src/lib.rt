@@ -6,9 +6,11 @@ mod lines;
 mod listed;
 mod manner;
 mod plan;
+mod table;
 mod tree;
 mod words;
+mod writer;
 
-pub use lines::{add_annotations, add_blocks, add_header, add_imports, add_prefixes};
 pub use man_sayable::can;
 pub use owl_writing::WriteFault;
+pub use writer::write;

@@ -9,10 +9,8 @@ ghost use Rattle.owl_writing.specs.declared.fault.WriteFault.{WriteFault};
 ghost use Rattle.std.specs.Str.{chars};
 ghost use Rattle.man_grammar.specs.declared.class.Class.TheVariants as class;
 ghost use Rattle.man_text.specs.Words.{colon};
-ghost use Rattle.owl_characters.specs.Iri.{IsIri};
-ghost use Rattle.owl_writing.specs.Tables.{HaveIris};
 ghost use Rattle.owl_writing.specs.Terms.{full_iri};
-ghost use Rattle.man_write.specs.Plans.{annotations_text, block_of_text, header_text, import_text, iri_spaced, members_in, notes_text, prefix_text};
+ghost use Rattle.man_write.specs.Plans.{annotations_text, block_of_text, document_lines, header_text, import_text, iri_spaced, members_in, notes_text, prefix_text};
 
 use crate::block::{add_block, add_keyword, add_members};
 use crate::listed::{Listed, Members};
@@ -21,11 +19,34 @@ use man_grammar::Class;
 use man_raw::Form;
 use owl_arena::{Arena, ExprId};
 use owl_atom::{Iri, Prefixes};
+use owl_doc::Doc;
 use owl_kind::Kinds;
 use owl_writing::{Draft, WriteFault};
 
+/// Adds the lines of a document, of which the names are abbreviated by these
+/// prefixes.
+#[tactic(auto, using(owl_characters::proofs::Utf8Laws::size_append))]
+pub fn add_document(
+    draft: &mut Draft,
+    kinds: &Kinds,
+    prefixes: &Prefixes,
+    doc: &Doc,
+) -> Result<(), WriteFault>
+    ensures ok { OnOk result (draft.new ≡ draft.old
+        ++ document_lines (knows kinds.now) prefixes.now doc.now) }
+    ensures too_long { IsErrOf result WriteFault.TooLong → IsTooLong (draft.old
+        ++ document_lines (knows kinds.now) prefixes.now doc.now) }
+{
+    let head = doc.head();
+    add_prefixes(draft, prefixes)?;
+    add_header(draft, &head.iri, &head.version)?;
+    add_imports(draft, &head.imports)?;
+    add_annotations(draft, doc.arena(), prefixes, doc.notes())?;
+    add_blocks(draft, kinds, doc.arena(), prefixes, doc.axioms())
+}
+
 /// Adds the block of each axiom.
-pub fn add_blocks(
+fn add_blocks(
     draft: &mut Draft,
     kinds: &Kinds,
     arena: &Arena,
@@ -47,11 +68,10 @@ pub fn add_blocks(
 }
 
 /// Adds a line for each prefix.
-pub fn add_prefixes(draft: &mut Draft, prefixes: &Prefixes) -> Result<(), WriteFault>
+fn add_prefixes(draft: &mut Draft, prefixes: &Prefixes) -> Result<(), WriteFault>
     ensures ok { OnOk result (draft.new ≡ draft.old ++ flat_map prefix_text prefixes.now) }
     ensures too_long { IsErrOf result WriteFault.TooLong
         → IsTooLong (draft.old ++ flat_map prefix_text prefixes.now) }
-    ensures iris { OnOk result (HaveIris prefixes.now) }
 {
     for place in 0..prefixes.len() {
         let (name, iri) = prefixes.at(place);
@@ -67,10 +87,7 @@ fn add_prefix(draft: &mut Draft, name: &str, iri: &Iri) -> Result<(), WriteFault
     ensures too_long { IsErrOf result WriteFault.TooLong
         → IsTooLong (draft.old ++ (colon class.Prefix ++ (codes " " ++ (chars name.now ++
         (codes ": " ++ (full_iri iri.now ++ codes "\n")))))) }
-    ensures iri { OnOk result (IsIri iri.now) }
 {
-    // What an IRI holds is one.
-    iri.text();
     add_keyword(draft, Class::Prefix)?;
     draft.add_ascii(" ")?;
     draft.add(name)?;
@@ -80,7 +97,7 @@ fn add_prefix(draft: &mut Draft, name: &str, iri: &Iri) -> Result<(), WriteFault
 }
 
 /// Adds a line for each import.
-pub fn add_imports(draft: &mut Draft, imports: &[Iri]) -> Result<(), WriteFault>
+fn add_imports(draft: &mut Draft, imports: &[Iri]) -> Result<(), WriteFault>
     ensures ok { OnOk result (draft.new ≡ draft.old ++ flat_map import_text imports.now) }
     ensures too_long { IsErrOf result WriteFault.TooLong
         → IsTooLong (draft.old ++ flat_map import_text imports.now) }
@@ -105,11 +122,7 @@ fn add_import(draft: &mut Draft, iri: &Iri) -> Result<(), WriteFault>
 
 /// Adds the line with the name of the ontology.
 #[tactic(auto, using(owl_characters::proofs::Utf8Laws::size_append))]
-pub fn add_header(
-    draft: &mut Draft,
-    iri: &Option<Iri>,
-    version: &Option<Iri>,
-) -> Result<(), WriteFault>
+fn add_header(draft: &mut Draft, iri: &Option<Iri>, version: &Option<Iri>) -> Result<(), WriteFault>
     ensures ok { OnOk result (draft.new ≡ draft.old ++ header_text iri.now version.now) }
     ensures too_long { IsErrOf result WriteFault.TooLong
         → IsTooLong (draft.old ++ header_text iri.now version.now) }
@@ -138,7 +151,7 @@ fn add_spaced(draft: &mut Draft, iri: &Option<Iri>) -> Result<(), WriteFault>
 
 /// Adds the line with these annotations of the ontology.
 #[tactic(auto, using(owl_characters::proofs::Utf8Laws::size_append))]
-pub fn add_notes(
+fn add_notes(
     draft: &mut Draft,
     arena: &Arena,
     prefixes: &Prefixes,
@@ -158,7 +171,7 @@ pub fn add_notes(
 
 /// Adds the line with the annotations of the ontology, if it has some.
 #[tactic(auto, using(crate::proofs::BlockLaws::notes_are))]
-pub fn add_annotations(
+fn add_annotations(
     draft: &mut Draft,
     arena: &Arena,
     prefixes: &Prefixes,

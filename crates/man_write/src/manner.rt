@@ -2,11 +2,12 @@
 
 ghost use Rattle.std.specs.Prelude.{◌≡◌, ℕ, List};
 ghost use Rattle.owl_tree.specs.Trees.{tag_of};
-ghost use Rattle.man_resolve.specs.Places.{annotation_property_sentence, class_sentence, data_property_sentence, datatype_sentence, individual_sentence, object_property_sentence, sentence_of};
+ghost use Rattle.man_resolve.specs.declared.place.Place.{Place};
 ghost use Rattle.man_text.specs.Blocks.{characteristic_of, entity_heading, fact_form, in_section, subject_as, where_of};
 ghost use Rattle.man_write.specs.Plans.{manner_of};
 
 use man_raw::{Characteristic, Form, Heading, Section};
+use man_resolve::Sentence;
 use owl_kind::Kind;
 use owl_tree::Tag;
 
@@ -79,96 +80,29 @@ pub fn where_of(tag: Tag, chain: bool) -> (Heading, Section)
     }
 }
 
-/// How the kids of an axiom stand in the section.
-#[tactic(auto, unfolding(man_resolve::specs::Places::sentence_of))]
-pub fn manner_of(heading: Heading, section: Section) -> Manner
-    ensures { result ≡ manner_of (sentence_of heading section) }
+/// How the sentence takes the kids of an axiom.
+pub fn manner_of(sentence: Sentence) -> Manner
+    ensures { result ≡ manner_of sentence }
 {
-    match heading {
-        Heading::Class => class_manner(section),
-        Heading::Datatype => datatype_manner(section),
-        Heading::ObjectProperty => object_manner(section),
-        Heading::DataProperty => data_manner(section),
-        Heading::AnnotationProperty => annotation_manner(section),
-        Heading::Individual => individual_manner(section),
-        _ if section == Section::Members => Manner::Members,
-        _ => Manner::Bare,
+    match sentence {
+        Sentence::Beside(_, _) => Manner::Beside,
+        Sentence::Ahead(_, _) => Manner::Ahead,
+        Sentence::Members(tag, _) => members_manner(tag),
+        Sentence::Properties(_) => Manner::Members,
+        Sentence::Key => Manner::Key,
+        Sentence::Fact => Manner::Fact,
+        Sentence::Word => Manner::Word,
+        Sentence::Note | Sentence::Wrong => Manner::Bare,
     }
 }
 
-/// The same in the frame of a class.
-fn class_manner(section: Section) -> Manner
-    ensures { result ≡ manner_of (class_sentence section) }
+/// How the members of a list stand in an axiom with the tag.
+fn members_manner(tag: Tag) -> Manner
+    ensures { (place : Place) → result ≡ manner_of (Sentence.Members tag place) }
 {
-    match section {
-        Section::SubClassOf | Section::EquivalentTo | Section::DisjointWith => Manner::Beside,
-        Section::DisjointUnionOf => Manner::Union,
-        Section::HasKey => Manner::Key,
-        _ => Manner::Bare,
-    }
-}
-
-/// The same in the frame of a datatype.
-fn datatype_manner(section: Section) -> Manner
-    ensures { result ≡ manner_of (datatype_sentence section) }
-{
-    match section {
-        Section::EquivalentTo => Manner::Beside,
-        _ => Manner::Bare,
-    }
-}
-
-/// The same in the frame of an object property.
-fn object_manner(section: Section) -> Manner
-    ensures { result ≡ manner_of (object_property_sentence section) }
-{
-    match section {
-        Section::Domain
-        | Section::Range
-        | Section::SubPropertyOf
-        | Section::EquivalentTo
-        | Section::DisjointWith
-        | Section::InverseOf => Manner::Beside,
-        Section::Characteristics => Manner::Word,
-        Section::SubPropertyChain => Manner::Ahead,
-        _ => Manner::Bare,
-    }
-}
-
-/// The same in the frame of a data property.
-fn data_manner(section: Section) -> Manner
-    ensures { result ≡ manner_of (data_property_sentence section) }
-{
-    match section {
-        Section::Domain
-        | Section::Range
-        | Section::SubPropertyOf
-        | Section::EquivalentTo
-        | Section::DisjointWith => Manner::Beside,
-        Section::Characteristics => Manner::Word,
-        _ => Manner::Bare,
-    }
-}
-
-/// The same in the frame of an annotation property.
-fn annotation_manner(section: Section) -> Manner
-    ensures { result ≡ manner_of (annotation_property_sentence section) }
-{
-    match section {
-        Section::Domain | Section::Range | Section::SubPropertyOf => Manner::Beside,
-        _ => Manner::Bare,
-    }
-}
-
-/// The same in the frame of an individual.
-fn individual_manner(section: Section) -> Manner
-    ensures { result ≡ manner_of (individual_sentence section) }
-{
-    match section {
-        Section::Types => Manner::Ahead,
-        Section::Facts => Manner::Fact,
-        Section::SameAs | Section::DifferentFrom => Manner::Beside,
-        _ => Manner::Bare,
+    match tag {
+        Tag::DisjointUnion => Manner::Union,
+        _ => Manner::Members,
     }
 }
 

@@ -2,13 +2,12 @@
 
 ghost use Rattle.std.specs.Prelude.{◌≡◌, ◌<◌, ◌++◌, length, List, Some};
 ghost use Rattle.man_resolve.specs.Expressions.{Knows, knows};
-ghost use Rattle.man_resolve.specs.Places.{sentence_of};
 ghost use Rattle.man_text.specs.Blocks.{begins_with_chain, block_of, block_with, entity_heading, in_section, note_subject};
 ghost use Rattle.owl_arena.specs.Held.{AreHeld, tree_at};
 ghost use Rattle.owl_tree.specs.Trees.{Tree, tag_of};
 ghost use Rattle.owl_tree.specs.declared.tag.Tag.TheVariants as tag;
 ghost use Rattle.man_write.specs.Parts.{forms_at, ids_in};
-ghost use Rattle.man_write.specs.Plans.{IsPlanHeld, IsSubjectHeld, bare, is_chain_node, is_chain_tag, form_at, manner_of, plan_seen, stated_as, stated_at, subject_seen};
+ghost use Rattle.man_write.specs.Plans.{IsPlanHeld, IsSubjectHeld, bare, is_chain_node, is_chain_tag, form_at, plan_seen, stated_as, stated_at, subject_seen};
 ghost use Rattle.man_write.specs.declared.manner.Manner.{Manner};
 
 use crate::listed::{Listed, Members, written};
@@ -16,6 +15,7 @@ use crate::manner::{
     Manner, characteristic_of, entity_heading, fact_form, manner_of, subject_heading, where_of,
 };
 use man_raw::{Characteristic, Form, Heading, Section};
+use man_resolve::sentence_of;
 use man_sayable::frame_kind;
 use owl_arena::{Arena, ExprId};
 use owl_kind::{Kind, Kinds};
@@ -215,12 +215,14 @@ fn stated<'a>(arena: &'a Arena, tag: Tag, kids: &Listed<'a>) -> Plan<'a>
     ensures held { IsPlanHeld arena.now.trees result }
 {
     let (heading, section) = where_of(tag, begins_with_chain(arena, kids));
-    in_manner(arena, heading, section, tag, kids)
+    let manner = manner_of(sentence_of(heading, section));
+    in_manner(arena, manner, heading, section, tag, kids)
 }
 
-/// The block of an axiom that is written there.
+/// The block of an axiom that is written there, in this manner.
 fn in_manner<'a>(
     arena: &'a Arena,
+    manner: Manner,
     heading: Heading,
     section: Section,
     tag: Tag,
@@ -228,11 +230,11 @@ fn in_manner<'a>(
 ) -> Plan<'a>
     requires { AreHeld arena.now.trees (ids_in kids.now) }
     ensures plan { plan_seen arena.now.trees result
-        ≡ stated_as (manner_of (sentence_of heading section)) (in_section heading section) tag
-        (forms_at arena.now.trees (ids_in kids.now)) }
+        ≡ stated_as manner (in_section heading section) tag (forms_at arena.now.trees
+        (ids_in kids.now)) }
     ensures held { IsPlanHeld arena.now.trees result }
 {
-    match manner_of(heading, section) {
+    match manner {
         Manner::Beside => beside(heading, section, kids),
         Manner::Ahead => ahead(heading, section, kids),
         Manner::Union => union(heading, section, kids),

@@ -1,6 +1,5 @@
 use Rattle.std.proofs.Common.{◌≡◌, ◌<◌, ◌++◌, Err, List, ℕ, length, arith, ap, subst, ◌∙◌, codes}
 use Rattle.std.specs.Str.{chars}
-use Rattle.owl_characters.specs.Iri.{IsIri}
 use Rattle.man_grammar.specs.declared.class.Class.TheVariants as class
 use Rattle.man_text.specs.Words.{colon}
 use Rattle.owl_atom.specs.declared.prefixes.Prefix.{Prefix}
@@ -8,7 +7,7 @@ use Rattle.owl_writing.specs.Limits.{IsTooLong}
 use Rattle.owl_writing.specs.Terms.{full_iri}
 use Rattle.man_write.specs.Plans.{prefix_text}
 use Rattle.owl_writing.specs.declared.fault.WriteFault.TheVariants.{TooLong}
-use Rattle.owl_writing.proofs.DraftLaws.{all_more, line_more, passed_on, stands_at, too_long_at}
+use Rattle.owl_writing.proofs.DraftLaws.{line_more, passed_on, stands_at, too_long_at}
 use Rattle.man_write.proofs.lines.add_prefixes.Goals as goal
 
 -- what is added for a prefix is its line
@@ -23,14 +22,11 @@ returns-in_err-add_prefix-clause-too_long c = λ e.
     let found = passed_on c.from_residual.result c.in_err-add_prefix.field-0.0 TooLong c.from_residual.ensures.1 e in
     let line = is_line c.at.ensures.0 (chars c.at.result.0.now) c.at.result.1.now c.at.ensures.2 c.at.ensures.4 in
     let long = subst (λ (text : List ℕ). IsTooLong (c.loop-place.draft ++ text)) line (c.in_err-add_prefix.ensures.too_long (ap Err found)) in
-    too_long_at prefix_text c.args.draft.now c.loop-place.draft c.args.prefixes.now c.loop-place.place c.at.ensures.0 c.loop-place.invariant.text inside (stands_at c.args.prefixes.now c.loop-place.place c.at.ensures.0 c.at.ensures.1) long
+    too_long_at prefix_text c.args.draft.now c.loop-place.draft c.args.prefixes.now c.loop-place.place c.at.ensures.0 c.loop-place.invariant inside (stands_at c.args.prefixes.now c.loop-place.place c.at.ensures.0 c.at.ensures.1) long
 
 pub loop-place-preserved : goal.loop-place-preserved
 loop-place-preserved c =
     let inside : c.loop-place.place < length c.args.prefixes.now = omega (arith, c.len-place-end.ensures.len) in
     let line = is_line c.at.ensures.0 (chars c.at.result.0.now) c.at.result.1.now c.at.ensures.2 c.at.ensures.4 in
     let is = stands_at c.args.prefixes.now c.loop-place.place c.at.ensures.0 c.at.ensures.1 in
-    record {
-      text = line_more prefix_text c.args.draft.now c.loop-place.draft c.add_prefix.new.draft c.args.prefixes.now c.loop-place.place c.at.ensures.0 c.loop-place.invariant.text inside is (c.in_ok-add_prefix.ensures.ok ∙ ap (λ (text : List ℕ). c.loop-place.draft ++ text) line);
-      iris = all_more (λ (prefix : Prefix). IsIri prefix.iri) c.args.prefixes.now c.loop-place.place c.at.ensures.0 c.loop-place.invariant.iris inside is (subst IsIri c.at.ensures.4 c.in_ok-add_prefix.ensures.iri);
-    }
+    line_more prefix_text c.args.draft.now c.loop-place.draft c.add_prefix.new.draft c.args.prefixes.now c.loop-place.place c.at.ensures.0 c.loop-place.invariant inside is (c.in_ok-add_prefix.ensures.ok ∙ ap (λ (text : List ℕ). c.loop-place.draft ++ text) line)

@@ -1,5 +1,5 @@
 use Rattle.owl_tree.specs.Rows.{row_of}
-use Rattle.std.proofs.Common.{◌<◌, ap, subst, sym, ℕ, Option, ◌++◌}
+use Rattle.std.proofs.Common.{◌<◌, subst, sym, ℕ, Option, ◌++◌}
 use Rattle.std.specs.List.{AllByRecursion}
 use Rattle.std.specs.Option.{option_to_list}
 use Rattle.man_write.proofs.ListedLaws.{all_with}

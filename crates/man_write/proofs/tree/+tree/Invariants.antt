@@ -1,8 +1,4 @@
 use Rattle.std.proofs.Common.{◌+◌, ◌*◌}
-use Rattle.std.specs.Prelude.{map}
-use Rattle.man_text.specs.Undecided.{is_counted, form_of}
-use Rattle.owl_tree.specs.Trees.{tag_of}
-use Rattle.owl_arena.specs.Held.{tree_at}
 use Rattle.man_write.specs.Parts.{ids_in, operand_at, turned_if, words_seen}
 use Rattle.man_write.proofs.JoinedLaws.{AreJoined}
 use Rattle.man_write.proofs.tree.+tree.Given as goal
