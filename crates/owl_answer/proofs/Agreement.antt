@@ -9,7 +9,7 @@ use Rattle.owl_command.specs.declared.command.Action.{Action}
 use Rattle.owl_command.specs.declared.command.Action.TheVariants.{Translate, Check, Show}
 use Rattle.owl_command.specs.declared.command.Profile.{Profile}
 use Rattle.owl_command.specs.declared.command.Target.{Target as Syntax}
-use Rattle.owl_command.specs.declared.command.Target.TheVariants.{Fss, Ttl}
+use Rattle.owl_command.specs.declared.command.Target.TheVariants.{Fss, Ttl, Omn}
 use Rattle.owl_documents.specs.Documents.{IsSame, Parsed, Said, a_graph, an_ontology, the_frames}
 use Rattle.owl_documents.specs.OneWay.{IsSameParsed}
 use Rattle.owl_kind.specs.Kinds.{Entity}
@@ -22,6 +22,7 @@ use Rattle.owl_answer.specs.Runs.{AnswersWith, Concludes, IsActionOutcome, IsTra
 use Rattle.owl_answer.specs.UnderKinds.{AllSay, HasKinds, HoldsOfMain, HoldsOfTwo, IsFirstUnsaid, IsReadUnder, IsUnsaidAt, IsUnsaidUnder, SaysAt, SaysUnder}
 use Rattle.owl_answer.proofs.Checks.{checked_once, checked_there, form_at, reached_stands}
 use Rattle.owl_answer.proofs.Closures.{closure_once, own_once}
+use Rattle.owl_answer.proofs.ManchesterOnce.{manchester_alike, manchester_once}
 use Rattle.owl_answer.proofs.Same.{never_says_both, parsed_back, parsed_refl, says_once, says_same, unsaid_once, unsaid_same}
 use Rattle.owl_answer.proofs.TurtleOnce.{functional_once, functional_same, shown_same, translation_alike, translation_once, translation_same}
 use Rattle.owl_answer.proofs.Wanting.{limited_more, limited_once}
@@ -53,6 +54,7 @@ told_same Fss (the_frames x) (a_graph y) kinds a b outcome s t h = absurd s
 told_same Fss (a_graph x) (a_graph y) kinds a b outcome s t h = functional_same kinds a b outcome t h
 told_same Fss (the_frames x) (the_frames y) kinds a b outcome s t h = functional_same kinds a b outcome t h
 told_same Ttl p q kinds a b outcome s t h = translation_alike kinds kinds a b outcome (λ kind iri. (λ k. k, λ k. k)) t h
+told_same Omn p q kinds a b outcome s t h = manchester_alike kinds kinds a b outcome (λ kind iri. (λ k. k, λ k. k)) t h
 
 comparison_same : (a b c d : Said) → IsSame a c → IsSame b d → (outcome : Outcome) → IsComparison a b outcome → IsComparison c d outcome
 comparison_same a b c d s t outcome (agree h e) =
@@ -72,6 +74,7 @@ translation_told_once Fss (an_ontology x) kinds main a b h k =
 translation_told_once Fss (a_graph x) kinds main a b h k = functional_once kinds main a b h k
 translation_told_once Fss (the_frames x) kinds main a b h k = functional_once kinds main a b h k
 translation_told_once Ttl p kinds main a b h k = translation_once kinds main a b h k
+translation_told_once Omn p kinds main a b h k = manchester_once kinds main a b h k
 
 -- what becomes of the same by an action is the same, and one
 

@@ -8,6 +8,8 @@ pub mod Heads
 pub mod InProfileLaws
 pub mod KindsAt
 pub mod Lines
+pub mod ManchesterOnce
+pub mod Manchesters
 pub mod Readings
 pub mod Same
 pub mod Sayings

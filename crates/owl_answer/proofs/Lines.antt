@@ -1,5 +1,5 @@
 -- What is concluded, and what is told of troubles, is proper, and has its line.
-use Rattle.std.proofs.Common.{◌≡◌, ◌≢◌, ℕ, Bool, zero, suc, Some, List, [], ◌∷◌, length, slice_get, inl, inr, refl, sym, subst}
+use Rattle.std.proofs.Common.{◌≡◌, ℕ, Bool, zero, suc, Some, List, [], ◌∷◌, length, slice_get, inl, inr, refl, sym, subst}
 use Rattle.owl_reader.specs.declared.fault.ReadFault.TheVariants as read
 use Rattle.owl_command.specs.Commands.{IsAmong, Request, compares, names_of, of_main}
 use Rattle.owl_command.specs.declared.command.Action.{Action}
@@ -8,7 +8,7 @@ use Rattle.owl_command.specs.declared.command.Profile.{Profile}
 use Rattle.owl_breaches.specs.Sites.{Site}
 use Rattle.owl_kind.specs.Kinds.{Entity}
 use Rattle.owl_command.specs.declared.command.Target.{Target}
-use Rattle.owl_command.specs.declared.command.Target.TheVariants.{Fss, Ttl}
+use Rattle.owl_command.specs.declared.command.Target.TheVariants.{Fss, Ttl, Omn}
 use Rattle.owl_command.specs.declared.status.Status.TheVariants.{Done}
 use Rattle.owl_documents.specs.Documents.{Parsed, Said, a_graph, an_ontology, the_frames, IsProperRefusal}
 use Rattle.owl_documents.specs.declared.trouble.Refusal.{Refusal}
@@ -18,7 +18,8 @@ use Rattle.owl_answer.specs.Outcome.{IsComparison, IsSuccess, agree, differ}
 use Rattle.owl_answer.specs.Checks.{IsChecked}
 use Rattle.owl_messages.specs.Refusals.{two_kinds, undeclared, unsayable}
 use Rattle.owl_messages.specs.Verdicts.{verdict}
-use Rattle.owl_answer.specs.Runs.{AnswersWith, AsksTranslation, AsksTurtle, Concludes, IsActionOutcome, IsIllTyped, IsTranslation, IsTurtleRefusal, LineFor, SuccessLine, all_say, misses_import, of_bytes, of_import, of_output, of_refusal, of_saying, of_success, of_triples, of_turtle, of_two_kinds, of_typing, of_undeclared, of_unsayable, of_weight, says_nothing}
+use Rattle.owl_answer.specs.Runs.{AnswersWith, AsksOtherSyntax, AsksTranslation, Concludes, IsActionOutcome, IsIllTyped, IsTranslation, IsUnsayable, LineFor, SuccessLine, all_say, misses_import, of_bytes, of_import, of_output, of_part, of_refusal, of_saying, of_success, of_triples, of_two_kinds, of_typing, of_undeclared, of_unsayable, of_weight, says_nothing}
+use Rattle.owl_answer.specs.ManchesterOutcome.{IsToldInManchester, manchester_form, manchester_translation}
 use Rattle.owl_answer.specs.TurtleOutcome.{IsFormTold, IsGraphTold, IsTold as IsOfTurtle, IsTypingRefusal, canonical_said, clashes, few, graph_translation, heavy, ill_typed, light, many, not_typed, ready, unsaid, untyped, well_typed}
 use Rattle.owl_answer.specs.Answers.{IsProper}
 use Rattle.owl_tree.specs.Ontologies.{Ontology}
@@ -27,7 +28,7 @@ use Rattle.rdf_scans.specs.declared.fault.OutlineFault.TheVariants as outline
 use Rattle.owl_answer.proofs.Same.{is_proper}
 use Rattle.owl_messages.proofs.UnsaidLaws.{IsRefusal, unsaid_is_refused}
 use Rattle.owl_messages.specs.Unsaid.{IsProperFault, unsaid_outcome}
-use Rattle.owl_messages.specs.Outcome.{IsLimited, Outcome, agreement, difference, done_line, fits, missing_import, passes, refusal_outcome, shown, too_heavy_output, too_long_output, too_many_triples, translation}
+use Rattle.owl_messages.specs.Outcome.{IsLimited, Outcome, agreement, difference, done_line, fits, missing_import, passes, refusal_outcome, shown, too_heavy_output, too_long_output, translation}
 
 pub at_among : (names : List (List ℕ)) (place : ℕ) (name : List ℕ) → slice_get names place ≡ Some name → IsAmong names name
 at_among [] place name e = absurd (cc)
@@ -47,13 +48,12 @@ ill_typed_told request asks refusal h = record { proper = proper refusal h; line
     proper _ (of_two_kinds iri) = record { found = tt; no_text = refl }
     proper _ (of_undeclared part e) = record { found = tt; no_text = refl }
 
-turtle_refused : (request : Request) → AsksTurtle request → (refusal : Outcome) → IsTurtleRefusal refusal → IsTold request refusal
-turtle_refused request asks refusal h = record { proper = proper refusal h; line = λ IsCause. of_turtle asks refusal h refl refl }
+unsayable_told : (request : Request) → AsksOtherSyntax request → (refusal : Outcome) → IsUnsayable refusal → IsTold request refusal
+unsayable_told request asks refusal h = record { proper = proper refusal h; line = λ IsCause. of_unsayable asks refusal h refl refl }
   where
-    proper : (refusal : Outcome) → IsTurtleRefusal refusal → IsProper refusal
-    proper _ (of_unsayable part why) = record { found = tt; no_text = refl }
+    proper : (refusal : Outcome) → IsUnsayable refusal → IsProper refusal
+    proper _ (of_part part why) = record { found = tt; no_text = refl }
     proper _ of_weight = record { found = tt; no_text = refl }
-    proper _ of_triples = record { found = tt; no_text = refl }
 
 typing_told : (request : Request) → AsksTranslation request → (kinds : List Entity) (o : Ontology) (outcome : Outcome) → IsTypingRefusal kinds o outcome → IsTold request outcome
 typing_told request asks kinds o outcome (clashes iri h e) = subst (IsTold request) (sym e) (ill_typed_told request asks (two_kinds iri) (of_two_kinds iri))
@@ -76,20 +76,29 @@ translated_told target partial names text axioms absorbed =
 module _ (partial : Bool) (names : List (List ℕ)) where
   form_told : (form : Said) (absorbed : ℕ) (outcome : Outcome) → IsFormTold form absorbed outcome → IsTold (of_main (Translate Ttl) partial names) outcome
   form_told form absorbed outcome (many l e) =
-      subst (IsTold (of_main (Translate Ttl) partial names)) (sym e) (turtle_refused (of_main (Translate Ttl) partial names) tt too_many_triples of_triples)
+      subst (IsTold (of_main (Translate Ttl) partial names)) (sym e) (record { proper = record { found = tt; no_text = refl }; line = λ IsCause. of_triples tt refl refl })
   form_told form absorbed outcome (few l w) =
       limited_told (of_main (Translate Ttl) partial names) (λ o. o ≡ graph_translation form absorbed) (λ o e. subst (IsTold (of_main (Translate Ttl) partial names)) (sym e) (translated_told Ttl partial names _ _ _)) outcome w
 
   graph_told : (main : Said) (outcome : Outcome) → IsGraphTold main outcome → IsTold (of_main (Translate Ttl) partial names) outcome
   graph_told main outcome (heavy l e) =
-      subst (IsTold (of_main (Translate Ttl) partial names)) (sym e) (turtle_refused (of_main (Translate Ttl) partial names) tt too_heavy_output of_weight)
+      subst (IsTold (of_main (Translate Ttl) partial names)) (sym e) (unsayable_told (of_main (Translate Ttl) partial names) tt too_heavy_output of_weight)
   graph_told main outcome (light l w) = form_told _ _ outcome w
 
   turtle_told : (kinds : List Entity) (main : Said) (outcome : Outcome) → IsOfTurtle kinds main outcome → IsTold (of_main (Translate Ttl) partial names) outcome
   turtle_told kinds main outcome (not_typed h) = typing_told (of_main (Translate Ttl) partial names) tt kinds main.ontology outcome h
   turtle_told kinds main outcome (unsaid t part why h e) =
-      subst (IsTold (of_main (Translate Ttl) partial names)) (sym e) (turtle_refused (of_main (Translate Ttl) partial names) tt (unsayable part why) (of_unsayable part why))
+      subst (IsTold (of_main (Translate Ttl) partial names)) (sym e) (unsayable_told (of_main (Translate Ttl) partial names) tt (unsayable part why) (of_part part why))
   turtle_told kinds main outcome (ready r w) = graph_told main outcome w
+
+  manchester_told : (kinds : List Entity) (main : Said) (outcome : Outcome) → IsToldInManchester kinds main outcome → IsTold (of_main (Translate Omn) partial names) outcome
+  manchester_told kinds main outcome (IsToldInManchester.not_typed h) = typing_told (of_main (Translate Omn) partial names) tt kinds main.ontology outcome h
+  manchester_told kinds main outcome (IsToldInManchester.unsaid t part why h e) =
+      subst (IsTold (of_main (Translate Omn) partial names)) (sym e) (unsayable_told (of_main (Translate Omn) partial names) tt (unsayable part why) (of_part part why))
+  manchester_told kinds main outcome (IsToldInManchester.heavy r l e) =
+      subst (IsTold (of_main (Translate Omn) partial names)) (sym e) (unsayable_told (of_main (Translate Omn) partial names) tt too_heavy_output of_weight)
+  manchester_told kinds main outcome (IsToldInManchester.light r l w) =
+      limited_told (of_main (Translate Omn) partial names) (λ o. o ≡ manchester_translation kinds (manchester_form kinds main)) (λ o e. subst (IsTold (of_main (Translate Omn) partial names)) (sym e) (translated_told Omn partial names _ _ _)) outcome w
 
   written_told : (main : Said) (outcome : Outcome) → IsLimited (λ (o : Outcome). o ≡ translation main) outcome → IsTold (of_main (Translate Fss) partial names) outcome
   written_told main outcome w =
@@ -102,6 +111,7 @@ module _ (partial : Bool) (names : List (List ℕ)) where
   translation_told Fss (the_frames read) kinds main outcome (ill_typed h) = typing_told (of_main (Translate Fss) partial names) tt kinds main.ontology outcome h
   translation_told Fss (the_frames read) kinds main outcome (well_typed t w) = written_told main outcome w
   translation_told Ttl parsed kinds main outcome w = turtle_told kinds (canonical_said main) outcome w
+  translation_told Omn parsed kinds main outcome w = manchester_told kinds (canonical_said main) outcome w
 
 -- the text and the line of a success
 done_told : (request : Request) (wanted : Outcome) → IsProper wanted → SuccessLine request wanted.status wanted.line → (outcome : Outcome) → outcome ≡ wanted → IsTold request outcome

@@ -32,7 +32,7 @@ each_axiom : (kinds : List Entity) (ts : List Tree) → AllByRecursion (IsWellTy
 each_axiom kinds [] h = tt
 each_axiom kinds (t ∷ ts) h = (h.0, each_axiom kinds ts h.1)
 
-axiom_parts : (kinds : List Entity) (ts : List Tree) → AllByRecursion (λ t. AreWellTyped kinds (entities t)) ts → AllByRecursion (IsWellTyped kinds) (map of_axiom ts)
+pub axiom_parts : (kinds : List Entity) (ts : List Tree) → AllByRecursion (λ t. AreWellTyped kinds (entities t)) ts → AllByRecursion (IsWellTyped kinds) (map of_axiom ts)
 axiom_parts kinds [] h = tt
 axiom_parts kinds (t ∷ ts) h = (h.0, axiom_parts kinds ts h.1)
 
@@ -58,10 +58,10 @@ says_declares g kinds o says kind iri =
 -- The normal form of an ontology in canonical form, which is well typed.
 
 module _ (kinds : List Entity) (o : Ontology) (form : canonical_ontology o ≡ o) (typed : IsTyped kinds o) where
-  notes_typed : AreWellTyped kinds (entities_of (kids_of o.annotations))
+  pub notes_typed : AreWellTyped kinds (entities_of (kids_of o.annotations))
   notes_typed = subst (λ (ts : List Tree). AreWellTyped kinds (entities_of (kids_of ts))) (ap (λ (p : Ontology). p.annotations) form) typed.typed.0
 
-  axioms_typed : AllByRecursion (λ t. AreWellTyped kinds (entities t)) o.axioms
+  pub axioms_typed : AllByRecursion (λ t. AreWellTyped kinds (entities t)) o.axioms
   axioms_typed =
       subst (λ (ts : List Tree). AllByRecursion (λ t. AreWellTyped kinds (entities t)) ts) (ap (λ (p : Ontology). p.axioms) form)
       (each_axiom kinds (canonical_list o.axioms) typed.typed.1)

@@ -27,6 +27,9 @@ use Rattle.owl_messages.specs.Outcome.{Outcome, done_line, shown, translation}
 pub same_form : (a b : Said) → IsSame a b → canonical_ontology a.ontology ≡ canonical_ontology b.ontology
 same_form a b s = (same_ontology_is_equal_form a.ontology b.ontology).0 s.ontology
 
+pub same_said : (a b : Said) → IsSame a b → canonical_said a ≡ canonical_said b
+same_said a b s = λ i. record { prefixes = s.prefixes i; ontology = same_form a b s i }
+
 -- what is answered depends on the prefixes and on the canonical form alone
 pub translation_same : (a b : Said) → IsSame a b → translation a ≡ translation b
 translation_same a b s = λ i. of_form (s.prefixes i) (same_form a b s i)
@@ -59,10 +62,10 @@ module _ (kinds : List Entity) (o : Ontology) where
   refusal_or_typed a (untyped apart part x h e) t = not_all_typed kinds o part x h t.typed
 
 -- where the same is declared
-typed_alike : (kinds others : List Entity) (o : Ontology) → DeclareSame kinds others → IsTyped kinds o → IsTyped others o
+pub typed_alike : (kinds others : List Entity) (o : Ontology) → DeclareSame kinds others → IsTyped kinds o → IsTyped others o
 typed_alike kinds others o same t = record { no_clash = same_kinds_apart kinds others same t.no_clash; typed = same_kinds_typed kinds others o same t.typed }
 
-refusal_alike : (kinds others : List Entity) (o : Ontology) (a : Outcome) → DeclareSame kinds others → IsTypingRefusal kinds o a → IsTypingRefusal others o a
+pub refusal_alike : (kinds others : List Entity) (o : Ontology) (a : Outcome) → DeclareSame kinds others → IsTypingRefusal kinds o a → IsTypingRefusal others o a
 refusal_alike kinds others o a same (clashes iri h e) = clashes iri (same_kinds_clash kinds others iri same h) e
 refusal_alike kinds others o a same (untyped apart part x h e) = untyped (same_kinds_apart kinds others same apart) part x (same_kinds_untyped kinds others o part x same h) e
 
@@ -125,6 +128,4 @@ told_alike kinds others main a same (ready r w) = ready (record { typed = typed_
 
 pub translation_alike : (kinds others : List Entity) (main other : Said) (a : Outcome) → DeclareSame kinds others → IsSame main other → IsTurtleTranslation kinds main a → IsTurtleTranslation others other a
 translation_alike kinds others main other a same s h =
-    let form = (same_ontology_is_equal_form main.ontology other.ontology).0 s.ontology in
-    let said : canonical_said main ≡ canonical_said other = λ i. record { prefixes = s.prefixes i; ontology = form i } in
-    subst (λ (x : Said). IsTold others x a) said (told_alike kinds others (canonical_said main) a same h)
+    subst (λ (x : Said). IsTold others x a) (same_said main other s) (told_alike kinds others (canonical_said main) a same h)

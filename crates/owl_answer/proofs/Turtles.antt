@@ -1,15 +1,14 @@
 -- The translation to Turtle, step by step.
-use Rattle.std.proofs.Common.{◌≡◌, ◌<◌, ◌≤◌, ◌∙◌, ℕ, List, [], ◌∷◌, ap, length, sym, subst}
-use Rattle.std.specs.List.{AllByRecursion}
+use Rattle.std.proofs.Common.{◌≡◌, ◌<◌, ◌≤◌, ◌∙◌, ℕ, List, ap, length, sym, subst}
 use Rattle.std.specs.Str.{encode_utf8_all}
 use Rattle.owl_characters.specs.Limit.{most_bytes}
-use Rattle.owl_arena.specs.Held.{AreHeld, Held, trees_at}
-use Rattle.owl_arena.proofs.HeldLaws.{entry_at}
+use Rattle.man_write.proofs.DocumentLaws.{each_shallow}
+use Rattle.owl_arena.specs.Held.{Held, trees_at}
 use Rattle.owl_arena.specs.Shared.{AreShared, deepest, heaviest}
 use Rattle.owl_atom.specs.declared.prefixes.Prefix.{Prefix}
 use Rattle.owl_kind.specs.Kinds.{Entity}
 use Rattle.owl_tree.specs.Ontologies.{Ontology, canonical_ontology, ontology_weight}
-use Rattle.owl_tree.specs.Trees.{Tree, depth}
+use Rattle.owl_tree.specs.Trees.{depth}
 use Rattle.owl_doc.specs.Counts.{axiom_count}
 use Rattle.owl_doc.specs.Documents.{Document, IsDocument, ontology_of}
 use Rattle.owl_writing.specs.Tables.{written_prefixes}
@@ -38,18 +37,14 @@ typing_fails kinds o outcome (clashes iri h e) s = subst (λ (x : Outcome). IsSu
 typing_fails kinds o outcome (untyped apart part entity h e) s = subst (λ (x : Outcome). IsSuccess x.status) e s
 
 -- what is refused isn't read back
-unread : (wanted outcome : Outcome) (form : Said) → outcome ≡ wanted → (IsSuccess wanted.status → ⊥) → IsSuccess outcome.status → ReadsGraph outcome.text form
-unread wanted outcome form e quiet s = absurd (quiet (subst (λ (o : Outcome). IsSuccess o.status) e s))
+pub unread : {R : Type 0} (wanted outcome : Outcome) → outcome ≡ wanted → (IsSuccess wanted.status → ⊥) → IsSuccess outcome.status → R
+unread wanted outcome e quiet s = absurd (quiet (subst (λ (o : Outcome). IsSuccess o.status) e s))
 
 pub long_told : (form : Said) (absorbed : ℕ) (prefixes : List Prefix) (graph : List Triple) (outcome : Outcome) → prefixes ≡ form.prefixes → graph ≡ graph_of form.ontology → most_bytes < length (encode_utf8_all (turtle_text prefixes graph)) → outcome ≡ too_long_output → IsToldBack (IsLimited (λ (wanted : Outcome). wanted ≡ graph_translation form absorbed)) form outcome
 long_told form absorbed prefixes graph outcome p g l e = record {
   is = passed (graph_translation form absorbed) outcome (subst (λ (text : List ℕ). most_bytes < length text) (λ i. encode_utf8_all (turtle_text (p i) (g i))) l) e;
-  back = unread too_long_output outcome form e (λ s. s);
+  back = unread too_long_output outcome e (λ s. s);
 }
-
-each_shallow : (ts : List Tree) (ids : List ℕ) → AreShared ts → AreHeld ts ids → AllByRecursion (λ t. depth t ≤ deepest) (trees_at ts ids)
-each_shallow ts [] shared held = tt
-each_shallow ts (id ∷ ids) shared held = ((entry_at ts id shared held.0).depth, each_shallow ts ids shared held.1)
 
 -- what an arena holds is not too deep
 shallow_document : (form : Document) (arena : Held) → arena ≡ form.arena → AreShared arena.trees → IsDocument form → AreShallow (ontology_of form)
@@ -77,10 +72,10 @@ pub few_told : (form : Said) (absorbed : ℕ) (graph : List Triple) (outcome : O
 few_told form absorbed graph outcome e g h = record { is = few (subst (λ (triples : List Triple). length triples ≤ most_triples) e g.few) h.is; back = h.back }
 
 pub many_told : (form : Said) (absorbed : ℕ) (outcome : Outcome) → most_triples < length (graph_of form.ontology) → outcome ≡ too_many_triples → IsToldBack (IsFormTold form absorbed) form outcome
-many_told form absorbed outcome l e = record { is = many l e; back = unread too_many_triples outcome form e (λ s. s) }
+many_told form absorbed outcome l e = record { is = many l e; back = unread too_many_triples outcome e (λ s. s) }
 
 pub heavy_told : (main : Said) (outcome : Outcome) → heaviest < ontology_weight (normal_form main.ontology) → outcome ≡ too_heavy_output → IsToldBack (IsGraphTold main) (turtle_form main) outcome
-heavy_told main outcome l e = record { is = heavy l e; back = unread too_heavy_output outcome (turtle_form main) e (λ s. s) }
+heavy_told main outcome l e = record { is = heavy l e; back = unread too_heavy_output outcome e (λ s. s) }
 
 pub light_told : (main : Said) (form : Document) (absorbed : ℕ) (outcome : Outcome) → ontology_of form ≡ normal_form main.ontology → form.prefixes ≡ main.prefixes → absorbed ≡ absorbed_count main.ontology → ontology_weight (normal_form main.ontology) ≤ heaviest → IsToldBack (IsFormTold (said_of form) absorbed) (said_of form) outcome → IsToldBack (IsGraphTold main) (turtle_form main) outcome
 light_told main form absorbed outcome o p a l h =
@@ -99,7 +94,7 @@ module _ (kinds : List Entity) (main : Said) (form : canonical_ontology main.ont
   not_typed_told h = in_form (record { is = not_typed h; back = λ s. absurd (typing_fails kinds main.ontology outcome h s) })
 
   pub unsaid_told : IsTyped kinds main.ontology → (part : Part) (why : Objection) → IsFirstUnsayable main.ontology part why → outcome ≡ unsayable part why → IsToldBack (IsTurtleTranslation kinds main) (turtle_form (canonical_said main)) outcome
-  unsaid_told typed part why h e = in_form (record { is = unsaid typed part why h e; back = unread (unsayable part why) outcome (turtle_form main) e (λ s. s) })
+  unsaid_told typed part why h e = in_form (record { is = unsaid typed part why h e; back = unread (unsayable part why) outcome e (λ s. s) })
 
   pub ready_told : IsTyped kinds main.ontology → CanSayAll main.ontology → IsToldBack (IsGraphTold main) (turtle_form main) outcome → IsToldBack (IsTurtleTranslation kinds main) (turtle_form (canonical_said main)) outcome
   ready_told t said h = in_form (record { is = ready (record { typed = t; sayable = said }) h.is; back = h.back })

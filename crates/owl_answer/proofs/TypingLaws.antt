@@ -38,10 +38,10 @@ same_ontology_untyped kinds o p part e h first = subst (λ (parts : List Part). 
 part_typed : (kinds others : List Entity) → DeclareSame kinds others → (part : Part) → IsWellTyped kinds part → IsWellTyped others part
 part_typed kinds others same part typed = same_typing kinds others (part_entities part) (λ kind iri. (same kind iri).0) typed
 
-back : (kinds others : List Entity) → DeclareSame kinds others → DeclareSame others kinds
+pub back : (kinds others : List Entity) → DeclareSame kinds others → DeclareSame others kinds
 back kinds others same kind iri = ((same kind iri).1, (same kind iri).0)
 
-has_kind : (kinds others : List Entity) → DeclareSame kinds others → (kind : Kind) (iri : List ℕ) → HasKind kinds kind iri → HasKind others kind iri
+pub has_kind : (kinds others : List Entity) → DeclareSame kinds others → (kind : Kind) (iri : List ℕ) → HasKind kinds kind iri → HasKind others kind iri
 has_kind kinds others same kind iri h = elim h [ inl d ↦ inl ((same kind iri).0 d) | inr b ↦ inr b ]
 
 pub same_kinds_typed : (kinds others : List Entity) (o : Ontology) → DeclareSame kinds others → AllAreWellTyped kinds o → AllAreWellTyped others o

@@ -11,6 +11,7 @@ use Rattle.owl_command.specs.declared.status.Status.TheVariants.{Done, No, Words
 use Rattle.owl_documents.specs.Documents.{Contents, Parsed, Said}
 use Rattle.owl_documents.specs.Shelves.{IsFaulty, IsFirstFaulty, Rises, Shelves}
 use Rattle.owl_answer.specs.KindsAt.{AreClosureKinds}
+use Rattle.owl_answer.specs.ManchesterOutcome.{IsManchesterTranslation, ReadsForm, manchester_form}
 use Rattle.owl_answer.specs.Outcome.{IsSettled, IsSuccess, IsTheOutcome}
 use Rattle.owl_answer.specs.Runs.{Becomes, Concludes, IsActionOutcome, IsActionText, IsBack, IsReadBack, LineFor}
 use Rattle.owl_answer.specs.UnderKinds.{SaysUnder}
@@ -49,6 +50,11 @@ pub record IsToldOf (action : Action) (documents : List Parsed) (outcome : Outco
 pub record IsInTurtle (kinds : List Entity) (main : Said) (outcome : Outcome) : Type 0 where
   pub is : IsTurtleTranslation kinds main outcome
   pub back : IsSuccess outcome.status → ReadsSaid kinds outcome.text (turtle_form (canonical_said main))
+
+-- what becomes of a document that is written in frames, and the text says its normal form
+pub record IsInManchester (kinds : List Entity) (main : Said) (outcome : Outcome) : Type 0 where
+  pub is : IsManchesterTranslation kinds main outcome
+  pub back : IsSuccess outcome.status → ReadsForm kinds outcome.text (manchester_form kinds (canonical_said main))
 
 -- what is told where an ontology is not well typed, and else that it is
 abbrev pub IsTyping : List Entity → Ontology → Option Answer → Type 0

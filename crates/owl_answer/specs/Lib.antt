@@ -4,6 +4,7 @@ pub mod Checking
 pub mod Checks
 pub mod InProfile
 pub mod KindsAt
+pub mod ManchesterOutcome
 pub mod Outcome
 pub mod Runs
 pub mod Reading

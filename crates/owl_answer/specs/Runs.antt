@@ -1,5 +1,5 @@
 -- What a run answers, for its words and the contents of its documents.
-use Rattle.std.specs.Prelude.{◌≡◌, ◌≢◌, ℕ, Some, List, ◌++◌, slice_get, take, codes}
+use Rattle.std.specs.Prelude.{◌≡◌, ℕ, Some, List, ◌++◌, slice_get, take, codes}
 use Rattle.owl_kind.specs.Kinds.{Entity}
 use Rattle.owl_close.specs.Imports.{IsFirstMissing, MissesNone}
 use Rattle.fss_terms.specs.Functional.{ReadsFunctional}
@@ -9,7 +9,7 @@ use Rattle.owl_command.specs.Commands.{AsksImports, Asks, HasNoCommand, IsAmong,
 use Rattle.owl_command.specs.declared.command.Action.{Action}
 use Rattle.owl_command.specs.declared.command.Action.TheVariants.{Translate, Check, Show}
 use Rattle.owl_command.specs.declared.command.Target.{Target as Syntax}
-use Rattle.owl_command.specs.declared.command.Target.TheVariants.{Fss, Ttl}
+use Rattle.owl_command.specs.declared.command.Target.TheVariants.{Fss, Ttl, Omn}
 use Rattle.owl_command.specs.declared.status.Status.{Status}
 use Rattle.owl_command.specs.declared.status.Status.TheVariants.{Done, No, Words, Document as NoDocument, Limit, ReadFailed, WriteFailed, Memory}
 use Rattle.owl_documents.specs.Documents.{AreRead, Contents, IsFirstRefused, Parsed, Said, a_graph, an_ontology, the_frames, IsProperRefusal}
@@ -20,14 +20,16 @@ use Rattle.owl_messages.specs.Refusals.{two_kinds, undeclared, unsayable}
 use Rattle.owl_messages.specs.Verdicts.{no_line, yes_line}
 use Rattle.owl_answer.specs.Checks.{IsChecked}
 use Rattle.owl_answer.specs.UnderKinds.{AllSay, HoldsOfMain, HoldsOfTwo, IsFirstUnsaid}
+use Rattle.owl_answer.specs.ManchesterOutcome.{IsManchesterTranslation, ReadsForm, manchester_form}
 use Rattle.owl_answer.specs.TurtleOutcome.{IsFunctionalTranslation, IsTurtleTranslation, ReadsSaid, canonical_said, turtle_form}
 use Rattle.owl_messages.specs.Outcome.{IsLimited, Outcome, done_line, functional_form, missing_import, refusal_outcome, refused, shown, too_heavy_output, too_long_output, too_many_triples, translation}
 use Rattle.owl_messages.specs.Unsaid.{IsProperFault, unsaid_outcome}
 
--- The normal form that a syntax has for what a document says.
-abbrev pub normal_form : Syntax → Said → Said
-normal_form Fss said = functional_form said
-normal_form Ttl said = turtle_form (canonical_said said)
+-- The normal form that a syntax has for what a document says, where IRIs have these kinds.
+abbrev pub normal_form : Syntax → List Entity → Said → Said
+normal_form Fss kinds said = functional_form said
+normal_form Ttl kinds said = turtle_form (canonical_said said)
+normal_form Omn kinds said = manchester_form kinds (canonical_said said)
 
 -- where each import has to be there, it is
 abbrev pub HasImports : Request → List Parsed → Type 0
@@ -40,6 +42,7 @@ IsTranslation Fss (an_ontology said) kinds main outcome = IsLimited (λ wanted. 
 IsTranslation Fss (a_graph read) kinds main outcome = IsFunctionalTranslation kinds main outcome
 IsTranslation Fss (the_frames d) kinds main outcome = IsFunctionalTranslation kinds main outcome
 IsTranslation Ttl parsed kinds main outcome = IsTurtleTranslation kinds main outcome
+IsTranslation Omn parsed kinds main outcome = IsManchesterTranslation kinds main outcome
 
 -- What becomes by an action of the main one of these documents, by what it says under these kinds. A check is of all that it reaches.
 abbrev pub IsActionOutcome : Action → List Parsed → Parsed → List Entity → Said → Outcome → Type 0
@@ -96,16 +99,21 @@ pub data IsIllTyped : Outcome → Type 0 where
   of_two_kinds : (iri : List ℕ) → IsIllTyped (two_kinds iri)
   of_undeclared : (part : Part) (e : Entity) → IsIllTyped (undeclared part e)
 
--- The ways in which a translation to Turtle alone is refused.
-pub data IsTurtleRefusal : Outcome → Type 0 where
-  of_unsayable : (part : Part) (why : Objection) → IsTurtleRefusal (unsayable part why)
-  of_weight : IsTurtleRefusal too_heavy_output
-  of_triples : IsTurtleRefusal too_many_triples
+-- The ways in which a document is refused that a syntax can't say: by a part of it, or by what its normal form weighs.
+pub data IsUnsayable : Outcome → Type 0 where
+  of_part : (part : Part) (why : Objection) → IsUnsayable (unsayable part why)
+  of_weight : IsUnsayable too_heavy_output
 
 -- a translation
 abbrev pub AsksTranslation : Request → Type 0
 AsksTranslation (of_main (Translate target) partial names) = Unit {0}
 AsksTranslation request = ⊥
+
+-- a translation to another syntax than Functional-Style Syntax, which can say all
+abbrev pub AsksOtherSyntax : Request → Type 0
+AsksOtherSyntax (of_main (Translate Ttl) partial names) = Unit {0}
+AsksOtherSyntax (of_main (Translate Omn) partial names) = Unit {0}
+AsksOtherSyntax request = ⊥
 
 -- a translation to Turtle
 abbrev pub AsksTurtle : Request → Type 0
@@ -117,7 +125,8 @@ pub data LineFor (request : Request) (IsCause : List ℕ → Type 0) (status : S
   of_success : SuccessLine request status line → LineFor request IsCause status line
   of_refusal : (name : List ℕ) → IsAmong (names_of request) name → IsRefusalLine name status line → LineFor request IsCause status line
   of_typing : AsksTranslation request → (refusal : Outcome) → IsIllTyped refusal → status ≡ refusal.status → line ≡ refusal.line → LineFor request IsCause status line
-  of_turtle : AsksTurtle request → (refusal : Outcome) → IsTurtleRefusal refusal → status ≡ refusal.status → line ≡ refusal.line → LineFor request IsCause status line
+  of_unsayable : AsksOtherSyntax request → (refusal : Outcome) → IsUnsayable refusal → status ≡ refusal.status → line ≡ refusal.line → LineFor request IsCause status line
+  of_triples : AsksTurtle request → status ≡ Limit → line ≡ too_many_triples.line → LineFor request IsCause status line
   of_output : status ≡ Limit → line ≡ too_long_output.line → LineFor request IsCause status line
   of_read_fault : (name : List ℕ) → IsCause name → status ≡ ReadFailed → line ≡ codes "read: " ++ (name ++ codes "\n") → LineFor request IsCause status line
   of_write_fault : status ≡ WriteFailed → line ≡ codes "write\n" → LineFor request IsCause status line
@@ -133,10 +142,11 @@ pub data IsLine (words : List (List ℕ)) (IsCause : Request → List ℕ → Ty
 abbrev pub ReadsIn : Syntax → List Entity → List ℕ → Said → Type 0
 ReadsIn Fss kinds text said = ReadsFunctional text said.prefixes said.ontology
 ReadsIn Ttl kinds text said = ReadsSaid kinds text said
+ReadsIn Omn kinds text said = ReadsForm kinds text said
 
 -- What the text of an action is: that of a translation reads back to the normal form of what the main document says, under the same kinds.
 abbrev pub IsActionText : Action → List Entity → Said → List ℕ → Type 0
-IsActionText (Translate target) kinds main text = ReadsIn target kinds text (normal_form target main)
+IsActionText (Translate target) kinds main text = ReadsIn target kinds text (normal_form target kinds main)
 IsActionText (Check profile) kinds main text = Unit {0}
 IsActionText Show kinds main text = Unit {0}
 

@@ -1,6 +1,7 @@
 //! Laws of what is answered, as functions that do nothing.
 
 ghost use Rattle.std.specs.Prelude.{◌≡◌, ℕ, List};
+ghost use Rattle.owl_answer.specs.ManchesterOutcome.{IsManchesterTranslation};
 ghost use Rattle.owl_answer.specs.TurtleOutcome.{IsTurtleTranslation};
 ghost use Rattle.owl_answer.specs.Typing.{AllAreWellTyped, DeclareSame, IsFirstUntyped};
 ghost use Rattle.owl_answer.specs.Unreached.{UnreachedChangeNothing};
@@ -60,4 +61,17 @@ pub fn turtle_translations_are_one()
     ensures same { (kinds others : List Entity) (main other : Said) (outcome : Outcome) →
         DeclareSame kinds others → IsSame main other →
         IsTurtleTranslation kinds main outcome → IsTurtleTranslation others other outcome }
+{}
+
+/// Laws: one thing at most becomes of a document that is translated to Manchester
+/// Syntax. It depends on what the kinds declare, on the document's prefixes, and
+/// on its ontology up to structural equivalence, and on nothing else.
+pub fn manchester_translations_are_one()
+    ensures once { (kinds : List Entity) (main : Said) (outcome other : Outcome) →
+        IsManchesterTranslation kinds main outcome → IsManchesterTranslation kinds main other →
+        outcome ≡ other }
+    ensures same { (kinds others : List Entity) (main other : Said) (outcome : Outcome) →
+        DeclareSame kinds others → IsSame main other →
+        IsManchesterTranslation kinds main outcome →
+        IsManchesterTranslation others other outcome }
 {}

@@ -9,15 +9,18 @@ mod conclusion;
 mod imports;
 mod kinds;
 mod laws;
+mod manchester;
 mod reading;
 mod request;
 mod telling;
 mod turtle;
 mod typing;
+mod written;
 
 pub use laws::{
-    equivalent_ontologies_are_typed_alike, turtle_translations_are_one,
-    typing_depends_on_what_is_declared, typing_is_refused_once, unreached_documents_change_nothing,
+    equivalent_ontologies_are_typed_alike, manchester_translations_are_one,
+    turtle_translations_are_one, typing_depends_on_what_is_declared, typing_is_refused_once,
+    unreached_documents_change_nothing,
 };
 pub use owl_messages::Answer;
 pub use request::answer_to;

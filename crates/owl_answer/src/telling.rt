@@ -3,7 +3,6 @@
 ghost use Rattle.std.specs.Prelude.{◌≡◌, ◌<◌, List, IfOk, length};
 ghost use Rattle.std.specs.Str.{encode_utf8_all};
 ghost use Rattle.fss_terms.specs.Functional.{ReadsFunctional};
-ghost use Rattle.fss_write.specs.Text.{text_of};
 ghost use Rattle.owl_doc.specs.Documents.{ontology_of};
 ghost use Rattle.owl_documents.specs.Documents.{Parsed, said_of};
 ghost use Rattle.owl_writing.specs.Tables.{declared_prefixes};
@@ -16,13 +15,15 @@ ghost use Rattle.owl_messages.specs.Outcome.{IsLimited, shown, translation};
 
 use crate::checking::check;
 use crate::closure::Closure;
+use crate::manchester::translate_to_manchester;
 use crate::turtle::translate_to_turtle;
 use crate::typing::typing_refusal;
+use crate::written::translated;
 use fss_write::{WriteFault, write};
-use owl_characters::{MOST_BYTES, NoMemory, Text};
+use owl_characters::{MOST_BYTES, NoMemory};
 use owl_command::{Action, Status, Target};
 use owl_doc::Doc;
-use owl_messages::{Answer, done_line, summary, told, too_long_output};
+use owl_messages::{Answer, summary, told, too_long_output};
 use owl_tree::Kinds;
 use std::alloc::Global;
 
@@ -63,6 +64,7 @@ fn translate(
     match target {
         Target::Fss => translate_in_functional(alloc, asks, kinds, main),
         Target::Ttl => translate_in_turtle(alloc, kinds, main),
+        Target::Omn => translate_to_manchester(alloc, main, kinds),
     }
 }
 
@@ -99,20 +101,6 @@ fn translate_typed(alloc: Global, kinds: &Kinds, main: &Doc) -> Result<Answer, N
     }
 }
 
-/// The answer with the text of a document.
-fn translated(alloc: Global, doc: &Doc, text: Text) -> Result<Answer, NoMemory>
-    requires { text ≡ text_of doc.now.prefixes (ontology_of doc.now) }
-    ensures outcome { IfOk result (λ answer. outcome_of answer ≡ translation (said_of doc.now)) }
-    ensures text { IfOk result (λ answer. answer.text ≡ text) }
-{
-    let line = done_line(alloc, doc.axioms().len() as u64, 0)?;
-    Ok(Answer {
-        status: Status::Done,
-        text,
-        line,
-    })
-}
-
 /// The translation of a document to Functional-Style Syntax.
 fn translate_to_functional(alloc: Global, doc: &Doc) -> Result<Answer, NoMemory>
     ensures outcome { IfOk result (λ answer.
@@ -124,7 +112,7 @@ fn translate_to_functional(alloc: Global, doc: &Doc) -> Result<Answer, NoMemory>
     // What is known of every document.
     doc.notes();
     match write(alloc, doc) {
-        Ok(text) => translated(alloc, doc, text),
+        Ok(text) => translated(alloc, doc, 0, text),
         Err(WriteFault::TooLong) => too_long_output(alloc),
         Err(WriteFault::Memory) => Err(NoMemory),
     }

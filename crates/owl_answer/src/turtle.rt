@@ -1,43 +1,24 @@
 //! What is answered for a document that is translated to Turtle.
 
 ghost use Rattle.std.specs.Prelude.{◌≡◌, List, IfOk};
-ghost use Rattle.std.specs.Str.{encode_utf8_all};
-ghost use Rattle.owl_command.specs.declared.status.Status.TheVariants.{Done};
-ghost use Rattle.owl_doc.specs.Counts.{axiom_count};
 ghost use Rattle.owl_doc.specs.Documents.{ontology_of};
 ghost use Rattle.owl_documents.specs.Documents.{said_of};
 ghost use Rattle.owl_kind.specs.Kinds.{Entity};
 ghost use Rattle.rdf_mapping.specs.Graphs.{graph_of};
 ghost use Rattle.owl_answer.specs.TurtleOutcome.{IsFormTold, IsGraphTold, IsToldBack, IsTurtleTranslation, IsTyped, canonical_said, graph_translation, turtle_form};
 ghost use Rattle.owl_messages.specs.Answers.{outcome_of};
-ghost use Rattle.owl_messages.specs.Outcome.{IsLimited, done_line};
+ghost use Rattle.owl_messages.specs.Outcome.{IsLimited};
 
 use crate::typing::typing_refusal;
-use owl_characters::{NoMemory, Text};
-use owl_command::Status;
+use crate::written::translated;
+use owl_characters::NoMemory;
 use owl_doc::Doc;
-use owl_messages::{Answer, done_line, refuse_output, refuse_unsayable, too_long_output};
+use owl_messages::{Answer, refuse_output, refuse_unsayable, too_long_output};
 use owl_tree::Kinds;
 use rdf_forward::{NormFault, can, forward, is_normal, normal};
 use rdf_graph::{Graph, GraphFault};
 use std::alloc::Global;
 use ttl_write::{WriteFault, write};
-
-/// The answer with the text of the graph of a normal form.
-fn translated(alloc: Global, form: &Doc, absorbed: u64, text: Text) -> Result<Answer, NoMemory>
-    ensures { IfOk result (λ answer. outcome_of answer ≡ record {
-      status = Done;
-      text = encode_utf8_all text;
-      line = done_line (axiom_count (ontology_of form.now)) absorbed;
-    }) }
-{
-    let line = done_line(alloc, form.axioms().len() as u64, absorbed)?;
-    Ok(Answer {
-        status: Status::Done,
-        text,
-        line,
-    })
-}
 
 /// What is answered for a normal form, by its graph.
 fn write_graph(alloc: Global, form: &Doc, absorbed: u64, graph: &Graph) -> Result<Answer, NoMemory>

@@ -7,7 +7,7 @@ use Rattle.owl_command.specs.declared.command.Action.TheVariants.{Translate, Che
 use Rattle.owl_command.specs.declared.command.Profile.{Profile}
 use Rattle.owl_command.specs.declared.command.Profile.TheVariants.{Dl, El, Ql, Rl}
 use Rattle.owl_command.specs.declared.command.Target.{Target}
-use Rattle.owl_command.specs.declared.command.Target.TheVariants.{Fss, Ttl}
+use Rattle.owl_command.specs.declared.command.Target.TheVariants.{Fss, Ttl, Omn}
 
 abbrev pub verb : List (List ℕ) → List ℕ
 verb [] = []
@@ -38,12 +38,18 @@ abbrev first_letter : List ℕ → ℕ
 first_letter [] = 0
 first_letter (c ∷ cs) = c
 
--- a word names one target
+-- the target whose word has this first letter
+abbrev target_by : ℕ → Target
+target_by c = if nat_eq c 102 then Fss else if nat_eq c 116 then Ttl else Omn
+
+by_target : (target : Target) → target_by (first_letter (target_word target)) ≡ target
+by_target Fss = refl
+by_target Ttl = refl
+by_target Omn = refl
+
+-- so a word names one target
 pub target_once : (one other : Target) → target_word one ≡ target_word other → one ≡ other
-target_once Fss Fss e = refl
-target_once Fss Ttl e = let h : true ≡ false = ap (λ (w : List ℕ). nat_eq (first_letter w) 102) e in absurd (cc)
-target_once Ttl Fss e = let h : false ≡ true = ap (λ (w : List ℕ). nat_eq (first_letter w) 102) e in absurd (cc)
-target_once Ttl Ttl e = refl
+target_once one other e = sym (by_target one) ∙ (ap (λ (word : List ℕ). target_by (first_letter word)) e ∙ by_target other)
 
 -- the profile whose word has this first letter
 abbrev by_letter : ℕ → Profile

@@ -3,7 +3,7 @@ use Rattle.std.specs.Prelude.{◌≡◌, ◌≢◌, ◌<◌, ◌≤◌, ◌⊎�
 use Rattle.std.specs.List.{AllByRecursion}
 use Rattle.std.specs.Str.{encode_utf8_all}
 use Rattle.owl_command.specs.declared.command.Target.{Target}
-use Rattle.owl_command.specs.declared.command.Target.TheVariants.{Fss, Ttl}
+use Rattle.owl_command.specs.declared.command.Target.TheVariants.{Fss, Ttl, Omn}
 use Rattle.owl_command.specs.declared.command.Profile.{Profile}
 use Rattle.owl_command.specs.declared.command.Profile.TheVariants.{Dl, El, Ql, Rl}
 use Rattle.owl_command.specs.declared.command.Action.{Action}
@@ -67,6 +67,7 @@ AsksImports (compares first second) = ⊥
 abbrev pub target_word : Target → List ℕ
 target_word Fss = codes "fss"
 target_word Ttl = codes "ttl"
+target_word Omn = codes "omn"
 
 -- the word of a profile
 abbrev pub profile_word : Profile → List ℕ

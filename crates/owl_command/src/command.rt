@@ -16,6 +16,8 @@ pub enum Target {
     Fss,
     /// Turtle.
     Ttl,
+    /// Manchester Syntax.
+    Omn,
 }
 
 /// The profile of a check.
@@ -155,6 +157,8 @@ fn named_target(word: &str) -> Option<Target>
         Some(Target::Fss)
     } else if is_word(word, "ttl") {
         Some(Target::Ttl)
+    } else if is_word(word, "omn") {
+        Some(Target::Omn)
     } else {
         None
     }

@@ -7,7 +7,7 @@ use Rattle.owl_command.specs.Commands.{Request, compares, of_main}
 use Rattle.owl_command.specs.declared.command.Action.TheVariants.{Translate, Check, Show}
 use Rattle.owl_documents.specs.Documents.{IsProperRefusal}
 use Rattle.rdf_scans.specs.declared.fault.OutlineFault.TheVariants as outline
-use Rattle.owl_answer.specs.Runs.{IsIllTyped, IsRefusalLine, IsTurtleRefusal, LineFor, SuccessLine, of_bytes, of_saying, of_import, of_no_memory, of_output, of_read_fault, of_refusal, of_success, of_triples, of_turtle, of_two_kinds, of_typing, of_undeclared, of_unsayable, of_weight, of_write_fault}
+use Rattle.owl_answer.specs.Runs.{IsIllTyped, IsRefusalLine, IsUnsayable, LineFor, SuccessLine, of_bytes, of_saying, of_import, of_no_memory, of_output, of_part, of_read_fault, of_refusal, of_success, of_triples, of_two_kinds, of_typing, of_undeclared, of_unsayable, of_weight, of_write_fault}
 use Rattle.owl_command.specs.declared.status.Status.TheVariants.{ReadFailed}
 use Rattle.owl_messages.proofs.UnsaidLaws.{IsRefusal, unsaid_is_refused}
 use Rattle.owl_messages.specs.Outcome.{Outcome, refusal_outcome}
@@ -48,16 +48,16 @@ no_typing : (refusal : Outcome) → IsIllTyped refusal → ReadFailed ≡ refusa
 no_typing _ (of_two_kinds iri) e = cc
 no_typing _ (of_undeclared part entity) e = cc
 
-no_turtle : (refusal : Outcome) → IsTurtleRefusal refusal → ReadFailed ≡ refusal.status → ⊥
-no_turtle _ (of_unsayable part why) e = cc
-no_turtle _ of_weight e = cc
-no_turtle _ of_triples e = cc
+no_unsayable : (refusal : Outcome) → IsUnsayable refusal → ReadFailed ≡ refusal.status → ⊥
+no_unsayable _ (of_part part why) e = cc
+no_unsayable _ of_weight e = cc
 
 pub fault_in : (request : Request) (IsCause : List ℕ → Type 0) (line : List ℕ) → LineFor request IsCause ReadFailed line → (name : List ℕ) × IsCause name
 fault_in request IsCause line (of_success s) = absurd (no_success request line s)
 fault_in request IsCause line (of_refusal name among r) = absurd (no_refusal_line name line r)
 fault_in request IsCause line (of_typing asks refusal h e l) = absurd (no_typing refusal h e)
-fault_in request IsCause line (of_turtle asks refusal h e l) = absurd (no_turtle refusal h e)
+fault_in request IsCause line (of_unsayable asks refusal h e l) = absurd (no_unsayable refusal h e)
+fault_in request IsCause line (of_triples asks e l) = absurd (cc)
 fault_in request IsCause line (of_output e l) = absurd (cc)
 fault_in request IsCause line (of_read_fault name h e l) = (name, h)
 fault_in request IsCause line (of_write_fault e l) = absurd (cc)

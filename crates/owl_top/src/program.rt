@@ -108,22 +108,25 @@ fn obey<S: Shelf, O: Sink, N: Sink>(
 /// All that the program does for the words behind its name: it reads documents from the shelf, and writes its text to
 /// `out` and one line to `note`.
 ///
-/// A name that ends in `.ttl` is of a document in Turtle, and each other one of a document in Functional-Style Syntax.
+/// A name that ends in `.ttl` is of a document in Turtle, one that ends in `.omn` of a document in Manchester Syntax, and
+/// each other one of a document in Functional-Style Syntax.
 ///
 /// The line of a status is `translated; axioms A; absorbed K`, `profile P: yes`, `shown` or `same` for `Done`,
-/// `profile P: no; breaches B` or `different` for `No`, `words` for `Words`; for `Document` `NAME: item at ITEM: REASON at AT`, `NAME: MissingImport <IRI>`, or the fault of a graph:
+/// `profile P: no; breaches B` or `different` for `No`, `words` for `Words`; for `Document` `NAME: item at ITEM: REASON at AT`,
+/// `NAME: MissingImport <IRI>`, or the fault of a graph or of frames:
 /// `NAME: NoHeader`, `NAME: TwoHeaders`, `NAME: BadHeader NODE`, `NAME: TwoKinds <IRI>`, `NAME: Mixed _:LABEL`, and so with
-/// `BadList`, `Cycle`, `BadNode`, `MainMissing` and `Orphan`, `NAME: Reserved S P O` or `NAME: Untyped S P O`;
+/// `BadList`, `Cycle`, `BadNode`, `MainMissing` and `Orphan`, `NAME: Reserved S P O` or `NAME: Untyped S P O` of a graph, and
+/// `NAME: TwoKinds <IRI>`, `NAME: Untyped <IRI> at AT`, `NAME: WrongKind <IRI> at AT` or `NAME: WrongForm at AT` of frames;
 /// `typing: TwoKinds <IRI>`, `typing: Undeclared KIND <IRI>: ITEM` or `target: WHY: ITEM` for `Target`,
 /// `limit: COUNT: NAME` or `limit: COUNT: output` for `Limit`, `read: NAME` for `ReadFailed`, `write` for `WriteFailed` and
 /// `memory` for `Memory`.
 ///
 /// Each document that the words name is read, in their order, and the first that can't be is refused by its first defect;
 /// then imports are looked at, of the main document and of those that it reaches; then each of these is read under the kinds
-/// that they declare together (each of two that are compared under its own), and the first graph that says no ontology is
-/// refused; then, unless a document in Functional-Style Syntax is translated to it, whether what the main one says is well
-/// typed; then, for Turtle, whether it can be said. A check looks at all documents of the import closure, and tells each rule
-/// with each part that breaks it. A fault of `note` changes no status.
+/// that they declare together (each of two that are compared under its own), and the first graph or document of frames that
+/// says no ontology is refused; then, unless a document in Functional-Style Syntax is translated to it, whether what the main
+/// one says is well typed; then, for Turtle and Manchester Syntax, whether it can be said. A check looks at all documents of
+/// the import closure, and tells each rule with each part that breaks it. A fault of `note` changes no status.
 pub fn run<S: Shelf, O: Sink, N: Sink>(
     alloc: Global,
     words: &[String],

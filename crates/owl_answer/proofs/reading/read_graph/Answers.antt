@@ -1,7 +1,6 @@
-use Rattle.std.proofs.Common.{IfErr, Ok, Err, ◌≡◌, ◌∙◌, ap, sym, subst}
+use Rattle.std.proofs.Common.{◌∙◌}
 use Rattle.owl_documents.specs.Documents.{a_graph, graph_read_of}
 use Rattle.owl_messages.specs.Unsaid.{of_graph}
-use Rattle.owl_messages.specs.declared.unsaid.UnsaidFault.{UnsaidFault}
 use Rattle.owl_answer.proofs.Readings.{by_from, unsaid_graph}
 use Rattle.owl_answer.specs.Reading.{IsFaultUnder}
 use Rattle.owl_answer.proofs.reading.read_graph.Goals as goal

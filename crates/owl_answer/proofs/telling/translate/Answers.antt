@@ -15,3 +15,7 @@ returns-in-Fss c =
 pub returns-in-Ttl : goal.returns-in-Ttl
 returns-in-Ttl c =
     IfOk-weaker c.translate_in_turtle.result _ _ (λ (a : Answer) h documents parsed graph. subst (λ (target : Target). IsToldOfMain (Translate target) documents parsed c.args.kinds.now (said_of c.args.main.now) (outcome_of a)) (sym c.in-Ttl.is) (record { is = h.is; back = h.back })) c.translate_in_turtle.ensures
+
+pub returns-in-Omn : goal.returns-in-Omn
+returns-in-Omn c =
+    IfOk-weaker c.translate_to_manchester.result _ _ (λ (a : Answer) h documents parsed graph. subst (λ (target : Target). IsToldOfMain (Translate target) documents parsed c.args.kinds.now (said_of c.args.main.now) (outcome_of a)) (sym c.in-Omn.is) (record { is = h.is; back = h.back })) c.translate_to_manchester.ensures
