@@ -1,8 +1,8 @@
 #!/usr/bin/env bash
-# Times the translation of ontologies in Manchester Syntax, beside that of the same ontologies in
-# Functional-Style Syntax: bench/manchester.sh [PROGRAM], bin/owl if left out. RUNS is how often
-# each is translated, in turn, of which the best counts; 5 if it is not set. Both have to give the
-# same text. Behind them stand documents that a hand would not write (tools/make_hostile.py), each
+# Times the translation of ontologies from and to Manchester Syntax, beside that of the same ontologies
+# from and to Functional-Style Syntax: bench/manchester.sh [PROGRAM], bin/owl if left out. RUNS is how
+# often each is translated, in turn, of which the best counts; 5 if it is not set. Both have to give
+# the same text. Behind them stand documents that a hand would not write (tools/make_hostile.py), each
 # within LIMIT seconds of processor time, 60 if it is not set, and MEMORY kilobytes of address
 # space, 8000000 if it is not set; what they have so many of is divided by PART, 1 if it is not set.
 set -uo pipefail
@@ -36,22 +36,28 @@ write_documents() {
     }'
 }
 
-# Translates a document once, and keeps the time where it is the best so far.
+# Translates a document to a syntax once, and keeps the time where it is the best so far.
 run() {
-    local name=$1 seconds kilobytes
-    (cd "$room" && exec /usr/bin/time -f '%e %M' -o time "$program" translate --to fss "$name" >"$name.out" 2>note) ||
-        fail "$name: $(head -c 200 "$room/note")"
+    local name=$1 target=$2 way="$1 $2" seconds kilobytes
+    (cd "$room" && exec /usr/bin/time -f '%e %M' -o time "$program" translate --to "$target" "$name" >"$name.$target" 2>note) ||
+        fail "$way: $(head -c 200 "$room/note")"
     read -r seconds kilobytes <"$room/time"
-    if [[ -z ${best[$name]:-} ]] || awk "BEGIN { exit !($seconds < ${best[$name]}) }"; then
-        best[$name]=$seconds
+    if [[ -z ${best[$way]:-} ]] || awk "BEGIN { exit !($seconds < ${best[$way]}) }"; then
+        best[$way]=$seconds
     fi
-    memory_of[$name]=$kilobytes
+    memory_of[$way]=$kilobytes
 }
 
 show() {
-    awk -v name="$1" -v bytes="$(stat -c %s "$room/$1")" -v seconds="${best[$1]}" -v kilobytes="${memory_of[$1]}" 'BEGIN {
-        printf "%-6s %8.1f MB %8.2f s %8.1f MB of memory\n", name, bytes / 1000000, seconds, kilobytes / 1000
+    local way="$1 $2"
+    awk -v way="$way" -v taken="$(stat -c %s "$room/$1")" -v given="$(stat -c %s "$room/$1.$2")" -v seconds="${best[$way]}" -v kilobytes="${memory_of[$way]}" 'BEGIN {
+        printf "%-9s %8.1f MB to %8.1f MB %8.2f s %8.1f MB of memory\n", way, taken / 1000000, given / 1000000, seconds, kilobytes / 1000
     }'
+}
+
+# How many times as long one way takes as another one.
+ratio() {
+    awk -v what="$1" -v a="${best[$2]}" -v b="${best[$3]}" 'BEGIN { printf "%s: %.2f times\n", what, a / (b > 0 ? b : 0.01) }'
 }
 
 compare() {
@@ -59,14 +65,20 @@ compare() {
     best=() memory_of=()
     write_documents "$count"
     for ((i = 0; i < runs; i++)); do
-        run m.omn
-        run m.ofn
+        run m.omn fss
+        run m.ofn fss
+        run m.ofn omn
+        run m.omn omn
     done
-    cmp -s "$room/m.omn.out" "$room/m.ofn.out" || fail "the texts of $count classes differ"
+    cmp -s "$room/m.omn.fss" "$room/m.ofn.fss" || fail "the texts of $count classes differ"
+    cmp -s "$room/m.omn.omn" "$room/m.ofn.omn" || fail "the texts of $count classes in Manchester Syntax differ"
     printf '%d classes\n' "$count"
-    show m.omn
-    show m.ofn
-    awk -v a="${best[m.omn]}" -v b="${best[m.ofn]}" 'BEGIN { printf "%.2f times\n", a / (b > 0 ? b : 0.01) }'
+    show m.omn fss
+    show m.ofn fss
+    show m.ofn omn
+    show m.omn omn
+    ratio 'from Manchester Syntax' 'm.omn fss' 'm.ofn fss'
+    ratio 'to Manchester Syntax' 'm.ofn omn' 'm.ofn fss'
 }
 
 # hostile SHAPE COUNT WORD..: a line for a document of the shape.
@@ -104,5 +116,9 @@ hostile sections 500000 translate --to fss
 hostile frames 100000 translate --to fss
 hostile operands 500000 translate --to fss
 hostile prefixed_frames 100000 translate --to fss
+hostile parts 500000 translate --to omn
+hostile operands 500000 translate --to omn
+hostile prefixed_frames 100000 translate --to omn
+hostile links 16777209 translate --to omn
 hostile links 16777209 show
 hostile links 16777210 show

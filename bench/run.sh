@@ -4,7 +4,8 @@
 # each document is translated, of which the best counts; 3 if it is not set. A
 # document that takes more than LIMIT seconds is told so; 120 if it is not set.
 # SOURCES are the suffixes of the documents, and TARGETS the syntaxes that each is
-# translated to; "ofn ttl" and "fss ttl" if they are not set.
+# translated to; "ofn ttl" and "fss ttl" if they are not set. Both may have omn, in
+# which an annotation of a name that isn't declared can't be said.
 #
 # The times are those of /usr/bin/time, and K, M are thousands and millions.
 set -uo pipefail
@@ -127,14 +128,14 @@ measure() {
 show() {
     local source target
     for source in $sources; do
-        if [[ $source == ttl ]] && ! "$program" translate --to ttl "$room/$1.ofn" >"$room/$1.ttl" 2>"$room/note"; then
+        if [[ $source != ofn ]] && ! "$program" translate --to "$source" "$room/$1.ofn" >"$room/$1.$source" 2>"$room/note"; then
             continue
         fi
         for target in $targets; do
             show_target "$1" "$source" "$target" "${2:-none}"
         done
     done
-    rm -f -- "$room/$1.ofn" "$room/$1.ttl"
+    rm -f -- "$room/$1.ofn" "$room/$1.ttl" "$room/$1.omn"
 }
 
 show_target() {

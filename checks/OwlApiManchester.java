@@ -9,23 +9,50 @@ import org.semanticweb.owlapi.formats.PrefixDocumentFormatImpl;
 import org.semanticweb.owlapi.io.FileDocumentSource;
 import org.semanticweb.owlapi.model.IRI;
 import org.semanticweb.owlapi.model.MissingImportHandlingStrategy;
+import org.semanticweb.owlapi.model.OWLDocumentFormat;
 import org.semanticweb.owlapi.model.OWLEntity;
 import org.semanticweb.owlapi.model.OWLOntology;
 import org.semanticweb.owlapi.model.OWLOntologyManager;
 
 /**
- * Reads lines `read NAME` and `write NAME`, and prints a line for each: `done`, else `unread` and
- * why. What is to be read is in Manchester Syntax, and is written to NAME.ofn in Functional-Style
- * Syntax. What is to be written is of any syntax, and is written to NAME.omn in Manchester Syntax,
- * and to NAME.ofn with a declaration of each entity, as there is a frame of each.
+ * Reads lines `read NAME`, `again NAME` and `write NAME`, and prints a line for each: `done`, else
+ * `unread` and why. What is to be read is in Manchester Syntax, and is written to NAME.ofn in
+ * Functional-Style Syntax, and so is what is to be written again, which is in Functional-Style Syntax.
+ * What is to be written is of any syntax, and is written to NAME.omn in Manchester Syntax, and to
+ * NAME.ofn with a declaration of each entity, as there is a frame of each. Anonymous individuals of
+ * what is written again keep their labels.
  */
 public final class OwlApiManchester {
-    private static OWLOntology load(String name, boolean isManchester) throws Exception {
+    private static OWLOntology load(String name, OWLDocumentFormat format) throws Exception {
         OWLOntologyManager manager = OWLManager.createOWLOntologyManager();
         manager.getOntologyConfigurator().setMissingImportHandlingStrategy(MissingImportHandlingStrategy.SILENT);
-        return isManchester
-                ? manager.loadOntologyFromOntologyDocument(new FileDocumentSource(new File(name), new ManchesterSyntaxDocumentFormat()))
-                : manager.loadOntologyFromOntologyDocument(new File(name));
+        if (format == null) {
+            return manager.loadOntologyFromOntologyDocument(new File(name));
+        }
+        manager.getOntologyConfigurator().withRemapAllAnonymousIndividualsIds(false);
+        return manager.loadOntologyFromOntologyDocument(new FileDocumentSource(new File(name), format));
+    }
+
+    private static OWLDocumentFormat format(String word) {
+        switch (word) {
+            case "read":
+                return new ManchesterSyntaxDocumentFormat();
+            case "again":
+                return new FunctionalSyntaxDocumentFormat();
+            default:
+                return null;
+        }
+    }
+
+    /** What a parser met that it didn't expect, else the first line of the message. */
+    private static String why(String message) {
+        String[] lines = message.split("\n");
+        for (String line : lines) {
+            if (line.startsWith("Encountered ")) {
+                return line;
+            }
+        }
+        return lines[0];
     }
 
     private static void save(OWLOntology ontology, PrefixDocumentFormatImpl format, String name) throws Exception {
@@ -36,7 +63,7 @@ public final class OwlApiManchester {
 
     private static String answer(String word, String name) {
         try {
-            OWLOntology ontology = load(name, word.equals("read"));
+            OWLOntology ontology = load(name, format(word));
             if (word.equals("write")) {
                 save(ontology, new ManchesterSyntaxDocumentFormat(), name + ".omn");
                 for (OWLEntity entity : (Iterable<OWLEntity>) ontology.signature()::iterator) {
@@ -46,7 +73,7 @@ public final class OwlApiManchester {
             save(ontology, new FunctionalSyntaxDocumentFormat(), name + ".ofn");
             return "done";
         } catch (Exception | StackOverflowError error) {
-            return "unread " + error.getClass().getSimpleName() + " " + String.valueOf(error.getMessage()).split("\n")[0];
+            return "unread " + error.getClass().getSimpleName() + " " + why(String.valueOf(error.getMessage()));
         }
     }
 

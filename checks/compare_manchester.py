@@ -6,9 +6,10 @@ so many calls, 2000 if left out, each of a document in Manchester Syntax with up
 more, in any of the three syntaxes, that import each other. About half of them are
 damaged: a token is dropped, doubled, exchanged or put in, or a byte is changed. The
 program, bin/owl if left out, has to end with the status, the output and the line of the
-second reader, byte for byte. What reads is translated to Functional-Style Syntax and to
-Turtle, shown, checked in one of the profiles, and compared with itself in another spelling
-and with its translation; what doesn't is given to one of these commands.
+second reader, byte for byte. What reads is translated to each of the three syntaxes, to
+Manchester Syntax as the second writer does it, shown, checked in one of the profiles, and
+compared with itself in another spelling and with its translation; what doesn't is given to
+one of these commands.
 
 --only N makes the call with this number alone, and tells what it is. --dry runs no
 program, and tells what the second reader answers.
@@ -24,7 +25,8 @@ import subprocess
 import sys
 import tempfile
 
-from second_manchester import CHARACTERISTICS, DATATYPES, FACETS, FRAMES, KEYWORDS, MISC, PATTERNS, WORDS, XSD, outcome
+from second_manchester import CHARACTERISTICS, DATATYPES, FACETS, FRAMES, KEYWORDS, MISC, PATTERNS, WORDS, XSD
+from second_manchester_writer import outcome
 from second_writer import ENTITIES, FIXED
 
 TOP = os.path.dirname(os.path.dirname(os.path.abspath(__file__)))
@@ -445,7 +447,7 @@ PROFILES = ["dl", "el", "ql", "rl"]
 def commands(chance, texts, partial, document):
     """The commands that the documents are given to, each with its documents, and what has to come of it."""
     flag = ["--partial"] * partial
-    one_document = [["translate", "--to", "fss"], ["translate", "--to", "ttl"], ["show"], ["check", "--profile", chance.choice(PROFILES)]]
+    one_document = [["translate", "--to", target] for target in ("fss", "ttl", "omn")] + [["show"], ["check", "--profile", chance.choice(PROFILES)]]
     first = [*one_document[0], *flag]
     expected = outcome(first, texts)
     if expected[0] in (3, 5):

@@ -64,14 +64,25 @@ STEPS = [
         ],
     ),
     (
-        "The normal form",
-        "The normal form that an ontology has for a graph, and the first part of an ontology that no graph can say.",
-        ["rdf_normal.specs.NormalForms.normal_form", "rdf_sayable.specs.Sayable.IsFirstUnsayable"],
+        "Normal forms",
+        "The normal forms that an ontology has for a graph and for Manchester Syntax, and the first part of an ontology that"
+        " can't be said in one of them.",
+        [
+            "rdf_normal.specs.NormalForms.normal_form",
+            "rdf_sayable.specs.Sayable.IsFirstUnsayable",
+            "man_text.specs.Blocks.normal_form",
+            "man_sayable.specs.Sayable.IsFirstUnsayable",
+        ],
     ),
     (
         "What is written",
         "Which of the many graphs and texts that say an ontology is the one that is written.",
-        ["rdf_mapping.specs.Graphs.graph_of", "fss_write.specs.Text.text_of", "ttl_write.specs.Text.turtle_text"],
+        [
+            "rdf_mapping.specs.Graphs.graph_of",
+            "fss_write.specs.Text.text_of",
+            "ttl_write.specs.Text.turtle_text",
+            "man_text.specs.Text.manchester_text",
+        ],
     ),
     (
         "Refusals",

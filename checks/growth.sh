@@ -132,6 +132,13 @@ grows frames 2000 4000 omn 0 translate --to fss
 grows operands 2000 4000 omn 0 translate --to fss
 grows links 2000 4000 omn 0 translate --to fss
 grows prefixed_frames 200 400 omn 0 translate --to fss
+grows subjects 1000 2000 ofn 0 translate --to omn
+grows fronts 200 290 ofn 0 translate --to omn
+grows disjoint 200 400 ttl 0 translate --to omn
+grows parts 2000 4000 omn 0 translate --to omn
+grows operands 2000 4000 omn 0 translate --to omn
+grows links 2000 4000 omn 0 translate --to omn
+grows prefixed_frames 200 400 omn 0 translate --to omn
 
 echo "$passed passed, $failed failed"
 ((failed == 0))

@@ -37,6 +37,11 @@ nothing="${four}Ontology(
 "
 done_line='translated; axioms 0; absorbed 0
 '
+four_of_frames='Prefix: owl: <http://www.w3.org/2002/07/owl#>
+Prefix: rdf: <http://www.w3.org/1999/02/22-rdf-syntax-ns#>
+Prefix: rdfs: <http://www.w3.org/2000/01/rdf-schema#>
+Prefix: xsd: <http://www.w3.org/2001/XMLSchema#>
+'
 
 # What is in the folder, and in each file that can be read.
 listing() {
@@ -140,12 +145,17 @@ size=$(stat -c %s heavier.ofn)
     yes 'l:' | head -n 1400
     printf ') l:))'
 } >lengthy.ofn
+# The same properties, declared.
+sed 's/Ontology(/&Declaration(ObjectProperty(l:)) /' lengthy.ofn >declared.ofn
+printf 'Prefix(:=<http://e/>) Ontology(:k Declaration(ObjectProperty(:p)))' >kinds.ofn
+sed '1s/Ontology(/&Import(:k) /' heavy.ofn >typed.ofn
 # 4,200 axioms over one list of as many classes, half a megabyte.
 "$top/tools/make_hostile.py" disjoint_unions 4200 >shared.ttl
 mkdir folder.ofn
 cp m.ofn secret.ofn && chmod 000 secret.ofn
 mkfifo pipe.ofn
 cp "$top/examples/instruments.ofn" instruments.ofn
+cp "$top/examples/home.omn" home.omn
 [[ ${#as[@]} == 0 ]] || chown -R 65534:65534 .
 
 # --- Each status, with both streams.
@@ -162,6 +172,16 @@ _:gen1 rdf:type owl:Ontology .
 python3 "$top/checks/second_mapping.py" instruments.ofn >"$room/turtle" 2>"$room/line"
 call 'the example in Turtle' 0 "$room/turtle" "$(<"$room/line")
 " translate --to ttl instruments.ofn
+call 'an empty ontology in Manchester Syntax' 0 "${four_of_frames}Ontology:
+" "$done_line" translate --to omn m.ofn
+call 'a graph in Manchester Syntax' 0 "Prefix: : <http://e/>
+${four_of_frames}Ontology: <http://e/o>
+Class: :A
+" 'translated; axioms 1; absorbed 0
+' translate --to omn graph.ttl
+python3 "$top/checks/second_manchester_writer.py" translate --to omn home.omn >"$room/frames" 2>"$room/line"
+call 'the example in Manchester Syntax' 0 "$room/frames" "$(<"$room/line")
+" translate --to omn home.omn
 call 'an ontology is shown' 0 'ontology <http://e/o>
 version <http://e/v>
 imports 0
@@ -268,6 +288,15 @@ call 'a class is not declared' 4 '' 'typing: Undeclared Class <http://e/B>: SubC
 ' translate --to ttl a.ofn
 call 'a name is reserved' 4 '' 'target: Reserved <http://www.w3.org/2002/07/owl#Class>: Declaration(Class(<http://www.w3.org/2002/07/owl#Class>))
 ' translate --to ttl reserved.ofn
+call 'a reserved name in Manchester Syntax' 0 "${four_of_frames}Ontology:
+Class: owl:Class
+" 'translated; axioms 1; absorbed 0
+' translate --to omn reserved.ofn
+call 'a class is not declared, for Manchester Syntax' 4 '' 'typing: Undeclared Class <http://e/B>: SubClassOf(<http://e/A> <http://e/B>)
+' translate --to omn a.ofn
+python3 "$top/checks/second_manchester_writer.py" translate --to omn instruments.ofn 2>"$room/line"
+call 'the example has a subclass without a name' 4 '' "$(<"$room/line")
+" translate --to omn instruments.ofn
 call 'a graph is translated' 0 "Prefix(:=<http://e/>)
 ${four}Ontology(<http://e/o>
 Declaration(Class(:A))
@@ -317,6 +346,10 @@ call 'a weight of 2^24 + 1, and a name too many behind it' 3 '' "crooked.ofn: it
 " show crooked.ofn
 call 'breaches of more than 2^27 bytes' 5 '' 'limit: OutputBytes: output
 ' check --profile dl lengthy.ofn
+call 'frames of more than 2^27 bytes' 5 '' 'limit: OutputBytes: output
+' translate --to omn declared.ofn
+call 'a weight of 2^24, and a declaration that frames have' 5 '' 'limit: Weight: output
+' translate --to omn typed.ofn kinds.ofn
 call '2^27 + 1 bytes' 5 '' 'limit: DocumentBytes: big.ofn
 ' translate --to fss big.ofn
 call '2^27 bytes' 0 "$nothing" "$done_line" translate --to fss full.ofn

@@ -105,6 +105,15 @@ def fronts(count):
     yield ")\n"
 
 
+def subjects(count):
+    """So many classes, each with a label, a comment, and an individual that is not declared."""
+    yield "Prefix(:=<http://e/>) Ontology(:o\n"
+    for i in range(count):
+        yield f'Declaration(Class(:A{i:07})) AnnotationAssertion(rdfs:label :A{i:07} "a") AnnotationAssertion(rdfs:comment :A{i:07} "b")\n'
+        yield f"ClassAssertion(:A{i:07} :i{i:07})\n"
+    yield ")\n"
+
+
 def bases(count):
     """Bases, each below the one before."""
     yield HEAD
@@ -208,7 +217,7 @@ SHAPES = {
     shape.__name__: shape
     for shape in (
         letters, letters_and_dots, words_and_dots, words, name_and_dots,
-        doublings, complements, tails, disjoint, disjoint_unions, noted_disjoint, fronts, bases, repeats, open_list,
+        doublings, complements, tails, disjoint, disjoint_unions, noted_disjoint, fronts, subjects, bases, repeats, open_list,
         open_brackets, complements_in_a_row, commas, facets, parts, sections, frames, operands, links, prefixed_frames,
     )
 }
