@@ -6,7 +6,7 @@ ghost use Rattle.owl_port.specs.Outside.{Rose, raised};
 ghost use Rattle.owl_cli.specs.Stream.{fresh};
 
 use owl_port::{Failed, Sink};
-use std::io::Write;
+use std::io::{self, ErrorKind, Write};
 use std::marker::Model;
 
 /// A writer, such as standard output, with a count of faults.
@@ -46,7 +46,7 @@ impl<W: Write + Drop> Sink for StdSink<W> {
     ghost faults = { λ s. s.faults };
 
     /// One write of the piece. A write that fails, or that takes nothing, is
-    /// counted.
+    /// counted; one that a signal cut short is done once more.
     fn put(&mut self, piece: &[u8]) -> Result<usize, Failed>
         requires { 0 < length piece.now }
         ensures some { IfOk result (λ n. 0 < n) }
@@ -59,7 +59,7 @@ impl<W: Write + Drop> Sink for StdSink<W> {
         ensures faults { self.old.faults ≤ self.new.faults }
         ensures cause { OnErr result (Rose self.old.faults self.new.faults) }
     {
-        match self.writer.write(piece) {
+        match write_retrying(&mut self.writer, piece) {
             Ok(count) if count > 0 => Ok(count),
             _ => {
                 self.faults = self.faults.saturating_add(1);
@@ -67,4 +67,18 @@ impl<W: Write + Drop> Sink for StdSink<W> {
             }
         }
     }
+}
+
+/// A write, once more where a signal cut it short.
+fn write_retrying<W: Write>(writer: &mut W, piece: &[u8]) -> io::Result<usize>
+    ensures bound { IfOk result (λ n. n ≤ length piece.now) }
+    ensures bytes { WriteAppends (W.contents writer.old) (W.contents writer.new) result piece.now }
+{
+    for _ in 0..u64::MAX {
+        match writer.write(piece) {
+            Err(error) if error.kind() == ErrorKind::Interrupted => {}
+            answer => return answer,
+        }
+    }
+    Err(io::Error::from(ErrorKind::Interrupted))
 }
