@@ -288,11 +288,11 @@ def job(program, seed, numbers):
 # Why it doesn't read a text: the section up to what it didn't expect, what that is, and the reason
 NAME = r"(?:[\w.-]*:[\w-]+|<[^<>]*>)"
 UNREAD = [
-    (r".*(?:rdfs:label|rdfs:comment|:n|<http://e/n>)", rf"{NAME}|_:.*", "an annotation has a value that is a label, or a name that isn't written in full (2.2)"),
+    (r".*(?:rdfs:label|rdfs:comment|rdf:nil|:n|<http://e/n>)", rf"{NAME}|_:.*", "an annotation has a value that is a label, or a name that isn't written in full (2.2)"),
     (r"    (?:Domain|Range):(?: Annotations: .*)?", NAME, "an annotation property has a domain or range that isn't written in full (2.5)"),
     (r"    HasKey: .*", rf"{NAME}|inverse", "there are no commas between the properties of a key, which has none (2.5)"),
     (r"    EquivalentTo: Annotations: .*", r".*", "annotations stand in front of the range of a datatype (2.5)"),
-    (r".* value", r"_:.*", "an anonymous individual is the value of a restriction (2.4)"),
+    (r".* value(?: _)?", r"_?:.*", "an anonymous individual is the value of a restriction (2.4)"),
     (r".*", r"owl:\w+", "a name that is built in is not declared"),
     (r".*\^<?", NAME, "the datatype of a literal is not declared"),
     (r".*", r"[\w.-]*:[ijkA]|<http://e/(?:s/)?[ijkA]>", "an individual is not declared"),
@@ -314,15 +314,29 @@ def why_unread(answer, text):
     return next(fits, f"not known: {section} <<>> {told[1]}")
 
 
-def trees_of(name, labels, fillers):
+# A union or an intersection of one name alone
+ALONE = re.compile(r"(?:Object|Data)(?:Union|Intersection)Of\(([^\s()]+) \1\)")
+
+SAME_BUT = [
+    (False, False, "the same"),
+    (True, False, "the same, but a cardinality of a union or intersection of owl:Thing or rdfs:Literal alone has no filler"),
+    (False, True, "the same, but a union or intersection of one name alone within another is that name"),
+]
+
+
+def trees_of(name, labels, fillers, alone):
     """What the OWL API wrote of a document, with line feeds for carriage returns, and these labels for those that it gives.
-    It writes a comment in front of what there is of a name, in which a label may end the line."""
+    It writes a comment in front of what there is of a name, in which a label may end the line. Where they are to be left
+    out, cardinalities have no fillers that say nothing, and a union or an intersection of one name alone is that name."""
     with open(name, encoding="utf-8", newline="") as file:
         text = re.sub(r"(?m)^# [A-Z][A-Za-z ]+: [\s\S]*?\n\n", "", file.read().replace("\r", "\n"))
     given = sorted(set(re.findall(r"_:(genid\d+)", text)), key=lambda it: int(it[5:]))
     names = dict(zip(given, labels))
     text = re.sub(r"_:(genid\d+)", lambda it: "_:" + names.get(it[1], it[1]), text)
-    return Trees(text if fillers else manchester_api.FILLERS.sub(r"\1)", text)).document()
+    text = manchester_api.FILLERS.sub(r"\1)", text) if fillers else text
+    while alone and ALONE.search(text):
+        text = ALONE.sub(r"\1", text)
+    return Trees(text).document()
 
 
 def how_read(name, frames):
@@ -331,8 +345,8 @@ def how_read(name, frames):
     with open(f"{name}.ofn.ofn", encoding="utf-8", newline="") as file:
         text = file.read()
     labels = [it for it in labels if f"_:{it} " in text or f"_:{it})" in text]
-    for fillers, told in ((True, "the same"), (False, "the same, but a cardinality of a union or intersection of owl:Thing or rdfs:Literal alone has no filler")):
-        if trees_of(f"{name}.omn.ofn", labels, fillers) == trees_of(f"{name}.ofn.ofn", [], fillers):
+    for fillers, alone, told in SAME_BUT:
+        if trees_of(f"{name}.omn.ofn", labels, fillers, alone) == trees_of(f"{name}.ofn.ofn", [], fillers, alone):
             return told
     return "not known: another ontology"
 
