@@ -31,6 +31,7 @@ import subprocess
 import sys
 import tempfile
 
+import compare_manchester
 import manchester_api
 import mapping
 import second_manchester
@@ -273,16 +274,6 @@ def agrees(program, seed, number, counts, tell=False):
             return
 
 
-def job(program, seed, numbers):
-    counts = collections.Counter()
-    with tempfile.TemporaryDirectory() as room:
-        os.chdir(room)
-        for number in numbers:
-            agrees(program, seed, number, counts)
-        os.chdir(TOP)
-    return counts
-
-
 # The OWL API
 
 # Why it doesn't read a text: the section up to what it didn't expect, what that is, and the reason
@@ -404,8 +395,8 @@ def main():
             print(f"{number:6} {name}")
         return any("not known" in it for it in counts)
     with multiprocessing.Pool(given.jobs) as pool:
-        parts = [(program, given.seed, range(place, given.count, given.jobs)) for place in range(given.jobs)]
-        counts = sum(pool.starmap(job, parts), collections.Counter())
+        parts = [(agrees, program, given.seed, range(place, given.count, given.jobs)) for place in range(given.jobs)]
+        counts = sum(pool.starmap(compare_manchester.job, parts), collections.Counter())
     print(f"{given.count} ontologies, {counts.pop('translations')} translations, {counts['answered in two ways']} ontologies answered in two ways")
     for name, number in sorted(counts.items()):
         print(f"{number:6} {name}")

@@ -500,7 +500,8 @@ def agrees(program, seed, number, counts, tell=False):
             return
 
 
-def job(program, seed, numbers):
+def job(agrees, program, seed, numbers):
+    """Counts what comes of the calls with these numbers, in a folder of its own."""
     counts = collections.Counter()
     with tempfile.TemporaryDirectory() as room:
         os.chdir(room)
@@ -524,7 +525,7 @@ def main():
             counts = collections.Counter()
             agrees(program, given.seed, given.only, counts, True)
         return counts["answered in two ways"] > 0
-    parts = [(program, given.seed, range(job, given.count, given.jobs)) for job in range(given.jobs)]
+    parts = [(agrees, program, given.seed, range(place, given.count, given.jobs)) for place in range(given.jobs)]
     if given.jobs == 1:
         counts = job(*parts[0])
     else:

@@ -1002,7 +1002,7 @@ def outcome(words, texts):
 sys.setrecursionlimit(20000)
 
 
-def main(words):
+def main(words, outcome=outcome):
     named = [word for word in words if word[-4:] in SYNTAXES]
     texts = []
     for name in named:

@@ -251,17 +251,5 @@ def outcome(words, texts):
         return status, "", line
 
 
-def main(words):
-    named = [word for word in words if word[-4:] in second_manchester.SYNTAXES]
-    texts = []
-    for name in named:
-        with open(name, "rb") as file:
-            texts.append((name, file.read()))
-    status, output, line = outcome(words[: len(words) - len(named)], texts)
-    sys.stdout.buffer.write(output.encode())
-    print(line, file=sys.stderr)
-    return status
-
-
 if __name__ == "__main__":
-    sys.exit(main(sys.argv[1:]))
+    sys.exit(second_manchester.main(sys.argv[1:], outcome))
