@@ -6,8 +6,9 @@ does not tell which alternative of a rule to take.
 
 make_grammar.py GRAMMAR NAME CRATE DEFINITION MODULE writes the table: as the definition
 NAME in specs/DEFINITION.antt of the crate, a function in src/MODULE.rt, and what its
-proof wants. With --check in front nothing is written: it fails where a file is not
-what would be written.
+proof wants. The entries of a long table stand in files of their own, DEFINITION1.antt and
+so on. With --check in front nothing is written: it fails where a file is not what would
+be written.
 
 A grammar is lines `rule ::= alternative | alternative`. `%` derives nothing, `@x` is an
 act, a word with a small first letter a rule, any other a class of tokens. A line that
@@ -24,6 +25,7 @@ import sys
 
 END = 127
 LONGEST = 100
+MOST_RULES = 50  # in a file
 
 
 class Grammar:
@@ -177,24 +179,23 @@ class Table:
     def entries(self, name):
         return [f"{name}_{rule}" for rule in self.grammar.rules]
 
-    def definition(self, name):
+    def files(self, name, definition):
+        """The entries of the table by the file that they stand in."""
         entries = self.entries(name)
-        text = """-- The table of a grammar; `tools/make_grammar.py` made it.
-use Rattle.std.specs.Prelude.{◌≡◌, ℕ, ◌≤◌, true, false, List, [], ◌∷◌, refl}
-use Rattle.grammar.proofs.GrammarLaws.{beyond}
-use Rattle.grammar.specs.Grammars.{Entry, entry}
-use Rattle.grammar.specs.Predicting.{is_predictive, is_productive}
-use Rattle.grammar.specs.declared.symbol.Symbol.TheVariants.{Act, Need, Rule}
-"""
-        for rule, entry in enumerate(entries):
-            rows = "\n      ∷ ".join(
-                f"record {{ mask = {hex(bits(mask))}; symbols = {listed(row)} }}"
-                for mask, row in zip(self.masks[rule], self.rows[rule])
-            )
-            text += f"""
+        if len(entries) <= MOST_RULES:
+            return {definition: entries}
+        starts = range(0, len(entries), MOST_RULES)
+        return {f"{definition}{k}": entries[start : start + MOST_RULES] for k, start in enumerate(starts, 1)}
+
+    def entry(self, name, rule):
+        rows = "\n      ∷ ".join(
+            f"record {{ mask = {hex(bits(mask))}; symbols = {listed(row)} }}"
+            for mask, row in zip(self.masks[rule], self.rows[rule])
+        )
+        return f"""
 {self.comment("--", rule)}
-unfoldable pub {entry} : Entry
-{entry} = record {{
+unfoldable pub {name} : Entry
+{name} = record {{
   rows =
       {rows}
       ∷ [];
@@ -205,7 +206,32 @@ unfoldable pub {entry} : Entry
   rank = {self.rank[rule]};
 }}
 """
-        text += f"""
+
+    def entries_in(self, name, entries):
+        every = self.entries(name)
+        return "".join(self.entry(it, every.index(it)) for it in entries)
+
+    def rules(self, name, entries):
+        return f"""-- Rules of a grammar as entries of its table; `tools/make_grammar.py` made it.
+use Rattle.std.specs.Prelude.{{true, false, [], ◌∷◌}}
+use Rattle.grammar.specs.Grammars.{{Entry}}
+use Rattle.grammar.specs.declared.symbol.Symbol.TheVariants.{{Act, Need, Rule}}
+{self.entries_in(name, entries)}"""
+
+    def definition(self, name, crate, definition):
+        entries = self.entries(name)
+        files = self.files(name, definition)
+        own = definition in files
+        uses = "" if own else "".join(
+            f"use Rattle.{crate}.specs.{file}.{{{', '.join(some)}}}\n" for file, some in files.items()
+        )
+        symbols = "use Rattle.grammar.specs.declared.symbol.Symbol.TheVariants.{Act, Need, Rule}\n" if own else ""
+        text = f"""-- The table of a grammar; `tools/make_grammar.py` made it.
+use Rattle.std.specs.Prelude.{{◌≡◌, ℕ, ◌≤◌, true, {"false, " if own else ""}List, [], ◌∷◌, refl}}
+use Rattle.grammar.proofs.GrammarLaws.{{beyond}}
+use Rattle.grammar.specs.Grammars.{{Entry, entry}}
+use Rattle.grammar.specs.Predicting.{{is_predictive, is_productive}}
+{symbols}{uses}{self.entries_in(name, entries) if own else ""}
 unfoldable pub {name} : List Entry
 {name} =
     {" ∷ ".join([*entries, "[]"])}
@@ -223,7 +249,10 @@ unfolding {test} {name} {" ".join(entries)}
         return text
 
     def rust(self, name, crate, definition):
-        unfolding = ", ".join(f"crate::specs::{definition}::{entry}" for entry in [name, *self.entries(name)])
+        files = {definition: [name], **self.files(name, definition)}
+        if definition in self.files(name, definition):
+            files[definition] = [name, *files[definition]]
+        unfolding = ", ".join(f"crate::specs::{file}::{it}" for file, some in files.items() for it in some)
         arms, indent = "", " " * 8
         for rule, rows in enumerate(self.rows):
             arms += f"        {self.comment('//', rule, indent)}\n        {rule} => &[\n"
@@ -302,7 +331,10 @@ def main():
     if len(words) == 5:
         name, folder, definition, module = words[1:]
         crate = os.path.basename(os.path.abspath(folder))
-        write(f"{folder}/specs/{definition}.antt", table.definition(name), check)
+        for file, entries in table.files(name, definition).items():
+            if file != definition:
+                write(f"{folder}/specs/{file}.antt", table.rules(name, entries), check)
+        write(f"{folder}/specs/{definition}.antt", table.definition(name, crate, definition), check)
         write(f"{folder}/src/{module}.rt", table.rust(name, crate, definition), check)
         write(f"{folder}/proofs/{module}/rows/Answers.antt", table.answers(name, crate, definition, module), check)
     rows = [row for rows in table.rows for row in rows]

@@ -16,7 +16,7 @@ import re
 import sys
 
 sys.path.insert(0, os.path.dirname(os.path.abspath(__file__)))
-from make_grammar import Grammar, write
+from make_grammar import Grammar, Table, write
 
 WIDTH = 118
 
@@ -380,13 +380,15 @@ manchester_page = grammar_of page
 
 
 def page_table(names):
-    entries = [f"manchester_{it}" for it in names.grammar.rules]
+    files = Table(names.grammar).files("manchester", "Table")
+    entries = [it for some in files.values() for it in some]
+    uses = "".join(f"use Rattle.man_grammar.specs.{file}.{{{', '.join(some)}}}\n" for file, some in files.items())
     return f"""-- The table of Manchester Syntax has the alternatives of its page; `tools/make_page.py` made it.
 use Rattle.std.proofs.Common.{{refl}}
 use Rattle.grammar.specs.Pages.{{IsTableOf}}
 use Rattle.man_grammar.specs.Page.{{page}}
-use Rattle.man_grammar.specs.Table.{{manchester, {", ".join(entries)}}}
-
+use Rattle.man_grammar.specs.Table.{{manchester}}
+{uses}
 pub stands_for_page : IsTableOf page manchester
 unfolding manchester {" ".join(entries)}
 stands_for_page = record {{ lists = refl; numbers = refl }}

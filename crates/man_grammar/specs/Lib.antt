@@ -2,6 +2,8 @@ pub mod ClassNumbers
 pub mod Classes
 pub mod Acts
 pub mod Page
+pub mod Table1
+pub mod Table2
 pub mod Table
 pub mod States
 pub mod Runs
