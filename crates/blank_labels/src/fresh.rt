@@ -1,6 +1,6 @@
 //! Labels for blank nodes that have none.
 
-ghost use Rattle.std.specs.Prelude.{◌≡◌, ◌+◌, ◌∷◌, [], IfOk, IfSome, OnOk};
+ghost use Rattle.std.specs.Prelude.{◌≡◌, ◌+◌, ◌∷◌, [], IfOk, IfSome, OnErr, OnOk};
 ghost use Rattle.blank_labels.specs.FreshLabels.{passing};
 ghost use Rattle.blank_labels.specs.LabelNumbers.{Counts, arranged, names_beside, no_numbers};
 
@@ -39,14 +39,15 @@ impl LabelNumbers {
         }
     }
 
-    /// Counts a label.
+    /// Counts a label. At want of memory the numbers stay as they were.
     pub fn count(&mut self, label: &Label) -> Result<(), NoMemory>
-        ensures { OnOk result (Counts self.old self.new (label.now ∷ [])) }
+        ensures ok { OnOk result (Counts self.old self.new (label.now ∷ [])) }
+        ensures err { OnErr result (self.new ≡ self.old) }
     {
-        self.greatest = self.greatest.max(label_number(label));
         if let Some(number) = far_number(label) {
             self.far.push(number).map_err(AllocError::from)?;
         }
+        self.greatest = self.greatest.max(label_number(label));
         Ok(())
     }
 
