@@ -1,6 +1,6 @@
 //! The events of a whole sentence, or its first wrong token.
 
-ghost use Rattle.std.specs.Prelude.{◌≡◌, List, ℕ, [], ◌∷◌, ◌++◌, length, map, None, OnOk, IfOk, IfErr};
+ghost use Rattle.std.specs.Prelude.{◌≡◌, List, ℕ, [], ◌∷◌, ◌++◌, length, map, None, OnErr, OnOk, IfOk, IfErr};
 ghost use Rattle.grammar.specs.Derivations.Event.{Do};
 ghost use Rattle.grammar.specs.Feeding.{DefectAt};
 ghost use Rattle.grammar.specs.Parsing.{Refuses, expects};
@@ -126,11 +126,8 @@ fn feed_whole(
     }
 }
 
-/// The events of an item whose tokens are of these classes.
-///
-/// `Unexpected` comes exactly where the tokens are no item, with the place of
-/// the first wrong one, or of the end.
-pub fn parse(alloc: Global, classes: &[u8], events: &mut Vec<Event>) -> Result<(), Refusal>
+/// Adds the events of an item whose tokens are of these classes.
+fn add_events(alloc: Global, classes: &[u8], events: &mut Vec<Event>) -> Result<(), Refusal>
     requires { events.old.items ≡ [] }
     ensures whole { OnOk result (IsSentence classes.now (events_seen events.new.items)) }
     ensures wrong { IfErr result (λ refusal. refusal.fault ≡ Unexpected →
@@ -143,5 +140,25 @@ pub fn parse(alloc: Global, classes: &[u8], events: &mut Vec<Event>) -> Result<(
             fault: ParseFault::Memory,
             place: 0,
         }),
+    }
+}
+
+/// The events of an item whose tokens are of these classes; none where this refuses.
+///
+/// `Unexpected` comes exactly where the tokens are no item, with the place of
+/// the first wrong one, or of the end.
+pub fn parse(alloc: Global, classes: &[u8], events: &mut Vec<Event>) -> Result<(), Refusal>
+    requires { events.old.items ≡ [] }
+    ensures whole { OnOk result (IsSentence classes.now (events_seen events.new.items)) }
+    ensures wrong { IfErr result (λ refusal. refusal.fault ≡ Unexpected →
+        DefectAt items start classes.now refusal.place) }
+    ensures err { OnErr result (events.new.items ≡ events.old.items) }
+{
+    match add_events(alloc, classes, events) {
+        Ok(()) => Ok(()),
+        Err(refusal) => {
+            events.clear();
+            Err(refusal)
+        }
     }
 }

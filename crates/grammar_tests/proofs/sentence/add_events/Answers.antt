@@ -1,6 +1,6 @@
 -- A fresh parser was fed nothing.
 use Rattle.grammar_tests.proofs.Feeding.{fed_nothing_yet, item_is_a_rule}
-use Rattle.grammar_tests.proofs.sentence.parse.Goals as goal
+use Rattle.grammar_tests.proofs.sentence.add_events.Goals as goal
 
 pub new-requires : goal.new-requires
 new-requires c = item_is_a_rule
