@@ -1,25 +1,30 @@
 //! Texts that came of a row, beside those that are wanted.
 
-use std::alloc::AllocError;
-use std::fmt::Write;
+ghost use Rattle.std.specs.Prelude.{◌≡◌, OnErr, string_bytes};
+ghost use Rattle.std.specs.Io.{StartsWith};
 
-/// Tells of a text that is not as wanted, by its first line that isn't. Where
-/// nothing is wanted, it has to be empty.
+use std::alloc::AllocError;
+
+/// Tells of a text that is not as wanted, by its first line that isn't, behind what
+/// was told before. Where nothing is wanted, it has to be empty.
 pub fn compare_texts(
     what: &str,
     came: &[u8],
     wanted: &Option<Vec<u8>>,
     report: &mut String,
-) -> Result<(), AllocError> {
+) -> Result<(), AllocError>
+    ensures kept { StartsWith (string_bytes report.new) (string_bytes report.old) }
+    ensures err { OnErr result (string_bytes report.new ≡ string_bytes report.old) }
+{
     let wanted = bytes_or_none(wanted);
     if came == wanted {
         return Ok(());
     }
     let (number, came, wanted) = first_difference(text_of(came), text_of(wanted));
-    writeln!(
-        report,
-        "line {number} of the {what} is {came:?}, and not {wanted:?}"
-    )
+    let line = format!(in *report.allocator();
+        "line {number} of the {what} is {came:?}, and not {wanted:?}\n"
+    )?;
+    report.push_str(line.as_str())
 }
 
 fn bytes_or_none(text: &Option<Vec<u8>>) -> &[u8] {

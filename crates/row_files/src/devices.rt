@@ -1,6 +1,6 @@
 //! What a row sets at the shelf and at the sinks.
 
-ghost use Rattle.std.specs.Prelude.{◌<◌};
+ghost use Rattle.std.specs.Prelude.{◌≡◌, ◌<◌};
 
 use crate::fault::RowFault;
 use crate::line::{number_of, set};
@@ -51,8 +51,11 @@ impl Devices {
         }
     }
 
-    /// Has a shelf give what is said of reads.
-    pub fn set_shelf(self, shelf: &mut MemShelf) {
+    /// Has a shelf give what is said of reads. Its documents stay.
+    pub fn set_shelf(self, shelf: &mut MemShelf)
+        ensures documents { shelf.new.documents ≡ shelf.old.documents }
+        ensures made { shelf.new.made ≡ shelf.old.made }
+    {
         shelf.piece(size_of(self.piece));
         shelf.fail_at(call_of(self.fail_read));
     }
