@@ -17,8 +17,8 @@ use std::marker::Model;
 /// The front of a text, of at most 2^27 bytes. Contracts see its characters.
 ///
 /// Each call answers `TooLong` only where the text would pass the limit with what was to be added, and `Memory` where memory
-/// runs out. What is refused by `add`, `add_ascii` or `push` leaves the text as it was; of what adds several parts, some may
-/// have been added.
+/// runs out. What is refused by `add`, `add_ascii` or `push` leaves the text as it was; where what adds several parts is refused, some
+/// of them may stand behind the text that was there.
 #[derive(Debug, Drop)]
 pub struct Draft {
     alloc: Global,

@@ -1,6 +1,7 @@
 //! How IRIs, labels and the ends of literals are written.
 
 ghost use Rattle.std.specs.Prelude.{◌≡◌, ◌++◌, ℕ, List, codes, length, None, OnOk, IsErrOf};
+ghost use Rattle.std.specs.Io.{StartsWith};
 ghost use Rattle.std.specs.Str.{IsCharBoundary, chars, encode_utf8_all};
 ghost use Rattle.owl_atom.specs.Prefixes.{Shortens};
 ghost use Rattle.rdf_terms.specs.Literals.{string};
@@ -23,6 +24,7 @@ impl Draft {
     pub fn add_full_iri(&mut self, iri: &Iri) -> Result<(), WriteFault>
         ensures ok { OnOk result (self.new ≡ self.old ++ full_iri iri.now) }
         ensures too_long { IsErrOf result WriteFault.TooLong → IsTooLong (self.old ++ full_iri iri.now) }
+        ensures kept { StartsWith self.new self.old }
     {
         self.add_ascii("<")?;
         self.add(iri.text())?;
@@ -33,6 +35,7 @@ impl Draft {
     pub fn add_iri(&mut self, prefixes: &Prefixes, iri: &Iri) -> Result<(), WriteFault>
         ensures ok { OnOk result (self.new ≡ self.old ++ iri_text prefixes.now iri.now) }
         ensures too_long { IsErrOf result WriteFault.TooLong → IsTooLong (self.old ++ iri_text prefixes.now iri.now) }
+        ensures kept { StartsWith self.new self.old }
     {
         // The names of a table ascend.
         prefixes.len();
@@ -55,6 +58,7 @@ impl Draft {
         requires boundary { IsCharBoundary (encode_utf8_all iri.now) begin }
         ensures ok { OnOk result (self.new ≡ self.old ++ iri_text prefixes.now iri.now) }
         ensures too_long { IsErrOf result WriteFault.TooLong → IsTooLong (self.old ++ iri_text prefixes.now iri.now) }
+        ensures kept { StartsWith self.new self.old }
     {
         prefixes.len();
         let (name, _) = prefixes.at(place);
@@ -66,6 +70,7 @@ impl Draft {
     fn add_name(&mut self, prefix: &str, local: &str) -> Result<(), WriteFault>
         ensures ok { OnOk result (self.new ≡ self.old ++ (chars prefix.now ++ (codes ":" ++ chars local.now))) }
         ensures too_long { IsErrOf result WriteFault.TooLong → IsTooLong (self.old ++ (chars prefix.now ++ (codes ":" ++ chars local.now))) }
+        ensures kept { StartsWith self.new self.old }
     {
         self.add(prefix)?;
         self.add_ascii(":")?;
@@ -77,6 +82,7 @@ impl Draft {
     pub fn add_label(&mut self, label: &Label) -> Result<(), WriteFault>
         ensures ok { OnOk result (self.new ≡ self.old ++ label_text label.now) }
         ensures too_long { IsErrOf result WriteFault.TooLong → IsTooLong (self.old ++ label_text label.now) }
+        ensures kept { StartsWith self.new self.old }
     {
         self.add_ascii("_:")?;
         self.add(label.text())
@@ -91,6 +97,7 @@ impl Draft {
     ) -> Result<(), WriteFault>
         ensures ok { OnOk result (self.new ≡ self.old ++ literal_end prefixes.now literal.now.datatype literal.now.tag) }
         ensures too_long { IsErrOf result WriteFault.TooLong → IsTooLong (self.old ++ literal_end prefixes.now literal.now.datatype literal.now.tag) }
+        ensures kept { StartsWith self.new self.old }
     {
         match literal.tag() {
             Some(tag) => self.add_tag(tag),
@@ -103,6 +110,7 @@ impl Draft {
     fn add_tag(&mut self, tag: &str) -> Result<(), WriteFault>
         ensures ok { OnOk result (self.new ≡ self.old ++ (codes "@" ++ chars tag.now)) }
         ensures too_long { IsErrOf result WriteFault.TooLong → IsTooLong (self.old ++ (codes "@" ++ chars tag.now)) }
+        ensures kept { StartsWith self.new self.old }
     {
         self.add_ascii("@")?;
         self.add(tag)
@@ -113,6 +121,7 @@ impl Draft {
     fn add_datatype(&mut self, prefixes: &Prefixes, datatype: &Iri) -> Result<(), WriteFault>
         ensures ok { OnOk result (self.new ≡ self.old ++ literal_end prefixes.now datatype.now None) }
         ensures too_long { IsErrOf result WriteFault.TooLong → IsTooLong (self.old ++ literal_end prefixes.now datatype.now None) }
+        ensures kept { StartsWith self.new self.old }
     {
         if is_string(datatype) {
             return Ok(());
