@@ -1,6 +1,6 @@
 //! Items, while a document is read.
 
-ghost use Rattle.std.specs.Prelude.{◌≡◌, reverse, OnOk};
+ghost use Rattle.std.specs.Prelude.{◌≡◌, reverse, OnErr, OnOk};
 ghost use Rattle.man_raw.specs.Listed.{begun_item, in_section, items_with, named_item, nothing_listed, with_part};
 
 use crate::document::{RawItem, RawPart};
@@ -44,9 +44,11 @@ impl Listed {
         }
     }
 
-    /// Begins an item whose keyword stands at this byte.
+    /// Begins an item whose keyword stands at this byte. At want of memory nothing
+    /// changes.
     pub fn begin_item(&mut self, at: u64, heading: Heading) -> Result<(), AllocError>
-        ensures { OnOk result (self.new ≡ begun_item at heading self.old) }
+        ensures ok { OnOk result (self.new ≡ begun_item at heading self.old) }
+        ensures err { OnErr result (self.new ≡ self.old) }
     {
         let item = RawItem {
             at,
@@ -59,15 +61,14 @@ impl Listed {
         Ok(())
     }
 
-    /// Says what the last item is of.
-    pub fn name_item(&mut self, name: Option<Raw>) -> Result<(), AllocError>
-        ensures { OnOk result (self.new ≡ named_item name self.old) }
+    /// Says what the last item is of. Takes no memory.
+    pub fn name_item(&mut self, name: Option<Raw>)
+        ensures { self.new ≡ named_item name self.old }
     {
         if let Some(mut item) = self.items.pop() {
             item.name = name;
-            self.items.push(item)?;
+            self.items.push(item).unwrap();
         }
-        Ok(())
     }
 
     /// Begins a section.
@@ -77,9 +78,10 @@ impl Listed {
         self.section = section;
     }
 
-    /// Adds a part of the section to the last item.
+    /// Adds a part of the section to the last item. At want of memory nothing changes.
     pub fn add_part(&mut self, pair: Option<Annotated>) -> Result<(), AllocError>
-        ensures { OnOk result (self.new ≡ with_part pair self.old) }
+        ensures ok { OnOk result (self.new ≡ with_part pair self.old) }
+        ensures err { OnErr result (self.new ≡ self.old) }
     {
         if let Some(Annotated { at, notes, body }) = pair {
             self.push_part(RawPart {
@@ -94,11 +96,13 @@ impl Listed {
 
     /// Adds a part to the last item.
     fn push_part(&mut self, part: RawPart) -> Result<(), AllocError>
-        ensures { OnOk result (self.new ≡ record self.old { items = items_with part self.old.items }) }
+        ensures ok { OnOk result (self.new ≡ record self.old { items = items_with part self.old.items }) }
+        ensures err { OnErr result (self.new ≡ self.old) }
     {
         if let Some(mut item) = self.items.pop() {
-            item.parts.push(part)?;
-            self.items.push(item)?;
+            let pushed = item.parts.push(part);
+            self.items.push(item).unwrap();
+            pushed?;
         }
         Ok(())
     }

@@ -1,6 +1,6 @@
 //! What is open while a document is read.
 
-ghost use Rattle.std.specs.Prelude.{◌≡◌, ◌<◌, ◌+◌, ◌-◌, OnOk};
+ghost use Rattle.std.specs.Prelude.{◌≡◌, ◌<◌, ◌+◌, ◌-◌, OnErr, OnOk};
 ghost use Rattle.man_raw.specs.Opened.{joined, last_pair, last_part, left_frames, made, most_nests, nothing_open, opened_frames, pair_at, put_frames, raw_of, shut_frames, with_frames, wrapped_frames};
 ghost use Rattle.man_raw.specs.Raws.{raw, RawTrees};
 
@@ -96,10 +96,11 @@ impl Opened {
         self.nests = self.nests.saturating_sub(1);
     }
 
-    /// Opens a piece that begins at this byte.
+    /// Opens a piece that begins at this byte. At want of memory nothing changes.
     pub fn open(&mut self, at: u64) -> Result<(), AllocError>
-        ensures { OnOk result
+        ensures ok { OnOk result
             (self.new ≡ with_frames (opened_frames at self.old.frames) self.old) }
+        ensures err { OnErr result (self.new ≡ self.old) }
     {
         let frame = Frame {
             at,
@@ -109,46 +110,58 @@ impl Opened {
         Ok(())
     }
 
-    /// Adds a part to the innermost piece.
+    /// Adds a part to the innermost piece. At want of memory nothing changes.
     pub fn put(&mut self, part: Raw) -> Result<(), AllocError>
-        ensures { OnOk result
+        ensures ok { OnOk result
             (self.new ≡ with_frames (put_frames part self.old.frames) self.old) }
+        ensures err { OnErr result (self.new ≡ self.old) }
     {
         if let Some(mut frame) = self.frames.pop() {
-            frame.parts.push(part)?;
-            self.frames.push(frame)?;
+            let pushed = frame.parts.push(part);
+            self.frames.push(frame).unwrap();
+            pushed?;
         }
         Ok(())
     }
 
-    /// Adds a piece without parts to the innermost piece.
+    /// Adds a piece without parts to the innermost piece. At want of memory nothing
+    /// changes.
     pub fn put_leaf(&mut self, at: u64, what: What) -> Result<(), AllocError>
-        ensures { OnOk result
+        ensures ok { OnOk result
             (self.new ≡ with_frames (put_frames (raw at what RawTrees.none) self.old.frames) self.old) }
+        ensures err { OnErr result (self.new ≡ self.old) }
     {
         self.put(Raw::leaf(self.alloc, at, what))
     }
 
-    /// Opens a piece whose first part is the last part of the innermost piece.
+    /// Opens a piece whose first part is the last part of the innermost piece. At want
+    /// of memory nothing changes.
     pub fn wrap(&mut self) -> Result<(), AllocError>
-        ensures { OnOk result
+        ensures ok { OnOk result
             (self.new ≡ with_frames (wrapped_frames self.old.frames) self.old) }
+        ensures err { OnErr result (self.new ≡ self.old) }
     {
+        self.frames.reserve(1)?;
+        let mut parts = Vec::with_capacity(self.alloc, 1)?;
         if let Some(mut frame) = self.frames.pop() {
             let last = frame.parts.pop();
-            self.frames.push(frame)?;
+            self.frames.push(frame).unwrap();
             if let Some(part) = last {
-                self.open(part.at)?;
-                self.put(part)?;
+                let at = part.at;
+                parts.push(part).unwrap();
+                self.frames.push(Frame { at, parts }).unwrap();
             }
         }
         Ok(())
     }
 
-    /// Shuts the innermost piece, which is a part of the one around it.
+    /// Shuts the innermost piece, which is a part of the one around it. At want of memory
+    /// the innermost piece is gone, and the others are as they were.
     pub fn shut(&mut self, form: Form) -> Result<(), AllocError>
-        ensures { OnOk result
+        ensures ok { OnOk result
             (self.new ≡ with_frames (shut_frames form self.old.frames) self.old) }
+        ensures err { OnErr result
+            (self.new ≡ with_frames (left_frames self.old.frames) self.old) }
     {
         match self.frames.pop() {
             Some(frame) => self.put(made_of(form, frame)),

@@ -218,7 +218,7 @@ impl Assembler {
             TurnsTo Shows result self.new (Ok (with_subject state)) }
     {
         let name = self.opened.take_part();
-        self.listed.name_item(name)?;
+        self.listed.name_item(name);
         Ok(())
     }
 
