@@ -1,3 +1,4 @@
 pub mod Decimals
+pub mod Keeping
 pub mod RepeatedLaws
 pub mod WrittenLaws
