@@ -6,6 +6,7 @@ use Rattle.std.proofs.lemmas.List.{length-map, length-reverse}
 use Rattle.std.proofs.lemmas.Option.{slice_get_within}
 use Rattle.owl_arena.specs.Held.{trees_at}
 use Rattle.owl_arena.specs.Shared.{deepest}
+use Rattle.owl_doc.specs.Documents.{Document}
 use Rattle.owl_tree.specs.declared.atom.Atom.{Atom}
 use Rattle.owl_tree.specs.declared.tag.Tag.{Tag}
 use Rattle.owl_tree.specs.Rows.{is_group}
@@ -13,10 +14,11 @@ use Rattle.owl_tree.specs.Shape.{IsShaped}
 use Rattle.owl_tree.specs.Trees.{Tree, leaf}
 use Rattle.owl_maker.specs.declared.fault.MakeFault.{MakeFault}
 use Rattle.owl_maker.specs.declared.parts.Open as parts
+use Rattle.owl_maker.specs.declared.parts.Outline.{Outline}
 use Rattle.owl_maker.specs.Constructs.{Constructs, is_key_group}
 use Rattle.owl_tree.specs.Frames.{Frame, with_kid}
 use Rattle.owl_maker.specs.Kept.{AreAllHeld, IsHeldIn, outlines_in}
-use Rattle.owl_maker.specs.Makings.{Follows, Making, outline_of}
+use Rattle.owl_maker.specs.Makings.{Follows, Making, outline_of, with_document}
 use Rattle.owl_maker.specs.Steps.{forms_with, kids_with, outlines_with}
 use Rattle.owl_maker.proofs.Follow.{follows_leaf}
 use Rattle.owl_maker.proofs.Stacks.{made_form}
@@ -49,3 +51,11 @@ leaf_added (Ok x) value old new t a e o k i b room s = λ f fs h.
     let g : Follows old (Constructs (f ∷ fs)) = subst (λ (m : Making). Follows m (Constructs (f ∷ fs))) (sym e) h in
     let long = ap length g.outlines ∙ length-map (f ∷ fs) outline_of in
     follows_leaf old new (leaf t a) f fs o (leaf_no_key t a) k i b refl (omega (arith, long, room)) s g
+
+-- what is open stays, and the document alone changes
+pub in_hand_still : (old new : Document) (value : Making) (outlines outlines_now : List Outline) (kids kids_now : List (List Tree)) (item item_now : Option Tree) (heavy : Bool) → record { document = old; outlines = outlines; kids = kids; item = item; is_heavy = heavy } ≡ value → outlines_now ≡ outlines → kids_now ≡ kids → item_now ≡ item → record { document = new; outlines = outlines_now; kids = kids_now; item = item_now; is_heavy = heavy } ≡ with_document new value
+in_hand_still old new value outlines outlines_now kids kids_now item item_now heavy e o k i =
+    let now : Making = record { document = new; outlines = outlines_now; kids = kids_now; item = item_now; is_heavy = heavy } in
+    let was : Making = record { document = old; outlines = outlines; kids = kids; item = item; is_heavy = heavy } in
+    let same : now ≡ with_document new was = λ j. record { document = new; outlines = o j; kids = k j; item = i j; is_heavy = heavy } in
+    same ∙ ap (with_document new) e

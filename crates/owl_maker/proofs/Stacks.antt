@@ -7,6 +7,7 @@ use Rattle.owl_arena.specs.Held.{AreHeld, tree_at, trees_at}
 use Rattle.owl_arena.proofs.HeldLaws.{held_more, kids_stay, more_agrees}
 use Rattle.owl_tree.specs.Trees.{Tree}
 use Rattle.owl_maker.specs.declared.parts.Open as parts
+use Rattle.owl_maker.specs.declared.parts.Outline.{Outline}
 use Rattle.owl_maker.specs.Kept.{AreAllHeld, IsHeldIn, numbers_in, outlines_in}
 use Rattle.owl_maker.specs.Steps.{forms_with, kids_with}
 
@@ -22,6 +23,13 @@ numbers_last old rest top e = ap numbers_in e ∙ ap (λ (os : List parts.Open).
 -- all are there
 pub held_before : (ts : List Tree) (old rest : List parts.Open) (top : parts.Open) → old ≡ rest ++ top ∷ [] → AreAllHeld ts (numbers_in old) → AreHeld ts top.kids.items × AreAllHeld ts (numbers_in rest)
 held_before ts old rest top e h = subst (AreAllHeld ts) (numbers_last old rest top e) h
+
+-- what was taken off is put back
+pub put_back : (old now rest : List parts.Open) (top put : parts.Open) → old ≡ rest ++ top ∷ [] → now ≡ rest ++ put ∷ [] → put.outline ≡ top.outline → put.kids.items ≡ top.kids.items → (outlines_in now ≡ outlines_in old) × (numbers_in now ≡ numbers_in old)
+put_back old now rest top put e f o k = (
+  outlines_last now rest put f ∙ ap (λ (x : Outline). x ∷ outlines_in rest) o ∙ sym (outlines_last old rest top e),
+  numbers_last now rest put f ∙ ap (λ (ids : List ℕ). ids ∷ numbers_in rest) k ∙ sym (numbers_last old rest top e),
+)
 
 -- an arena that grows
 module _ (old more : List Tree) where

@@ -1,6 +1,6 @@
 //! The steps of a maker, over its parts.
 
-ghost use Rattle.std.specs.Prelude.{◌≡◌, ◌&&◌, ◌⊎◌, Bool, IsErrOf, IsOk, ◌<◌, ◌≤◌, ◌↔◌, ◌∷◌, [], List, false, true, IfErr, IfOk, IfSome, IsNone, OnOk, Some, length, slice_get};
+ghost use Rattle.std.specs.Prelude.{◌≡◌, ◌&&◌, ◌⊎◌, Bool, IsErrOf, IsOk, ◌<◌, ◌≤◌, ◌↔◌, ◌∷◌, [], List, false, true, IfErr, IfOk, IfSome, IsNone, OnErr, OnOk, Some, length, slice_get};
 ghost use Rattle.owl_arena.specs.Held.{AreHeld, node_over};
 ghost use Rattle.owl_arena.specs.Shared.{deepest};
 ghost use Rattle.owl_maker.specs.Kept.{AreAllHeld, IsHeldIn, IsShutLight, kids_at, numbers_in, outlines_in, seen, top_at};
@@ -89,6 +89,7 @@ pub fn push_open(alloc: Global, stack: &mut Vec<Open>, tag: Tag) -> Result<(), M
     ensures held { (ts : List Tree) → AreAllHeld ts (numbers_in stack.old.items)
         → AreAllHeld ts (numbers_in stack.new.items) }
     ensures memory { IfErr result (λ fault. fault ≡ MakeFault.Memory) }
+    ensures err { OnErr result (stack.new.items ≡ stack.old.items) }
 {
     let outline = Outline {
         tag,
@@ -121,6 +122,8 @@ pub fn put_leaf(
     ensures held { AreAllHeld builder.new.arena.trees (numbers_in stack.new.items) }
     ensures grows { Grows builder.old builder.new }
     ensures memory { IfErr result (λ fault. fault ≡ MakeFault.Memory) }
+    ensures err { OnErr result ((outlines_in stack.new.items ≡ outlines_in stack.old.items)
+        × (numbers_in stack.new.items ≡ numbers_in stack.old.items)) }
 {
     let made = make_leaf(builder, is_heavy, tag, atom)?;
     add_kid(stack, made, false)
@@ -147,18 +150,21 @@ fn add_kid(stack: &mut Vec<Open>, kid: Option<ExprId>, is_key: bool) -> Result<(
         → AreAllHeld ts (numbers_in stack.old.items)
         → AreAllHeld ts (numbers_in stack.new.items) }
     ensures memory { IfErr result (λ fault. fault ≡ MakeFault.Memory) }
+    ensures err { OnErr result ((outlines_in stack.new.items ≡ outlines_in stack.old.items)
+        × (numbers_in stack.new.items ≡ numbers_in stack.old.items)) }
 {
-    let mut top = stack.pop().unwrap();
-    let outline = outline_with(top.outline, is_key);
-    push_kid(&mut top.kids, kid)?;
-    Ok(
-        stack
-            .push(Open {
-                outline,
-                kids: top.kids,
-            })
-            .map_err(AllocError::from)?,
-    )
+    let Open { outline, mut kids } = stack.pop().unwrap();
+    match push_kid(&mut kids, kid) {
+        Ok(()) => {
+            let outline = outline_with(outline, is_key);
+            stack.push(Open { outline, kids }).unwrap();
+            Ok(())
+        }
+        Err(fault) => {
+            stack.push(Open { outline, kids }).unwrap();
+            Err(fault)
+        }
+    }
 }
 
 /// The outline with one more kid.
@@ -175,6 +181,7 @@ fn outline_with(outline: Outline, is_key: bool) -> Outline
 fn push_kid(kids: &mut Vec<ExprId>, kid: Option<ExprId>) -> Result<(), MakeFault>
     ensures kids { OnOk result (kids.new.items ≡ numbers_with kid kids.old.items) }
     ensures memory { IfErr result (λ fault. fault ≡ MakeFault.Memory) }
+    ensures err { OnErr result (kids.new.items ≡ kids.old.items) }
 {
     match kid {
         Some(id) => Ok(kids.push(id).map_err(AllocError::from)?),

@@ -88,7 +88,8 @@ impl Maker {
 
     /// Opens a construct with this tag inside the others, or an item.
     ///
-    /// `TooDeep` exactly where 128 constructs are open.
+    /// `TooDeep` exactly where 128 constructs are open. Where the call refuses,
+    /// nothing changes.
     pub fn open(&mut self, tag: Tag) -> Result<(), MakeFault>
         ensures opened { OnOk result ((fs : List Frame) → Follows self.old (Constructs fs)
             → Follows self.new (Constructs (opened tag fs))) }
@@ -97,6 +98,7 @@ impl Maker {
         ensures refusals { IfErr result (λ fault.
             (fault ≡ MakeFault.TooDeep) ⊎ (fault ≡ MakeFault.Memory)) }
         ensures rest { Grows self.old.document self.new.document }
+        ensures err { OnErr result (self.new ≡ self.old) }
     {
         if LEVELS <= self.stack.len() {
             return Err(MakeFault::TooDeep);
@@ -106,7 +108,8 @@ impl Maker {
 
     /// Adds a leaf to the innermost construct.
     ///
-    /// `TooDeep` exactly where 128 constructs are open.
+    /// `TooDeep` exactly where 128 constructs are open. Where the call refuses, what
+    /// is open stays as it was.
     pub fn leaf(&mut self, tag: Tag, atom: Atom) -> Result<(), MakeFault>
         requires inside { IsInside self.old }
         requires shaped { IsShaped (leaf tag atom) }
@@ -118,6 +121,7 @@ impl Maker {
         ensures refusals { IfErr result (λ fault.
             (fault ≡ MakeFault.TooDeep) ⊎ (fault ≡ MakeFault.Memory)) }
         ensures rest { Grows self.old.document self.new.document }
+        ensures err { OnErr result (self.new ≡ with_document self.new.document self.old) }
     {
         if LEVELS <= self.stack.len() {
             return Err(MakeFault::TooDeep);
@@ -129,7 +133,8 @@ impl Maker {
     /// Shuts the innermost construct, which is then a kid of the one around it,
     /// or the item.
     ///
-    /// `EmptyKey` exactly where it is a HasKey without a property.
+    /// `EmptyKey` exactly where it is a HasKey without a property; then nothing
+    /// changes.
     pub fn shut(&mut self) -> Result<(), MakeFault>
         requires { MayShut self.old }
         ensures shut { OnOk result ((f : Frame) (fs : List Frame) → FitsButKeys f
@@ -140,6 +145,7 @@ impl Maker {
         ensures refusals { IfErr result (λ fault.
             (fault ≡ MakeFault.EmptyKey) ⊎ (fault ≡ MakeFault.Memory)) }
         ensures rest { Grows self.old.document self.new.document }
+        ensures kept { IsErrOf result MakeFault.EmptyKey → self.new ≡ self.old }
     {
         if is_keyless(&self.stack) {
             return Err(MakeFault::EmptyKey);
@@ -156,7 +162,7 @@ impl Maker {
     /// section 3.5), unless it is there already.
     ///
     /// `TooHeavy` exactly where it is new and with it the document has more than
-    /// 2^24 nodes and leaves.
+    /// 2^24 nodes and leaves. Where the call refuses, nothing changes.
     pub fn add_annotation(&mut self) -> Result<(), MakeFault>
         requires { HasAnnotation self.old }
         ensures added { OnOk result ((t : Tree) → Follows self.old (Item t)
@@ -167,23 +173,29 @@ impl Maker {
             ↔ PassesLimit self.old.document (annotations_of self.old.document) t }
         ensures refusals { IfErr result (λ fault.
             (fault ≡ MakeFault.TooHeavy) ⊎ (fault ≡ MakeFault.Memory)) }
-        ensures err { OnErr result (self.new.document ≡ self.old.document) }
+        ensures err { OnErr result (self.new ≡ self.old) }
     {
         // What was added before has one number for each tree.
         let _trees = self.builder.arena().distinct();
         if self.is_heavy {
             return Err(MakeFault::TooHeavy);
         }
-        let id = self.item.take().unwrap();
+        let id = self.item.unwrap();
         let added = self.builder.annotate(id);
-        outcome_of(added)
+        match outcome_of(added) {
+            Ok(()) => {
+                self.item = None;
+                Ok(())
+            }
+            Err(fault) => Err(fault),
+        }
     }
 
     /// Adds the item, an axiom (Structural Specification, section 9), unless it
     /// is there already.
     ///
     /// `TooHeavy` exactly where it is new and with it the document has more than
-    /// 2^24 nodes and leaves.
+    /// 2^24 nodes and leaves. Where the call refuses, nothing changes.
     pub fn add_axiom(&mut self) -> Result<(), MakeFault>
         requires { HasAxiom self.old }
         ensures added { OnOk result ((t : Tree) → Follows self.old (Item t)
@@ -194,16 +206,22 @@ impl Maker {
             ↔ PassesLimit self.old.document (axioms_of self.old.document) t }
         ensures refusals { IfErr result (λ fault.
             (fault ≡ MakeFault.TooHeavy) ⊎ (fault ≡ MakeFault.Memory)) }
-        ensures err { OnErr result (self.new.document ≡ self.old.document) }
+        ensures err { OnErr result (self.new ≡ self.old) }
     {
         // What was added before has one number for each tree.
         let _trees = self.builder.arena().distinct();
         if self.is_heavy {
             return Err(MakeFault::TooHeavy);
         }
-        let id = self.item.take().unwrap();
+        let id = self.item.unwrap();
         let added = self.builder.add(id);
-        outcome_of(added)
+        match outcome_of(added) {
+            Ok(()) => {
+                self.item = None;
+                Ok(())
+            }
+            Err(fault) => Err(fault),
+        }
     }
 
     /// Gives the document these prefixes, in place of those that it had. Takes no
