@@ -1,6 +1,6 @@
 //! Nodes that are made in an arena.
 
-ghost use Rattle.std.specs.Prelude.{◌≡◌, ◌∷◌, [], ◌++◌, IfErr, IfOk, OnOk};
+ghost use Rattle.std.specs.Prelude.{◌≡◌, ◌∷◌, [], ◌++◌, IfErr, IfOk, OnErr, OnOk};
 ghost use Rattle.owl_arena.specs.Growth.{Adds};
 ghost use Rattle.owl_arena.specs.Held.{AreHeld, node_over};
 ghost use Rattle.owl_tree.specs.Canonical.{canonical};
@@ -14,7 +14,7 @@ use owl_arena::{Arena, ExprId, Grow};
 use owl_tree::{Atom, Tag};
 use std::alloc::AllocError;
 
-/// The number of the canonical form of the node.
+/// The number of the canonical form of the node. At want of memory nothing changes.
 pub fn make(arena: &mut Arena, tag: Tag, kids: Vec<ExprId>) -> Result<ExprId, NormFault>
     requires { AreHeld arena.old.trees kids.items }
     ensures made { IfOk result (λ id. IsMade arena.old.trees arena.new.trees id
@@ -22,6 +22,7 @@ pub fn make(arena: &mut Arena, tag: Tag, kids: Vec<ExprId>) -> Result<ExprId, No
     ensures added { OnOk result (Adds arena.old.trees arena.new.trees
         (canonical (node_over arena.old.trees tag kids.items))) }
     ensures memory { IfErr result (λ fault. fault ≡ NormFault.Memory) }
+    ensures err { OnErr result (arena.new ≡ arena.old) }
 {
     match arena.node(tag, kids) {
         Ok(id) => Ok(id),
