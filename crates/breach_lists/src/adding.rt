@@ -1,6 +1,6 @@
 //! The breaches of one document.
 
-ghost use Rattle.std.specs.Prelude.{◌≡◌, ◌++◌, OnOk};
+ghost use Rattle.std.specs.Prelude.{◌≡◌, ◌++◌, OnErr, OnOk, length, take};
 ghost use Rattle.breach_lists.specs.Adding.{breaches_if, breaches_of, marked_breaches};
 
 use graph_walks::has_mark;
@@ -10,7 +10,7 @@ use owl_doc::{Breach, Item, Rule};
 use std::alloc::AllocError;
 
 /// Adds those parts of a document that break the rule: the header, where it does, and
-/// those of the axioms that have a mark.
+/// those of the axioms that have a mark. At want of memory some of them may be added.
 pub fn add_parts(
     rule: Rule,
     document: usize,
@@ -19,8 +19,9 @@ pub fn add_parts(
     marks: &[bool],
     found: &mut Vec<Breach>,
 ) -> Result<(), NoMemory>
-    ensures { OnOk result (found.new.items ≡ found.old.items
+    ensures ok { OnOk result (found.new.items ≡ found.old.items
         ++ breaches_of rule document header_breaks axioms.now marks.now) }
+    ensures kept { take (length found.old.items) found.new.items ≡ found.old.items }
 {
     push_if(header_breaks, rule, document, Item::Header, found)?;
     add_axioms(rule, document, axioms, marks, found)?;
@@ -35,8 +36,9 @@ fn add_axioms(
     marks: &[bool],
     found: &mut Vec<Breach>,
 ) -> Result<(), AllocError>
-    ensures { OnOk result (found.new.items
+    ensures ok { OnOk result (found.new.items
         ≡ found.old.items ++ marked_breaches rule document axioms.now marks.now) }
+    ensures kept { take (length found.old.items) found.new.items ≡ found.old.items }
 {
     'places: for place in 0..axioms.len() {
         let item = Item::Axiom(axioms[place]);
@@ -53,7 +55,8 @@ fn push_if(
     item: Item,
     found: &mut Vec<Breach>,
 ) -> Result<(), AllocError>
-    ensures { OnOk result (found.new.items ≡ found.old.items ++ breaches_if is_broken rule document item) }
+    ensures ok { OnOk result (found.new.items ≡ found.old.items ++ breaches_if is_broken rule document item) }
+    ensures err { OnErr result (found.new.items ≡ found.old.items) }
 {
     if is_broken {
         found.push(Breach {

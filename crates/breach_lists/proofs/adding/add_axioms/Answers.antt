@@ -16,7 +16,7 @@ places-preserved c =
     let own = breaches_if (get_or marks place false) rule c.args.document (Axiom id) in
     let before = marked_breaches rule c.args.document (take place ids) marks in
     let grown : c.push_if.new.found.items ≡ c.places.found.items ++ own =
-    c.in_ok-push_if.ensures ∙ (λ i. c.places.found.items ++ breaches_if (c.has_mark.ensures i) rule c.args.document (Axiom id)) in
+    c.in_ok-push_if.ensures.ok ∙ (λ i. c.places.found.items ++ breaches_if (c.has_mark.ensures i) rule c.args.document (Axiom id)) in
     grown
     ∙ (ap (λ (bs : List Breach). bs ++ own) c.places.invariant ∙ (append_assoc old before own
     ∙ ap (λ (bs : List Breach). old ++ bs) (sym (axioms_more rule c.args.document ids marks place id c.places-test.true c.index-axioms-place.is))))

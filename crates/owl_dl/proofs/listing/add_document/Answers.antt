@@ -55,4 +55,4 @@ returns c =
     on_ok_weaker c.add_parts.result
     (λ new. subst (λ (found : List Breach). AddsBreaches facts (sites_at (closure_in facts) c.args.rule place) old found)
     (sym (new ∙ (λ i. old ++ breaches_of (c.numbered.ensures i) place breaks (c.axioms-2.ensures.axioms i) (c.deref.ensures.value i)))) own)
-    c.add_parts.ensures
+    c.add_parts.ensures.ok
