@@ -1,5 +1,5 @@
 -- Nodes of a graph that have the same triples, but for the subject.
-use Rattle.std.specs.Prelude.{◌≡◌, ℕ, List, Option, Some, map, slice_get}
+use Rattle.std.specs.Prelude.{◌≡◌, ◌⊎◌, ◌++◌, ◌∷◌, [], ℕ, List, Option, Some, map, slice_get}
 use Rattle.rdf_graph.specs.declared.term.Term.{Term}
 use Rattle.rdf_graph.specs.declared.term.Term.TheVariants.{Blank}
 use Rattle.rdf_graph.specs.declared.triple.Triple.{Triple}
@@ -28,3 +28,7 @@ pub record IsNumberOfDuplicate {N : Type 0} (g : List Triple) (roles : RoleTable
   pub other : ℕ
   pub duplicates : AreDuplicates g roles other node
   pub at : slice_get ns other ≡ Some (Some n)
+
+-- of numbers by hashes none goes, and at most this one comes behind them
+abbrev pub AddsAtMost : List (ℕ × ℕ) → List (ℕ × ℕ) → ℕ → Type 0
+AddsAtMost old new number = (new ≡ old) ⊎ ((hash : ℕ) × (new ≡ old ++ (hash, number) ∷ []))

@@ -1,9 +1,10 @@
 //! Nodes that have the same triples.
 
-ghost use Rattle.std.specs.Prelude.{◌≡◌, IfOk, IfSome, IsTrue, map};
+ghost use Rattle.std.specs.Prelude.{◌≡◌, ◌++◌, ◌∷◌, [], IfOk, IfSome, IsTrue, None, OnErr, OnOk, map, nat_eq};
+ghost use Rattle.indexmap.specs.IndexMap.{get};
 ghost use Rattle.rdf_roles.specs.Tables.{IsTableOf};
 ghost use Rattle.rdf_graph.specs.declared.term.Term.TheVariants.{Blank};
-ghost use Rattle.rdf_nodes.specs.Duplicates.{AreDuplicates, HaveSameArcs, arc_of};
+ghost use Rattle.rdf_nodes.specs.Duplicates.{AddsAtMost, AreDuplicates, HaveSameArcs, arc_of};
 
 use crate::source::Source;
 use indexmap::IndexMap;
@@ -11,7 +12,6 @@ use owl_characters::NoMemory;
 use rdf_asked::shares_lists;
 use rdf_graph::{Term, Triple};
 use rdf_terms::Label;
-use std::alloc::AllocError;
 use std::hash::{DefaultHasher, Hasher};
 
 /// Nodes that were asked for, by a hash of their predicates and objects. Only where
@@ -36,26 +36,40 @@ impl Duplicates {
     }
 
     /// The number of a node that was asked for and has the same predicates and
-    /// objects as the one with this number, where one was found.
+    /// objects as the one with this number, where one was found. At want of memory
+    /// the nodes that are kept stay as they were.
     pub fn earlier(&mut self, source: &Source, number: usize) -> Result<Option<usize>, NoMemory>
         requires { IsTableOf source.now.graph.now source.now.roles.now }
-        ensures { IfOk result (λ found. IfSome found (λ other.
+        ensures found { IfOk result (λ found. IfSome found (λ other.
             AreDuplicates source.now.graph.now source.now.roles.now other number)) }
+        ensures kept { AddsAtMost self.old.asked_for.entries self.new.asked_for.entries number }
+        ensures err { OnErr result (self.new.asked_for.entries ≡ self.old.asked_for.entries) }
     {
         if !self.are_kept {
             return Ok(None);
         }
         let hash = hash_of(source, number)?;
         let Some(other) = self.asked_for.get(&hash).copied() else {
-            self.asked_for
-                .insert(hash, number)
-                .map_err(AllocError::from)?;
+            self.keep(hash, number)?;
             return Ok(None);
         };
         if are_duplicates(source, other, number)? {
             Ok(Some(other))
         } else {
             Ok(None)
+        }
+    }
+
+    /// Keeps the number of a node by a hash that no node had.
+    fn keep(&mut self, hash: u64, number: usize) -> Result<(), NoMemory>
+        requires { get nat_eq self.old.asked_for hash ≡ None }
+        ensures ok { OnOk result (self.new.asked_for.entries
+            ≡ self.old.asked_for.entries ++ (hash, number) ∷ []) }
+        ensures err { OnErr result (self.new.asked_for.entries ≡ self.old.asked_for.entries) }
+    {
+        match self.asked_for.insert(hash, number) {
+            Ok(_) => Ok(()),
+            Err(_) => Err(NoMemory),
         }
     }
 }

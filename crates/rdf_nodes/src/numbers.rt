@@ -1,9 +1,9 @@
 //! The numbers of what the nodes denote.
 
-ghost use Rattle.std.specs.Prelude.{◌≡◌, IfErr, IfOk, IfSome, OnOk, length};
+ghost use Rattle.std.specs.Prelude.{◌≡◌, IfErr, IfOk, IfSome, OnErr, OnOk, length};
 ghost use Rattle.rdf_meaning.specs.Kinds.{HaveNoClash};
 ghost use Rattle.rdf_roles.specs.Tables.{IsTableOf};
-ghost use Rattle.rdf_nodes.specs.Duplicates.{IsNumberOfDuplicate};
+ghost use Rattle.rdf_nodes.specs.Duplicates.{AddsAtMost, IsNumberOfDuplicate};
 ghost use Rattle.rdf_nodes.specs.Numbers.{AreAllHeld, AreKnown, AreNumbered, DenoteTrees, HaveNodeKids, HaveNone, IsAddedTo, IsNextOf, IsNumbersFault, IsPassedIn, IsSomeNodeFault};
 ghost use Rattle.tree_stores.specs.Stores.{Keeps};
 
@@ -136,7 +136,8 @@ impl<'a> Source<'a> {
     }
 
     /// The number of the tree that a node with the same triples denotes, and so the
-    /// one with this number, where one was asked for before and is known.
+    /// one with this number, where one was asked for before and is known. At want of
+    /// memory the nodes that are kept stay as they were.
     pub fn number_of_duplicate<N: Copy>(
         &self,
         ids: &[Option<N>],
@@ -144,8 +145,12 @@ impl<'a> Source<'a> {
         number: usize,
     ) -> Result<Option<N>, NoMemory>
         requires { IsTableOf self.now.graph.now self.now.roles.now }
-        ensures { IfOk result (λ found. IfSome found (
+        ensures found { IfOk result (λ found. IfSome found (
             IsNumberOfDuplicate self.now.graph.now self.now.roles.now ids.now number)) }
+        ensures kept { AddsAtMost duplicates.old.asked_for.entries
+            duplicates.new.asked_for.entries number }
+        ensures err { OnErr result (duplicates.new.asked_for.entries
+            ≡ duplicates.old.asked_for.entries) }
     {
         let Some(other) = duplicates.earlier(self, number)? else {
             return Ok(None);

@@ -23,7 +23,7 @@ returns-in-Some-clause-held g c =
     let roles = reading.roles.now in
     let ids = c.args.bare.now.numbers.items in
     let label = c.args.label.now in
-    let found = subst (λ f. IfSome f (IsNumberOfDuplicate graph roles c.deref.result.now c.args.number)) c.in-Some.is c.in_ok-axiom.ensures in
+    let found = subst (λ f. IfSome f (IsNumberOfDuplicate graph roles c.deref.result.now c.args.number)) c.in-Some.is c.in_ok-axiom.ensures.found in
     let other = subst (λ ns. IsNumberOfDuplicate graph roles ns c.args.number c.in-Some.axiom) c.deref.ensures.value found in
     subst (StandForSome stands (AreNodeAxioms graph kinds (Blank label ∷ []))) (sym c.in_ok-alone.ensures)
     (same_axiom graph kinds roles stands ids c.args.number label c.in-Some.axiom c.requires.bare c.requires.at (c.in_ok-is_bare.ensures c.if-not-branch.false) other)

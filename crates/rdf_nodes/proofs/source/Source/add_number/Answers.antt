@@ -29,7 +29,7 @@ returns-in-Some-2-clause-numbered g c =
     let roles = c.args.self.now.roles.now in
     let ids = c.args.ids.now.items in
     let stands = g.S.TreeStore.stands c.args.store.now in
-    let found = subst (λ f. IfSome f (IsNumberOfDuplicate graph roles c.deref.result.now c.args.number)) c.in-Some-2.is c.in_ok-id.ensures in
+    let found = subst (λ f. IfSome f (IsNumberOfDuplicate graph roles c.deref.result.now c.args.number)) c.in-Some-2.is c.in_ok-id.ensures.found in
     let other = subst (λ ns. IsNumberOfDuplicate graph roles ns c.args.number c.in-Some-2.id) c.deref.ensures.value found in
     one_more_numbered graph k roles stands stands ids c.args.number c.in-Some.label.now (Some c.in-Some-2.id) c.requires.numbered (keeps_all stands) c.in-Some.ensures
     (number_of_other graph k roles stands ids c.args.number c.in-Some.label.now c.in-Some-2.id c.requires.numbered c.in-Some.ensures other)

@@ -1,0 +1,8 @@
+-- A new hash comes behind the others.
+use Rattle.std.proofs.Common.{◌∙◌}
+use Rattle.std.specs.Prelude.{nat_eq}
+use Rattle.indexmap.proofs.CallerLemmas.{insert_entry-new}
+use Rattle.rdf_nodes.proofs.duplicates.Duplicates.keep.Goals as goal
+
+pub returns-in-Ok-clause-ok : goal.returns-in-Ok-clause-ok
+returns-in-Ok-clause-ok c = c.in-Ok.ensures.entries ∙ insert_entry-new nat_eq c.args.self.now.asked_for c.args.hash c.args.number c.requires
