@@ -2,8 +2,8 @@
 
 ghost use Rattle.std.specs.Prelude.{◌≡◌, ◌≢◌, ◌≤◌, ◌+◌, Some, Err, [], IsTrue, IfOk, IfErr, OnOk};
 ghost use Rattle.owl_port.specs.Outside.{Rose};
-ghost use Rattle.owl_documents.specs.Documents.{most_bytes_of_all, syntax_of};
-ghost use Rattle.owl_documents.specs.Reading.{IsFed, IsLonger, IsProper, IsReadAs, IsTakenAlone, IsTroubleOf, IsTroubleOfShelf};
+ghost use Rattle.owl_documents.specs.Documents.{most_bytes_of_all, parsed_of, syntax_of};
+ghost use Rattle.owl_documents.specs.Reading.{AreReadUnder, IsDefectUnder, IsFed, IsLonger, IsProper, IsReadAs, IsTakenAlone, IsTroubleOf, IsTroubleOfShelf};
 ghost use Rattle.owl_characters.specs.Limit.{most_bytes};
 
 use crate::document::{Document, Syntax};
@@ -143,5 +143,41 @@ pub fn read_document<S: Shelf>(
         Syntax::Functional => read_in::<fss_read::Reader, S>(alloc, name, before, shelf),
         Syntax::Turtle => read_in::<ttl_read::Reader, S>(alloc, name, before, shelf),
         Syntax::Manchester => read_in::<man_read::Reader, S>(alloc, name, before, shelf),
+    }
+}
+
+/// The document that these bytes are in the reader's syntax, or why they are none.
+/// The reader takes them piece by piece.
+fn read_pieces<R: DocumentReader>(alloc: Global, bytes: &[u8]) -> Result<Document, Trouble>
+    ensures reads { IfOk result (λ document. AreReadUnder R.syntax bytes.now (parsed_of document)) }
+    ensures refuses { IfErr result (IsDefectUnder R.syntax bytes.now) }
+    ensures proper { IfErr result IsProper }
+    ensures read { result ≢ Err Trouble.ReadFailed }
+{
+    let Ok(mut reader) = R::begin(alloc) else {
+        return Err(Trouble::Memory);
+    };
+    let mut rest = bytes;
+    while !rest.is_empty() {
+        let (piece, others) = rest.split_at(rest.len().min(PIECE));
+        reader.take(piece);
+        rest = others;
+    }
+    reader.document(alloc)
+}
+
+/// The document that these bytes are in this syntax, or why they are none: the first
+/// defect by its grammar, or what is wrong with the header of a graph. They are read
+/// as a document on a shelf is, in pieces of at most 4,096 bytes.
+pub fn read_text(alloc: Global, syntax: Syntax, bytes: &[u8]) -> Result<Document, Trouble>
+    ensures reads { IfOk result (λ document. AreReadUnder syntax bytes.now (parsed_of document)) }
+    ensures refuses { IfErr result (IsDefectUnder syntax bytes.now) }
+    ensures proper { IfErr result IsProper }
+    ensures read { result ≢ Err Trouble.ReadFailed }
+{
+    match syntax {
+        Syntax::Functional => read_pieces::<fss_read::Reader>(alloc, bytes),
+        Syntax::Turtle => read_pieces::<ttl_read::Reader>(alloc, bytes),
+        Syntax::Manchester => read_pieces::<man_read::Reader>(alloc, bytes),
     }
 }
