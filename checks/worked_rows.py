@@ -19,7 +19,8 @@ import sys
 TOP = os.path.dirname(os.path.dirname(os.path.abspath(__file__)))
 
 # Behind `=` stands what the next cases are of. A case has behind `|` where it stands: a folder or a file, a colon, and the
-# names of rows or of tests. A topic of `owl_rows` goes by its name alone. `{1-8}` in a name stands for each of these numbers.
+# names of rows or of tests. A topic of `owl_rows` goes by its name alone, and a script has names with `_` for a space. `{1-8}`
+# in a name stands for each of these numbers.
 CASES = """
 = documents
 an ontology of nothing | translate: nothing
@@ -39,6 +40,10 @@ individuals with and without a label | graphs: individuals_without_a_label
 a document of Turtle with brackets, a list and labels | ttl_rows/data/statements: brackets_a_list_and_labels
 a document of Turtle of no bytes | ttl_rows/data/statements: nothing
 a menu through all three syntaxes, and checked for EL | graphs: a_menu; manchester_text: a_menu a_menu_to_turtle a_menu_says_the_same a_menu_drawn_again_says_the_same; el_ql_rl: a_menu_in_el
+= a trial
+one of three classes | trials: classes_3; checks/program.sh: a_trial_of_three_classes
+one of one class, and one of 20,000 | trials: classes_1 classes_20000; checks/program.sh: a_trial_of_20,000_classes
+its document, translated four times | checks/program.sh: four_translations_of_the_document_of_a_trial
 = imports and profiles
 an import that is missing, may be missing, and is there | imports: missing missing_where_it_may there
 a chain with its property at both ends, and of its property twice | profiles: a_chain_with_its_property_at_both_ends a_chain_of_its_property_twice
@@ -49,7 +54,7 @@ a deprecated class in EL | el_ql_rl: a_deprecated_class_in_el
 a suffix that there is not | words: translate_to_ttl_of_another_suffix
 a flag in front of the target | words: partial_before_the_target_ttl another_flag_before_the_target
 one name twice | words: same_of_one_name_twice
-a command that there is not | words: trial
+a trial of a number with a leading zero | words: trial; trials: leading_zero
 no words | words: none
 = texts that are refused
 an axiom that lacks a class | refusals: second_axiom
@@ -82,19 +87,23 @@ each read of two documents fails | devices: read_{1-8}_of_two_documents_fails
 each write of a text fails | devices: third_write_fails; puts: write_{1-22}_fails
 a note fails | devices: note_of_a_text_fails
 = single calls
-IRIs without a scheme and with a space | tokens: iris_of_some_schemes no_iri_without_a_scheme no_space_in_an_iri
+IRIs without a scheme and with a space | value_tests/src/atoms.rt: an_iri_has_a_scheme_and_no_space; tokens: iris_of_some_schemes no_iri_without_a_scheme no_space_in_an_iri
 references against a base with a query | ttl_rows/data/references: references_against_a_base_with_a_query
-plain literals with and without a tag, and with no mark | leaves: literals_of_plain_literal_with_and_without_a_tag literal_of_plain_literal_with_no_mark
-labels, and one that ends in a dot | tokens: labels_of_blank_nodes no_label_ends_in_a_dot
-a prefix declared beforehand, twice and with another IRI | manchester_refusals: owl_twice rdf_with_another_iri
-the longest prefix that fits, and none | translate: prefix_that_is_longest_beside_the_empty_one
+plain literals with and without a tag, and with no mark | value_tests/src/atoms.rt: a_plain_literal_has_a_mark; leaves: literals_of_plain_literal_with_and_without_a_tag literal_of_plain_literal_with_no_mark
+labels, and one that ends in a dot | value_tests/src/atoms.rt: a_label_ends_in_no_dot; tokens: labels_of_blank_nodes no_label_ends_in_a_dot
+a prefix declared beforehand, twice and with another IRI | value_tests/src/prefixes.rt: a_prefix_is_declared_once_and_as_what_it_stands_for; manchester_refusals: owl_twice rdf_with_another_iri
+an unknown prefix | value_tests/src/prefixes.rt: an_unknown_prefix_is_not_expanded
+the longest prefix that fits, and none | value_tests/src/prefixes.rt: an_iri_is_cut_at_its_longest_prefix_or_not; translate: prefix_that_is_longest_beside_the_empty_one
 forms of datatypes | value_tests/src/datatypes.rt: forms_of_datatypes
-a union in two orders, and of nothing | show: union_that_stands_twice; expressions: object_union_of_none
+a union in two orders, and of nothing | tree_tests/src/arena.rt: a_union_in_two_orders_is_one_tree; show: union_that_stands_twice; expressions: object_union_of_none
 a union with a complement, as a node | graphs: a_union_with_a_complement; node_tests/src/nodes.rt: a_union_is_weighed
+a million leaves, and the same again | tree_tests/src/arena.rt: a_million_leaves_are_found_again
 a name of two kinds | turtle: an_object_and_a_data_property
-the weight of a declaration, and an import given twice | show: one_declaration; imports: an_import_given_twice
+an axiom twice, and a class in its place | tree_tests/src/builder.rt: an_axiom_is_new_once_and_a_class_is_none
+the weight of a declaration, and an import given twice | tree_tests/src/builder.rt: a_declaration_is_counted_and_an_import_is_one; show: one_declaration; imports: an_import_given_twice
 a triple twice | rdf_graph/src/tests.rt: a_triple_that_is_added_twice_is_one
-copies of names, labels and literals | turtle: literals values_in_their_order; rdf_graph/src/tests.rt: a_triple_that_is_added_twice_is_one
+copies of names, labels, literals, atoms and tables of prefixes | value_tests/src/atoms.rt: copies_are_equal; tree_tests/src/arena.rt: a_copy_of_an_atom_is_equal; value_tests/src/prefixes.rt: a_copy_has_the_same_names_and_iris
+a document that is as long as its limit, and one byte longer | value_tests/src/shelves.rt: a_document_is_as_long_as_its_limit_and_not_longer
 tokens that white space ends at once | tokens: white_space_gives_tokens_at_once
 """
 
@@ -114,8 +123,11 @@ def names_of(name):
 
 
 def is_there(path, name):
-    """Whether a file has a row, or a test, of this name."""
-    shape = rf"^ *#\[test\]\n *fn {name}\(" if path.endswith(".rt") else rf"^row {name}$"
+    """Whether a file has a row, a test, or a call of the program, of this name."""
+    if path.endswith(".sh"):
+        shape = rf"^(call|shell) '{name.replace('_', ' ')}'"
+    else:
+        shape = rf"^ *#\[test\]\n *fn {name}\(" if path.endswith(".rt") else rf"^row {name}$"
     return re.search(shape, text_of(path), re.M) is not None
 
 
@@ -123,7 +135,9 @@ def places_of(text):
     """The files of a case as the table names them, each with its path and names."""
     for place in text.split(";"):
         file, _, names = (it.strip() for it in place.partition(":"))
-        path = file if file.endswith(".rt") else f"{file}/rows" if "/" in file else f"owl_rows/data/{file}/rows"
+        path = f"owl_rows/data/{file}/rows"
+        if "/" in file:
+            path = file if file.endswith(".rt") else f"../{file}" if file.endswith(".sh") else f"{file}/rows"
         yield file, path, names.split()
 
 

@@ -1,7 +1,14 @@
-//! Tests of datatypes and of refusals as texts, which no row reaches.
+//! Tests of atoms, tables of prefixes, datatypes, documents that are read whole,
+//! and refusals as texts.
 #![tactic(auto)]
 
 #[cfg(test)]
+mod atoms;
+#[cfg(test)]
 mod datatypes;
 #[cfg(test)]
+mod prefixes;
+#[cfg(test)]
 mod printed;
+#[cfg(test)]
+mod shelves;
