@@ -57,7 +57,7 @@ LARGE = [f"translate --to {to} many.ofn k.ofn" for to in ("fss", "ttl", "omn")]
 # The words of each call, by the status that it has without a fault.
 ROWS = {
     0: [*SMALL, *LARGE, "check --profile dl m.ofn k.ofn", "check --profile el m.ttl k.ttl",
-        "check --profile ql m.omn k.omn", "show m.omn k.ttl", "same k.ofn k.ttl"],
+        "check --profile ql m.omn k.omn", "show m.omn k.ttl", "same k.ofn k.ttl", "trial 1"],
     1: ["check --profile rl m.ofn k.ttl", "same m.ofn k.omn"],
     3: ["translate --to fss wrong.ofn k.ofn", "show wrong.ttl k.ttl", "translate --to ttl wrong.omn k.omn",
         "check --profile dl m.ofn"],

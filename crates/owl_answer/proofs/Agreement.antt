@@ -4,14 +4,14 @@ use Rattle.std.proofs.lemmas.Option.{same_Some, slice_get_within}
 use Rattle.owl_close.specs.Imports.{IsFirstMissing, MissesNone, Reaches}
 use Rattle.owl_close.specs.Imports as imports
 use Rattle.owl_close.proofs.ImportsLaws.{missing_once}
-use Rattle.owl_command.specs.Commands.{Request, compares, names_of, of_main}
+use Rattle.owl_command.specs.Commands.{Request, compares, names_of, of_main, tries}
 use Rattle.owl_command.specs.declared.command.Action.{Action}
 use Rattle.owl_command.specs.declared.command.Action.TheVariants.{Translate, Check, Show}
 use Rattle.owl_command.specs.declared.command.Profile.{Profile}
 use Rattle.owl_command.specs.declared.command.Target.{Target as Syntax}
 use Rattle.owl_command.specs.declared.command.Target.TheVariants.{Fss, Ttl, Omn}
 use Rattle.owl_documents.specs.Documents.{IsSame, Parsed, Said, a_graph, an_ontology, the_frames}
-use Rattle.owl_documents.specs.OneWay.{IsSameParsed}
+use Rattle.owl_documents.specs.OneWay.{IsSameParsed, NeverBoth, ReadOneWay, RefusedOneWay}
 use Rattle.owl_kind.specs.Kinds.{Entity}
 use Rattle.owl_tree.proofs.OntologyLaws.{same_ontology_sym, same_ontology_trans}
 use Rattle.owl_messages.specs.declared.unsaid.UnsaidFault.{UnsaidFault}
@@ -24,6 +24,7 @@ use Rattle.owl_answer.proofs.Checks.{checked_once, checked_there, form_at, reach
 use Rattle.owl_answer.proofs.Closures.{closure_once, own_once}
 use Rattle.owl_answer.proofs.ManchesterOnce.{manchester_alike, manchester_once}
 use Rattle.owl_answer.proofs.Same.{never_says_both, parsed_back, parsed_refl, says_once, says_same, unsaid_once, unsaid_same}
+use Rattle.owl_answer.proofs.TrialOnce.{trial_once}
 use Rattle.owl_answer.proofs.TurtleOnce.{functional_once, functional_same, shown_same, translation_alike, translation_once, translation_same}
 use Rattle.owl_answer.proofs.Wanting.{limited_more, limited_once}
 use Rattle.owl_messages.specs.Outcome.{Outcome, missing_import, shown, translation}
@@ -153,6 +154,7 @@ answers_there (of_main action partial names) ds es there back outcome h =
     main_there (of_main action partial names) ds es there _ _ (acted_same ds es outcome (checks_there action partial names ds es there back outcome) action) h
 answers_there (compares first second) ds es there back outcome h =
     two_there (compares first second) ds es there _ (λ a b c d s t w. limited_more _ _ (λ o k. comparison_same a b c d s t o k) outcome w) h
+answers_there (tries size) ds es there back outcome h = h
 
 module _ (request : Request) (ds es : List Parsed) (there : Agree request ds es) (back : Agree request es ds) where
   first_there : (place : ℕ) (fault : UnsaidFault) → IsFirstUnsaid request ds place fault → IsFirstUnsaid request es place fault
@@ -181,6 +183,7 @@ module _ (request : Request) (ds es : List Parsed) (there : Agree request ds es)
 kinds_once : (request : Request) (documents : List Parsed) (place : ℕ) (parsed : Parsed) (k l : List Entity) → HasKinds request documents place parsed k → HasKinds request documents place parsed l → k ≡ l
 kinds_once (of_main action partial names) documents place parsed k l h i = closure_once documents k l h.1 i.1
 kinds_once (compares first second) documents place parsed k l h i = own_once parsed k l h i
+kinds_once (tries size) documents place parsed k l h i = absurd h
 
 -- a document is read in one way
 pub record IsOneReading (p q : Parsed) (k l : List Entity) : Type 0 where
@@ -234,30 +237,31 @@ module _ (request : Request) (documents : List Parsed) where
   two_once V W a b once h k =
       once h.first h.second k.first k.second (said_at_once 0 h.first k.first h.says_first k.says_first) (said_at_once 1 h.second k.second h.says_second k.says_second) h.holds k.holds
 
-answers_once : (request : Request) (documents : List Parsed) (a b : Outcome) → AnswersWith request documents a → AnswersWith request documents b → a ≡ b
-answers_once (of_main action partial names) documents a b v w =
+answers_once : ReadOneWay → RefusedOneWay → NeverBoth → (request : Request) (documents : List Parsed) (a b : Outcome) → AnswersWith request documents a → AnswersWith request documents b → a ≡ b
+answers_once read_way refused_way never (of_main action partial names) documents a b v w =
     main_once (of_main action partial names) documents _ _ a b (λ p kinds s t same h k. acted_once documents action p kinds t a b (acted_same documents documents a (λ profile c. c) action p p kinds s t (parsed_refl p) same h) k) v w
-answers_once (compares first second) documents a b v w =
+answers_once read_way refused_way never (compares first second) documents a b v w =
     two_once (compares first second) documents _ _ a b (λ s t u x e f h k. limited_once (IsComparison s t) (IsComparison u x) (λ y z i j. comparison_once u x y z (comparison_same s t u x e f y i) j) a b h k) v w
+answers_once read_way refused_way never (tries size) documents a b v w = trial_once read_way refused_way never size a b v w
 
 named : (names : List (List ℕ)) (p q : ℕ) (x y : List ℕ) → p ≡ q → slice_get names p ≡ Some x → slice_get names q ≡ Some y → x ≡ y
 named names p q x y e f g = cc
 
-pub concludes_once : (request : Request) (documents : List Parsed) (a b : Outcome) → Concludes request documents a → Concludes request documents b → a ≡ b
-concludes_once request documents a b (misses_import asked place iri name m at e) (misses_import again other theirs name2 n at2 f) =
+pub concludes_once : ReadOneWay → RefusedOneWay → NeverBoth → (request : Request) (documents : List Parsed) (a b : Outcome) → Concludes request documents a → Concludes request documents b → a ≡ b
+concludes_once read_way refused_way never request documents a b (misses_import asked place iri name m at e) (misses_import again other theirs name2 n at2 f) =
     let one = missing_once (heads_in documents) place other iri theirs m n in
     let same : name ≡ name2 = named (names_of request) place other name name2 one.0 at at2 in
     e ∙ ap (λ (x : List ℕ). missing_import x iri) same ∙ ap (missing_import name2) one.1 ∙ sym f
-concludes_once request documents a b (misses_import asked place iri name m at e) (says_nothing h other fault name2 u at2 f) =
+concludes_once read_way refused_way never request documents a b (misses_import asked place iri name m at e) (says_nothing h other fault name2 u at2 f) =
     absurd (h asked place iri m.missing)
-concludes_once request documents a b (misses_import asked place iri name m at e) (all_say h all w) = absurd (h asked place iri m.missing)
-concludes_once request documents a b (says_nothing h place fault name u at e) (misses_import asked other iri name2 m at2 f) =
+concludes_once read_way refused_way never request documents a b (misses_import asked place iri name m at e) (all_say h all w) = absurd (h asked place iri m.missing)
+concludes_once read_way refused_way never request documents a b (says_nothing h place fault name u at e) (misses_import asked other iri name2 m at2 f) =
     absurd (h asked other iri m.missing)
-concludes_once request documents a b (says_nothing h place fault name u at e) (says_nothing k other another name2 v at2 f) =
+concludes_once read_way refused_way never request documents a b (says_nothing h place fault name u at e) (says_nothing k other another name2 v at2 f) =
     let one = first_once request documents place other fault another u v in
     let same : name ≡ name2 = named (names_of request) place other name name2 one at at2 in
     e ∙ ap (λ (x : List ℕ). unsaid_outcome x fault) same ∙ ap (unsaid_outcome name2) (fault_at_once request documents place other fault another one u.unsaid v.unsaid) ∙ sym f
-concludes_once request documents a b (says_nothing h place fault name u at e) (all_say k all w) = absurd (all_or_not request documents all place fault u.unsaid)
-concludes_once request documents a b (all_say h all v) (misses_import asked place iri name m at e) = absurd (h asked place iri m.missing)
-concludes_once request documents a b (all_say h all v) (says_nothing k place fault name u at e) = absurd (all_or_not request documents all place fault u.unsaid)
-concludes_once request documents a b (all_say h all v) (all_say k every w) = answers_once request documents a b v w
+concludes_once read_way refused_way never request documents a b (says_nothing h place fault name u at e) (all_say k all w) = absurd (all_or_not request documents all place fault u.unsaid)
+concludes_once read_way refused_way never request documents a b (all_say h all v) (misses_import asked place iri name m at e) = absurd (h asked place iri m.missing)
+concludes_once read_way refused_way never request documents a b (all_say h all v) (says_nothing k place fault name u at e) = absurd (all_or_not request documents all place fault u.unsaid)
+concludes_once read_way refused_way never request documents a b (all_say h all v) (all_say k every w) = answers_once read_way refused_way never request documents a b v w

@@ -21,7 +21,7 @@ module _ (read_way : ReadOneWay) (refused_way : RefusedOneWay) (never : NeverBot
   read_only contents documents outcome other r c (not_read name refusal f e) =
       absurd (never contents (names_of request) documents name refusal r f)
   read_only contents documents outcome other r c (all_read others s d) =
-      concluded_once request documents others (read_way contents (names_of request) documents others r s) outcome other c d
+      concluded_once read_way refused_way never request documents others (read_way contents (names_of request) documents others r s) outcome other c d
 
   refused_only : (contents : Contents) (name : List ℕ) (refusal : Refusal) (other : Outcome) → IsFirstRefused contents (names_of request) name refusal → Becomes contents request other → refusal_outcome name refusal ≡ other
   refused_only contents name refusal other f (not_read there another g e) =

@@ -1,9 +1,9 @@
 -- What is concluded of documents that are read as the same is one.
 use Rattle.std.proofs.Common.{◌≡◌, ℕ, List}
 use Rattle.owl_close.proofs.ImportsLaws.{alike_back, first_missing_alike, missing_alike, reaches_alike}
-use Rattle.owl_command.specs.Commands.{Request, compares, of_main}
+use Rattle.owl_command.specs.Commands.{Request, compares, of_main, tries}
 use Rattle.owl_documents.specs.Documents.{Parsed}
-use Rattle.owl_documents.specs.OneWay.{AreSame, IsSameParsed}
+use Rattle.owl_documents.specs.OneWay.{AreSame, IsSameParsed, NeverBoth, ReadOneWay, RefusedOneWay}
 use Rattle.owl_kind.specs.Kinds.{Entity}
 use Rattle.owl_answer.specs.Outcome.{heads_in}
 use Rattle.owl_answer.specs.Runs.{Concludes}
@@ -17,6 +17,7 @@ has_kinds : (request : Request) (ds es : List Parsed) → AreSame ds es → (pla
 has_kinds (of_main action partial names) ds es s place p q kinds t h =
     (reaches_alike (heads_in ds) (heads_in es) (alike ds es s) place h.0, kinds_alike ds es kinds s h.1)
 has_kinds (compares first second) ds es s place p q kinds t h = own_alike p q kinds t h
+has_kinds (tries size) ds es s place p q kinds t h = absurd h
 
 same_agree : (request : Request) (ds es : List Parsed) → AreSame ds es → Agree request ds es
 same_agree request ds es s =
@@ -33,6 +34,6 @@ same_agree request ds es s =
           };
     }
 
-pub concluded_once : (request : Request) (ds es : List Parsed) → AreSame ds es → (a b : Outcome) → Concludes request ds a → Concludes request es b → a ≡ b
-concluded_once request ds es s a b h k =
-    concludes_once request es a b (concludes_there request ds es (same_agree request ds es s) (same_agree request es ds (same_back ds es s)) a h) k
+pub concluded_once : ReadOneWay → RefusedOneWay → NeverBoth → (request : Request) (ds es : List Parsed) → AreSame ds es → (a b : Outcome) → Concludes request ds a → Concludes request es b → a ≡ b
+concluded_once read_way refused_way never request ds es s a b h k =
+    concludes_once read_way refused_way never request es a b (concludes_there request ds es (same_agree request ds es s) (same_agree request es ds (same_back ds es s)) a h) k

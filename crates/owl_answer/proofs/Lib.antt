@@ -10,10 +10,14 @@ pub mod KindsAt
 pub mod Lines
 pub mod ManchesterOnce
 pub mod Manchesters
+pub mod Proper
 pub mod Readings
 pub mod Same
 pub mod Sayings
 pub mod ToldActions
+pub mod TrialLaws
+pub mod TrialOnce
+pub mod TrialSizes
 pub mod TurtleOnce
 pub mod Turtles
 pub mod TypingLaws

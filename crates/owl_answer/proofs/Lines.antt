@@ -1,7 +1,7 @@
 -- What is concluded, and what is told of troubles, is proper, and has its line.
 use Rattle.std.proofs.Common.{◌≡◌, ℕ, Bool, zero, suc, Some, List, [], ◌∷◌, length, slice_get, inl, inr, refl, sym, subst}
 use Rattle.owl_reader.specs.declared.fault.ReadFault.TheVariants as read
-use Rattle.owl_command.specs.Commands.{IsAmong, Request, compares, names_of, of_main}
+use Rattle.owl_command.specs.Commands.{IsAmong, Request, compares, names_of, of_main, tries}
 use Rattle.owl_command.specs.declared.command.Action.{Action}
 use Rattle.owl_command.specs.declared.command.Action.TheVariants.{Translate, Check, Show}
 use Rattle.owl_command.specs.declared.command.Profile.{Profile}
@@ -18,13 +18,14 @@ use Rattle.owl_answer.specs.Outcome.{IsComparison, IsSuccess, agree, differ}
 use Rattle.owl_answer.specs.Checks.{IsChecked}
 use Rattle.owl_messages.specs.Refusals.{two_kinds, undeclared, unsayable}
 use Rattle.owl_messages.specs.Verdicts.{verdict}
-use Rattle.owl_answer.specs.Runs.{AnswersWith, AsksOtherSyntax, AsksTranslation, Concludes, IsActionOutcome, IsIllTyped, IsTranslation, IsUnsayable, LineFor, SuccessLine, all_say, misses_import, of_bytes, of_import, of_output, of_part, of_refusal, of_saying, of_success, of_triples, of_two_kinds, of_typing, of_undeclared, of_unsayable, of_weight, says_nothing}
+use Rattle.owl_answer.specs.Runs.{AnswersWith, AsksOtherSyntax, AsksTranslation, Concludes, IsActionOutcome, IsIllTyped, IsTranslation, IsUnsayable, LineFor, SuccessLine, all_say, misses_import, of_bytes, of_import, of_output, of_part, of_refusal, of_saying, of_success, of_trial, of_triples, of_two_kinds, of_typing, of_undeclared, of_unsayable, of_weight, says_nothing}
 use Rattle.owl_answer.specs.ManchesterOutcome.{IsToldInManchester, manchester_form, manchester_translation}
 use Rattle.owl_answer.specs.TurtleOutcome.{IsFormTold, IsGraphTold, IsTold as IsOfTurtle, IsTypingRefusal, canonical_said, clashes, few, graph_translation, heavy, ill_typed, light, many, not_typed, ready, unsaid, untyped, well_typed}
 use Rattle.owl_answer.specs.Answers.{IsProper}
 use Rattle.owl_tree.specs.Ontologies.{Ontology}
 use Rattle.owl_messages.specs.declared.unsaid.UnsaidFault.{UnsaidFault}
 use Rattle.rdf_scans.specs.declared.fault.OutlineFault.TheVariants as outline
+use Rattle.owl_answer.proofs.Proper.{refused_proper, trial_well}
 use Rattle.owl_answer.proofs.Same.{is_proper}
 use Rattle.owl_messages.proofs.UnsaidLaws.{IsRefusal, unsaid_is_refused}
 use Rattle.owl_messages.specs.Unsaid.{IsProperFault, unsaid_outcome}
@@ -142,6 +143,9 @@ answers_told (of_main action partial names) documents outcome w =
     acted_told action partial names documents w.main.parsed w.main.kinds w.said outcome w.holds
 answers_told (compares first second) documents outcome w =
     limited_told (compares first second) (IsComparison w.first w.second) (compared_told first second w.first w.second) outcome w.holds
+answers_told (tries size) documents outcome w =
+    let well = trial_well size outcome w in
+    record { proper = well.proper; line = λ IsCause. of_trial size refl outcome w well.settled refl refl }
 
 missing_told : (request : Request) (name iri : List ℕ) → IsAmong (names_of request) name → IsTold request (missing_import name iri)
 missing_told request name iri among = record {
@@ -168,21 +172,6 @@ concluded_told request documents outcome (says_nothing h place fault name u at e
 concluded_told request documents outcome (all_say h all w) = answers_told request documents outcome w
 
 -- a refusal is told as one
-refused_proper : (name : List ℕ) (refusal : Refusal) → IsProperRefusal refusal → IsProper (refusal_outcome name refusal)
-refused_proper name DocumentBytes n = record { found = tt; no_text = refl }
-refused_proper name AllBytes n = record { found = tt; no_text = refl }
-refused_proper name (Unreadable (read.Refused item at reason)) n = record { found = tt; no_text = refl }
-refused_proper name (Unreadable read.TooLong) n = record { found = tt; no_text = refl }
-refused_proper name (Unreadable read.TooDeep) n = record { found = tt; no_text = refl }
-refused_proper name (Unreadable read.TooHeavy) n = record { found = tt; no_text = refl }
-refused_proper name (Unreadable read.NumberTooLarge) n = record { found = tt; no_text = refl }
-refused_proper name (Unreadable read.TooMany) n = record { found = tt; no_text = refl }
-refused_proper name (Unreadable read.Memory) n = absurd (n refl)
-refused_proper name (Headless outline.NoHeader) n = record { found = tt; no_text = refl }
-refused_proper name (Headless outline.TwoHeaders) n = record { found = tt; no_text = refl }
-refused_proper name (Headless (outline.BadHeader node)) n = record { found = tt; no_text = refl }
-refused_proper name (Headless outline.Memory) n = absurd (n refl)
-
 pub refused_told : (request : Request) (name : List ℕ) (refusal : Refusal) → IsAmong (names_of request) name → IsProperRefusal refusal → IsTold request (refusal_outcome name refusal)
 refused_told request name refusal among n = record {
   proper = refused_proper name refusal n;

@@ -26,7 +26,7 @@ use Rattle.owl_messages.specs.Refusals.{unsayable}
 use Rattle.sayable_parts.specs.Unsaid.{IsFirstUnsaid, SaysAll}
 
 module _ (kinds : List Entity) (main : Said) where
-  told_once : (a b : Outcome) → IsToldInManchester kinds main a → IsToldInManchester kinds main b → a ≡ b
+  pub told_once : (a b : Outcome) → IsToldInManchester kinds main a → IsToldInManchester kinds main b → a ≡ b
   told_once a b (not_typed h) (not_typed k) = refusal_once kinds main.ontology a b h k
   told_once a b (not_typed h) (unsaid t part why k f) = absurd (refusal_or_typed kinds main.ontology a h t)
   told_once a b (not_typed h) (heavy r l f) = absurd (refusal_or_typed kinds main.ontology a h r.typed)

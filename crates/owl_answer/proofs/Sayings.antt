@@ -15,6 +15,7 @@ use Rattle.rdf_normal.proofs.DeclaredLaws.{DeclaresIn, declared_by, declares_bef
 use Rattle.rdf_normal.specs.NormalForms.{normal_form, unsettled_annotations, unsettled_axioms}
 use Rattle.rdf_normal.proofs.ShapedLaws.{normal_is_ontology}
 use Rattle.rdf_normal.proofs.TidiedLaws.{settled_form}
+use Rattle.rdf_reverse.specs.Reverse.{AreShallow, IsSaid}
 use Rattle.rdf_reverse.proofs.DeclaringLaws.{declares_stated}
 use Rattle.rdf_reverse.proofs.WithinLaws.{said_within}
 use Rattle.rdf_scans.specs.Outlines.{declarations as graph_declarations}
@@ -93,6 +94,15 @@ form_told kinds main outcome (unsaid t part why h f) s = absurd (subst (λ (x : 
 form_told kinds main outcome (ready r (heavy l f)) s = absurd (subst (λ (x : Outcome). IsSuccess x.status) f s)
 form_told kinds main outcome (ready r (light l w)) s = record { ready = r; light = l }
 
+-- the graph of the normal form of what was translated says it, within the limits
+pub form_is_said : (kinds : List Entity) (main : Said) (outcome : Outcome) → IsOntology main.ontology → canonical_ontology main.ontology ≡ main.ontology → IsTurtleTranslation kinds main outcome → IsSuccess outcome.status → AreShallow (turtle_form (canonical_said main)).ontology → IsSaid (graph_of (turtle_form (canonical_said main)).ontology) kinds (turtle_form (canonical_said main)).ontology
+form_is_said kinds main outcome is canonical told s shallow =
+    let o = canonical_ontology main.ontology in
+    let own : IsOntology o = subst IsOntology (sym canonical) is in
+    let its = form_told kinds (canonical_said main) outcome told s in
+    let says = form_said kinds o (ap canonical_ontology canonical) its.ready.typed own its.ready.sayable its.light in
+    said_within (graph_of (normal_form o)) kinds (normal_form o) says (record { is = normal_is_ontology o own; shallow = shallow; light = its.light })
+
 -- what is read back to the graph of a normal form says it
 said_back : (kinds : List Entity) (main : Said) (outcome : Outcome) → IsOntology main.ontology → canonical_ontology main.ontology ≡ main.ontology → IsTurtleTranslation kinds main outcome → IsSuccess outcome.status → ReadsGraph outcome.text (turtle_form (canonical_said main)) → ReadsSaid kinds outcome.text (turtle_form (canonical_said main))
 said_back kinds main outcome is canonical told s reads =
@@ -106,7 +116,7 @@ said_back kinds main outcome is canonical told s reads =
       reads = reads.reads;
       declares = says_declares (graph_of (normal_form o)) kinds (normal_form o) says;
       typed = form_typed kinds o form its.ready.typed;
-      says = said_within (graph_of (normal_form o)) kinds (normal_form o) says (record { is = normal_is_ontology o own; shallow = reads.shallow; light = its.light });
+      says = form_is_said kinds main outcome is canonical told s reads.shallow;
     }
 
 pub in_turtle : (kinds : List Entity) (main : Said) (outcome : Outcome) → IsOntology main.ontology → canonical_ontology main.ontology ≡ main.ontology → IsToldBack (IsTurtleTranslation kinds main) (turtle_form (canonical_said main)) outcome → IsInTurtle kinds main outcome

@@ -105,7 +105,7 @@ graph_once main a b (heavy l e) (light m w) = absurd (omega arith)
 graph_once main a b (light l v) (heavy m f) = absurd (omega arith)
 graph_once main a b (light l v) (light m w) = form_once (turtle_form main) (absorbed_count main.ontology) a b v w
 
-told_once : (kinds : List Entity) (main : Said) (a b : Outcome) → IsTold kinds main a → IsTold kinds main b → a ≡ b
+pub told_once : (kinds : List Entity) (main : Said) (a b : Outcome) → IsTold kinds main a → IsTold kinds main b → a ≡ b
 told_once kinds main a b (not_typed h) (not_typed k) = refusal_once kinds main.ontology a b h k
 told_once kinds main a b (not_typed h) (unsaid t part why k f) = absurd (refusal_or_typed kinds main.ontology a h t)
 told_once kinds main a b (not_typed h) (ready r w) = absurd (refusal_or_typed kinds main.ontology a h r.typed)

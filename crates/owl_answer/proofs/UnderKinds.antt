@@ -7,7 +7,7 @@ use Rattle.std.specs.declared.cmp.Ordering.TheVariants.{Less}
 use Rattle.std.specs.List.{AllByRecursion}
 use Rattle.std.specs.Ordering.{nat_cmp}
 use Rattle.owl_close.specs.Imports.{main}
-use Rattle.owl_command.specs.Commands.{Request, compares, names_of, of_main, request_of}
+use Rattle.owl_command.specs.Commands.{AsksImports, IsAllowed, Request, compares, names_of, of_main, request_of, tries}
 use Rattle.owl_command.specs.declared.command.Action.{Action}
 use Rattle.owl_doc.specs.Documents.{Document}
 use Rattle.owl_documents.specs.Documents.{Parsed, Said}
@@ -17,12 +17,13 @@ use Rattle.owl_list.proofs.AscendingLaws.{all_in, head_below, in_cases, in_head,
 use Rattle.owl_messages.specs.declared.unsaid.UnsaidFault.{UnsaidFault}
 use Rattle.owl_messages.specs.declared.unsaid.UnsaidFault.TheVariants.{Memory}
 use Rattle.owl_answer.specs.Answers.{IsConclusion, IsToldOf}
-use Rattle.owl_answer.specs.Asked.{IsOfTwo}
+use Rattle.owl_answer.specs.Asked.{IsOfAction, IsOfTwo}
 use Rattle.owl_answer.specs.KindsAt.{AreOwnKinds, IsClosure}
 use Rattle.owl_answer.specs.Outcome.{IsComparison, IsSuccess}
 use Rattle.owl_answer.specs.Reading.{AllSayAt, IsFirstFault, IsUnsaidAlone, SaysAlone, SaysSomeAt}
 use Rattle.owl_answer.specs.Runs.{HasImports, all_say, says_nothing}
-use Rattle.owl_answer.specs.UnderKinds.{AllSay, IsFirstUnsaid, IsOfMain, IsReadUnder, IsUnsaidAt, SaysAt, SaysSome, SaysUnder}
+use Rattle.owl_answer.specs.Trials.{IsTrialOutcome}
+use Rattle.owl_answer.specs.UnderKinds.{AllSay, ComparesTwo, IsFirstUnsaid, IsReadUnder, IsUnsaidAt, SaysAt, SaysSome, SaysUnder}
 use Rattle.owl_answer.specs.declared.asked.Asked.{Asked}
 use Rattle.owl_answer.specs.declared.closure.Closure.{Closure}
 use Rattle.owl_answer.specs.declared.reading.Unsaid.{Unsaid}
@@ -131,24 +132,44 @@ module _ (request : Request) (action : Action) (partial : Bool) (names : List (L
       let first = subst (λ (r : Request). IsFirstUnsaid r documents unsaid.document unsaid.fault) (sym asks) (fault_first action partial names documents closure c unsaid h n) in
       unsaid_conclusion request documents unsaid.document unsaid.fault name outcome imports first at e
 
+-- documents that are asked for are there
+
+main_named : (request : Request) (action : Action) (partial : Bool) (names : List (List ℕ)) → IsAllowed request → request ≡ of_main action partial names → 0 < length (names_of request)
+main_named (of_main a p ns) action partial names h e = h.some
+main_named (compares one other) action partial names h e = h.some
+main_named (tries size) action partial names h e = absurd (cc)
+
+pub imports_named : (request : Request) → IsAllowed request → AsksImports request → 0 < length (names_of request)
+imports_named (of_main a p ns) h asked = h.some
+imports_named (compares one other) h asked = h.some
+imports_named (tries size) h asked = absurd asked
+
+pub some_of_main : (asked : Asked) (action : Action) → IsOfAction asked action → 0 < length asked.docs.items
+some_of_main asked action t =
+    let named = main_named (request_of asked.command.now) action t.partial t.names t.asked_for.allowed t.asks in
+    subst (λ (n : ℕ). 0 < n) (sym t.asked_for.each) named
+
 -- two documents
-two_names : (request : Request) → (IsOfMain request → ⊥) → length (names_of request) ≡ 2
-two_names (of_main action partial names) alone = absurd (alone tt)
+two_names : (request : Request) → ComparesTwo request → length (names_of request) ≡ 2
+two_names (of_main action partial names) alone = absurd alone
 two_names (compares one other) alone = refl
+two_names (tries size) alone = absurd alone
 
 -- as many as names
 pub are_two : (asked : Asked) → IsOfTwo asked → (length asked.docs.items ≡ 2) × (length (names_of (request_of asked.command.now)) ≡ 2)
 are_two asked t =
-    let names = two_names (request_of asked.command.now) t.alone in
+    let names = two_names (request_of asked.command.now) t.of_two in
     (t.asked_for.each ∙ names, names)
 
-own_read : (request : Request) → (IsOfMain request → ⊥) → (documents : List Parsed) (place : ℕ) (parsed : Parsed) (kinds : List Entity) → slice_get documents place ≡ Some parsed → AreOwnKinds parsed kinds → IsReadUnder request documents place parsed kinds
-own_read (of_main action partial names) two documents place parsed kinds there own = absurd (two tt)
+own_read : (request : Request) → ComparesTwo request → (documents : List Parsed) (place : ℕ) (parsed : Parsed) (kinds : List Entity) → slice_get documents place ≡ Some parsed → AreOwnKinds parsed kinds → IsReadUnder request documents place parsed kinds
+own_read (of_main action partial names) two documents place parsed kinds there own = absurd two
 own_read (compares one other) two documents place parsed kinds there own = record { there = there; under = own }
+own_read (tries size) two documents place parsed kinds there own = absurd two
 
-no_imports : (request : Request) → (IsOfMain request → ⊥) → (documents : List Parsed) → HasImports request documents
-no_imports (of_main action partial names) two documents = absurd (two tt)
+no_imports : (request : Request) → ComparesTwo request → (documents : List Parsed) → HasImports request documents
+no_imports (of_main action partial names) two documents = absurd two
 no_imports (compares one other) two documents = λ asked. absurd asked
+no_imports (tries size) two documents = λ asked. absurd asked
 
 module _ (request : Request) (documents : List Parsed) where
   first_unsaid : (fault : UnsaidFault) → IsUnsaidAt request documents 0 fault → IsFirstUnsaid request documents 0 fault
@@ -173,15 +194,16 @@ module _ (request : Request) (documents : List Parsed) where
       let within = slice_get_within documents (suc (suc n)) p r.there in
       absurd (omega arith)
 
-compared_conclusion : (request : Request) → (IsOfMain request → ⊥) → (documents : List Parsed) → length documents ≡ 2 → (a b : Said) → SaysAt request documents 0 a → SaysAt request documents 1 b → (outcome : Outcome) → IsLimited (IsComparison a b) outcome → IsConclusion request documents outcome
-compared_conclusion (of_main action partial names) alone documents two a b h k outcome w = absurd (alone tt)
+compared_conclusion : (request : Request) → ComparesTwo request → (documents : List Parsed) → length documents ≡ 2 → (a b : Said) → SaysAt request documents 0 a → SaysAt request documents 1 b → (outcome : Outcome) → IsLimited (IsComparison a b) outcome → IsConclusion request documents outcome
+compared_conclusion (of_main action partial names) alone documents two a b h k outcome w = absurd alone
+compared_conclusion (tries size) alone documents two a b h k outcome w = absurd alone
 compared_conclusion (compares one other) alone documents two a b h k outcome w = record {
   concludes = all_say (λ asked. absurd asked) (both_say (compares one other) documents two a b h k) (record { first = a; second = b; says_first = h; says_second = k; holds = w });
   back = λ s. tt;
 }
 
 -- two documents are compared
-module _ (request : Request) (alone : IsOfMain request → ⊥) (documents : List Parsed) where
+module _ (request : Request) (alone : ComparesTwo request) (documents : List Parsed) where
   pub alone_at : (place : ℕ) (parsed : Parsed) → slice_get documents place ≡ Some parsed → (said : Said) → SaysAlone parsed said → SaysAt request documents place said
   alone_at place parsed there said h =
       record { parsed = parsed; kinds = h.kinds; read = own_read request alone documents place parsed h.kinds there h.own; says = h.says }
@@ -202,3 +224,11 @@ module _ (request : Request) (alone : IsOfMain request → ⊥) (documents : Lis
     pub both_told : length documents ≡ 2 → (second : Said) → SaysAlone parsed second → (outcome : Outcome) → IsLimited (IsComparison first second) outcome → IsConclusion request documents outcome
     both_told two second h outcome w =
         compared_conclusion request alone documents two first second says (alone_at 1 parsed there second h) outcome w
+
+-- a trial
+pub trial_conclusion : (request : Request) (size : ℕ) → request ≡ tries size → (documents : List Parsed) → (outcome : Outcome) → IsTrialOutcome size outcome → IsConclusion request documents outcome
+trial_conclusion request size e documents outcome h =
+    subst (λ (r : Request). IsConclusion r documents outcome) (sym e) (record {
+      concludes = all_say (λ asked. absurd asked) (λ place parsed kinds r. absurd r.under) h;
+      back = λ s. tt;
+    })

@@ -2,7 +2,7 @@
 use Rattle.std.proofs.Common.{ℕ, List, subst}
 use Rattle.owl_close.specs.Imports.{Reaches}
 use Rattle.owl_close.proofs.UnreachedLaws.{DifferUnreached, first_missing_unreached, none_missing_unreached, reaches_unreached, unreached_back}
-use Rattle.owl_command.specs.Commands.{Request, compares, of_main}
+use Rattle.owl_command.specs.Commands.{Request, compares, of_main, tries}
 use Rattle.owl_documents.specs.Documents.{Parsed}
 use Rattle.owl_kind.specs.Kinds.{Entity}
 use Rattle.owl_answer.specs.KindsAt.{AreClosureKinds}
@@ -17,10 +17,12 @@ use Rattle.owl_answer.proofs.Heads.{alike_but, but_back}
 closure_of : (request : Request) → IsOfMain request → (documents : List Parsed) (place : ℕ) (parsed : Parsed) (kinds : List Entity) → HasKinds request documents place parsed kinds → Reaches (heads_in documents) place × AreClosureKinds documents kinds
 closure_of (of_main action partial names) m documents place parsed kinds h = h
 closure_of (compares first second) m documents place parsed kinds h = absurd m
+closure_of (tries size) m documents place parsed kinds h = absurd m
 
 kinds_of_closure : (request : Request) → IsOfMain request → (documents : List Parsed) (place : ℕ) (parsed : Parsed) (kinds : List Entity) → Reaches (heads_in documents) place → AreClosureKinds documents kinds → HasKinds request documents place parsed kinds
 kinds_of_closure (of_main action partial names) m documents place parsed kinds r k = (r, k)
 kinds_of_closure (compares first second) m documents place parsed kinds r k = absurd m
+kinds_of_closure (tries size) m documents place parsed kinds r k = absurd m
 
 but_agree : (request : Request) → IsOfMain request → (place : ℕ) (ds es : List Parsed) → AreSameBut place ds es → DifferUnreached place (heads_in ds) (heads_in es) → Agree request ds es
 but_agree request m place ds es s d = record {

@@ -48,6 +48,9 @@ from_both (Ok x) P Q R f p q = f x p q
 from_both (Err y) P Q R f p q = tt
 
 -- of two documents
+pub first_within : (docs : List Document) → length docs ≡ 2 → 0 < length docs
+first_within docs two = omega arith
+
 pub one_within : (docs : List Document) → length docs ≡ 2 → 1 < length docs
 one_within docs two = omega arith
 

@@ -1,18 +1,18 @@
 -- What is asked, with the documents that are read for it.
-use Rattle.std.specs.Prelude.{◌≡◌, ◌<◌, Bool, List, ℕ, length, map}
-use Rattle.owl_command.specs.Commands.{names_of, of_main, request_of}
+use Rattle.std.specs.Prelude.{◌≡◌, Bool, List, ℕ, length, map}
+use Rattle.owl_command.specs.Commands.{IsAllowed, names_of, of_main, request_of}
 use Rattle.owl_command.specs.declared.command.Action.{Action}
 use Rattle.owl_documents.specs.Documents.{parsed_of}
 use Rattle.owl_answer.specs.Answers.{IsConclusion}
 use Rattle.owl_answer.specs.Runs.{HasImports}
-use Rattle.owl_answer.specs.UnderKinds.{IsOfMain}
+use Rattle.owl_answer.specs.UnderKinds.{ComparesTwo}
 use Rattle.owl_messages.specs.declared.answer.Answer.{Answer}
 use Rattle.owl_answer.specs.declared.asked.Asked.{Asked}
 use Rattle.owl_messages.specs.Answers.{outcome_of}
 
--- a document for each name, and one at least
+-- what may be asked for, and a document for each name
 pub record IsAsked (asked : Asked) : Type 0 where
-  pub some : 0 < length asked.docs.items
+  pub allowed : IsAllowed (request_of asked.command.now)
   pub each : length asked.docs.items ≡ length (names_of (request_of asked.command.now))
 
 -- this action is asked for, and the imports are there that have to be
@@ -26,7 +26,7 @@ pub record IsOfAction (asked : Asked) (action : Action) : Type 0 where
 -- two documents are to be compared
 pub record IsOfTwo (asked : Asked) : Type 0 where
   pub asked_for : IsAsked asked
-  pub alone : IsOfMain (request_of asked.command.now) → ⊥
+  pub of_two : ComparesTwo (request_of asked.command.now)
 
 -- it is what is answered
 abbrev pub IsAnswerTo : Asked → Answer → Type 0

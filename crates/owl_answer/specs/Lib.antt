@@ -8,6 +8,9 @@ pub mod ManchesterOutcome
 pub mod Outcome
 pub mod Runs
 pub mod Reading
+pub mod TrialDocument
+pub mod TrialParts
+pub mod Trials
 pub mod TurtleOutcome
 pub mod Typing
 pub mod UnderKinds

@@ -5,7 +5,7 @@ use Rattle.owl_close.specs.Imports.{IsFirstMissing, MissesNone}
 use Rattle.fss_terms.specs.Functional.{ReadsFunctional}
 use Rattle.owl_doc.specs.Parts.{Part}
 use Rattle.sayable_parts.specs.Reasons.{Objection}
-use Rattle.owl_command.specs.Commands.{AsksImports, Asks, HasNoCommand, IsAmong, Request, compares, names_of, of_main}
+use Rattle.owl_command.specs.Commands.{AsksImports, Asks, HasNoCommand, IsAmong, Request, compares, names_of, of_main, tries}
 use Rattle.owl_command.specs.declared.command.Action.{Action}
 use Rattle.owl_command.specs.declared.command.Action.TheVariants.{Translate, Check, Show}
 use Rattle.owl_command.specs.declared.command.Target.{Target as Syntax}
@@ -21,6 +21,7 @@ use Rattle.owl_messages.specs.Verdicts.{no_line, yes_line}
 use Rattle.owl_answer.specs.Checks.{IsChecked}
 use Rattle.owl_answer.specs.UnderKinds.{AllSay, HoldsOfMain, HoldsOfTwo, IsFirstUnsaid}
 use Rattle.owl_answer.specs.ManchesterOutcome.{IsManchesterTranslation, ReadsForm, manchester_form}
+use Rattle.owl_answer.specs.Trials.{IsTrialOutcome}
 use Rattle.owl_answer.specs.TurtleOutcome.{IsFunctionalTranslation, IsTurtleTranslation, ReadsSaid, canonical_said, turtle_form}
 use Rattle.owl_messages.specs.Outcome.{IsLimited, Outcome, done_line, functional_form, missing_import, refusal_outcome, refused, shown, too_heavy_output, too_long_output, too_many_triples, translation}
 use Rattle.owl_messages.specs.Unsaid.{IsProperFault, unsaid_outcome}
@@ -50,12 +51,13 @@ IsActionOutcome (Translate target) documents parsed kinds main outcome = IsTrans
 IsActionOutcome (Check profile) documents parsed kinds main outcome = IsChecked profile documents outcome
 IsActionOutcome Show documents parsed kinds main outcome = IsLimited (λ wanted. wanted ≡ shown main) outcome
 
--- What becomes of documents that all say something: of the main one, or of two.
+-- What becomes of documents that all say something: of the main one, or of two. A trial has a document of its own.
 abbrev pub AnswersWith : Request → List Parsed → Outcome → Type 0
 AnswersWith (of_main action partial names) documents outcome =
     HoldsOfMain (of_main action partial names) documents (λ parsed kinds main. IsActionOutcome action documents parsed kinds main outcome)
 AnswersWith (compares first second) documents outcome =
     HoldsOfTwo (compares first second) documents (λ a b. IsLimited (IsComparison a b) outcome)
+AnswersWith (tries size) documents outcome = IsTrialOutcome size outcome
 
 -- What becomes of documents that are read: the first condition that fails, or what is answered.
 pub data Concludes (request : Request) (documents : List Parsed) (outcome : Outcome) : Type 0 where
@@ -120,7 +122,7 @@ abbrev pub AsksTurtle : Request → Type 0
 AsksTurtle (of_main (Translate Ttl) partial names) = Unit {0}
 AsksTurtle request = ⊥
 
--- The lines of a status for what is asked for. A read fault names a document that has this cause.
+-- The lines of a status for what is asked for. A read fault names a document that has this cause, and a trial has the line of its outcome.
 pub data LineFor (request : Request) (IsCause : List ℕ → Type 0) (status : Status) (line : List ℕ) : Type 0 where
   of_success : SuccessLine request status line → LineFor request IsCause status line
   of_refusal : (name : List ℕ) → IsAmong (names_of request) name → IsRefusalLine name status line → LineFor request IsCause status line
@@ -128,6 +130,7 @@ pub data LineFor (request : Request) (IsCause : List ℕ → Type 0) (status : S
   of_unsayable : AsksOtherSyntax request → (refusal : Outcome) → IsUnsayable refusal → status ≡ refusal.status → line ≡ refusal.line → LineFor request IsCause status line
   of_triples : AsksTurtle request → status ≡ Limit → line ≡ too_many_triples.line → LineFor request IsCause status line
   of_output : status ≡ Limit → line ≡ too_long_output.line → LineFor request IsCause status line
+  of_trial : (size : ℕ) → request ≡ tries size → (outcome : Outcome) → IsTrialOutcome size outcome → IsSettled outcome.status → status ≡ outcome.status → line ≡ outcome.line → LineFor request IsCause status line
   of_read_fault : (name : List ℕ) → IsCause name → status ≡ ReadFailed → line ≡ codes "read: " ++ (name ++ codes "\n") → LineFor request IsCause status line
   of_write_fault : status ≡ WriteFailed → line ≡ codes "write\n" → LineFor request IsCause status line
   of_no_memory : status ≡ Memory → line ≡ codes "memory\n" → LineFor request IsCause status line
@@ -155,6 +158,7 @@ abbrev pub IsBack : Request → List Parsed → List ℕ → Type 0
 IsBack (of_main action partial names) documents text =
     HoldsOfMain (of_main action partial names) documents (λ parsed kinds main. IsActionText action kinds main text)
 IsBack (compares first second) documents text = Unit {0}
+IsBack (tries size) documents text = Unit {0}
 
 -- The documents are read, and the text of a translation reads back to the main one's normal form.
 pub record IsReadBack (contents : Contents) (request : Request) (text : List ℕ) : Type 0 where

@@ -1,7 +1,7 @@
 -- What documents say once the kinds of IRIs are known (Mapping to RDF Graphs, section 3, and Manchester Syntax, section 2).
 use Rattle.std.specs.Prelude.{◌≡◌, ◌≤◌, ℕ, List, Some, slice_get}
 use Rattle.owl_close.specs.Imports.{Reaches}
-use Rattle.owl_command.specs.Commands.{Request, compares, of_main}
+use Rattle.owl_command.specs.Commands.{Request, compares, of_main, tries}
 use Rattle.owl_documents.specs.Documents.{Parsed, Said, a_graph, an_ontology, the_frames}
 use Rattle.owl_kind.specs.Kinds.{Entity}
 use Rattle.rdf_reverse.specs.Reverse.{IsSaid, IsUnsaid}
@@ -31,12 +31,19 @@ SaysSome kinds parsed = (said : Said) × SaysUnder kinds parsed said
 abbrev pub IsOfMain : Request → Type 0
 IsOfMain (of_main action partial names) = Unit {0}
 IsOfMain (compares first second) = ⊥
+IsOfMain (tries size) = ⊥
+
+-- what is asked for is of two documents
+abbrev pub ComparesTwo : Request → Type 0
+ComparesTwo (compares first second) = Unit {0}
+ComparesTwo request = ⊥
 
 -- The document at this place is read, under these kinds: each that the main one reaches under those of its closure, and each of two that are
--- compared under its own.
+-- compared under its own. A trial reads none of these.
 abbrev pub HasKinds : Request → List Parsed → ℕ → Parsed → List Entity → Type 0
 HasKinds (of_main action partial names) documents place parsed kinds = Reaches (heads_in documents) place × AreClosureKinds documents kinds
 HasKinds (compares first second) documents place parsed kinds = AreOwnKinds parsed kinds
+HasKinds (tries size) documents place parsed kinds = ⊥
 
 -- this document stands at this place, and is read under these kinds
 pub record IsReadUnder (request : Request) (documents : List Parsed) (place : ℕ) (parsed : Parsed) (kinds : List Entity) : Type 0 where

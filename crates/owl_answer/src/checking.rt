@@ -36,7 +36,7 @@ pub fn check(
 
 /// Each rule of the profile with each part of the documents that breaks it: those of
 /// OWL 2 DL, and behind them what the profile asks besides.
-fn breaches(
+pub fn breaches(
     alloc: Global,
     profile: Profile,
     closure: &ImportClosure,

@@ -13,6 +13,7 @@ use crate::comparison::compare_both;
 use crate::imports::first_missing;
 use crate::reading::read_closure;
 use crate::telling::tell_closure;
+use crate::trial::answer_trial;
 use owl_characters::NoMemory;
 use owl_command::{Action, Command};
 use owl_documents::Document;
@@ -42,6 +43,7 @@ fn answer_command(alloc: Global, asked: Asked) -> Result<Answer, NoMemory>
     match asked.command {
         Command::OfMain { action, .. } => answer_action(alloc, asked, *action),
         Command::Same { .. } => compare_both(alloc, &asked),
+        Command::Trial { size } => answer_trial(alloc, *size),
     }
 }
 

@@ -1,13 +1,13 @@
 //! What documents declare.
 
-ghost use Rattle.std.specs.Prelude.{◌<◌, [], IfOk, OnOk, length, map};
-ghost use Rattle.owl_documents.specs.Documents.{parsed_of};
+ghost use Rattle.std.specs.Prelude.{◌<◌, [], IfOk, OnOk, map};
+ghost use Rattle.owl_documents.specs.Documents.{an_ontology, parsed_of, said_of};
 ghost use Rattle.owl_close.specs.Imports.{AreReached};
 ghost use Rattle.owl_answer.specs.KindsAt.{AddsAt, AddsOf, AreClosureKinds, AreDeclaredAt, AreOwnKinds};
 ghost use Rattle.owl_answer.specs.Outcome.{heads_in};
 
 use owl_characters::NoMemory;
-use owl_doc::declared;
+use owl_doc::{Doc, declared};
 use owl_documents::Document;
 use owl_tree::Kinds;
 use rdf_scans::declare_graph;
@@ -33,6 +33,17 @@ pub fn own_kinds(alloc: Global, doc: &Document) -> Result<Kinds, NoMemory>
 {
     let mut kinds = Kinds::new(alloc);
     declare(doc, &mut kinds)?;
+    // What is declared stands in order.
+    kinds.is_empty();
+    Ok(kinds)
+}
+
+/// The kinds that an ontology itself declares.
+pub fn ontology_kinds(alloc: Global, doc: &Doc) -> Result<Kinds, NoMemory>
+    ensures { IfOk result (AreOwnKinds (an_ontology (said_of doc.now))) }
+{
+    let mut kinds = Kinds::new(alloc);
+    declared(doc, &mut kinds)?;
     // What is declared stands in order.
     kinds.is_empty();
     Ok(kinds)

@@ -13,6 +13,8 @@ mod manchester;
 mod reading;
 mod request;
 mod telling;
+mod trial;
+mod trial_document;
 mod turtle;
 mod typing;
 mod written;

@@ -127,7 +127,7 @@ fn read_whole(alloc: Global, document: Document, kinds: &Kinds) -> Result<Doc, U
 }
 
 /// What the document says under these kinds.
-fn read_under<'a>(
+pub fn read_under<'a>(
     alloc: Global,
     doc: &'a Document,
     kinds: &Kinds,

@@ -1,12 +1,13 @@
 -- Words that ask for something.
 use Rattle.std.proofs.Common.{◌≡◌, ◌≢◌, ◌<◌, ◌≤◌, ◌-◌, ◌+◌, ◌↔◌, inl, inr, ℕ, suc, IsTrue, Option, None, Some, IfNone, map, get_or, take, drop, length, arith, Bool, false, true, List, [], ◌∷◌, ◌++◌, codes, refl, ap, sym, ◌∙◌, subst}
+use Rattle.std.specs.Fmt.{decimal}
 use Rattle.std.specs.List.{AllByRecursion}
 use Rattle.std.specs.Str.{encode_utf8_all}
 use Rattle.std.proofs.Math.Seq.{take-length}
 use Rattle.std.proofs.lemmas.List.{map-append}
-use Rattle.owl_command.specs.Commands.{AreNames, IsAmong, Asks, HasNoCommand, IsName, action_words, compares, flag_words, of_main}
-use Rattle.owl_command.proofs.CommandsLaws.{action_is_not_same, actions_once, flag_is_no_name}
-use Rattle.owl_command.specs.WordParts.{AreTwoNames, IsStripped, NameNone, NameWith}
+use Rattle.owl_command.specs.Commands.{AreNames, IsAmong, Asks, HasNoCommand, IsName, action_words, compares, flag_words, of_main, tries}
+use Rattle.owl_command.proofs.CommandsLaws.{action_is_not_same, action_is_not_trial, actions_once, flag_is_no_name, trial_is_not_same, verb}
+use Rattle.owl_command.specs.WordParts.{AreTwoNames, IsOneSize, IsStripped, NameNone, NameWith}
 use Rattle.owl_command.specs.declared.command.Action.{Action}
 use Rattle.owl_command.specs.declared.command.Action.TheVariants.{Translate, Check, Show}
 use Rattle.owl_command.specs.declared.command.Profile.{Profile}
@@ -55,33 +56,48 @@ no_action words t k s Show others e = s others e
 module _ (words others : List (List ℕ)) where
   pub asks_action : (action : Action) (partial : Bool) (names : List (List ℕ)) → words ≡ action_words action ++ others → NameWith others partial names → Asks words (of_main action partial names)
   asks_action action partial names e n =
-      record { names = n.right; are = e ∙ ap (λ (ws : List (List ℕ)). action_words action ++ ws) n.are }
+      record { allowed = n.right; are = e ∙ ap (λ (ws : List (List ℕ)). action_words action ++ ws) n.are }
 
   pub no_names : (action : Action) → words ≡ action_words action ++ others → NameNone others → HasNoCommand words
   no_names action e none (of_main other partial names) a =
       let one = actions_once action other others (flag_words partial ++ names) (sym e ∙ a.are) in
-      none partial names (record { right = a.names; are = one.1 })
+      none partial names (record { right = a.allowed; are = one.1 })
   no_names action e none (compares first second) a =
       action_is_not_same action others (first ∷ second ∷ []) (sym e ∙ a.are)
+  no_names action e none (tries size) a = action_is_not_trial action others (decimal size ∷ []) (sym e ∙ a.are)
 
   pub no_comparison : words ≡ codes "same" ∷ others → (AreTwoNames others → ⊥) → HasNoCommand words
   no_comparison e none (of_main action partial names) a =
       action_is_not_same action (flag_words partial ++ names) others (sym a.are ∙ e)
   no_comparison e none (compares first second) a =
       let are : others ≡ first ∷ second ∷ [] = cc in
-      none (record { first = first; second = second; are = are; names = subst AreNames (sym are) a.names })
+      none (record { first = first; second = second; are = are; names = subst AreNames (sym are) a.allowed })
+  no_comparison e none (tries size) a = trial_is_not_same (ap verb (sym a.are ∙ e))
+
+  pub no_trial : words ≡ codes "trial" ∷ others → (IsOneSize others → ⊥) → HasNoCommand words
+  no_trial e none (of_main action partial names) a =
+      action_is_not_trial action (flag_words partial ++ names) others (sym a.are ∙ e)
+  no_trial e none (compares first second) a = trial_is_not_same (ap verb (sym e ∙ a.are))
+  no_trial e none (tries size) a =
+      let are : others ≡ decimal size ∷ [] = cc in
+      none (record { size = size; word = decimal size; are = are; is = record { allowed = a.allowed; written = refl } })
 
   pub names_no_action : (action : Action) → words ≡ action_words action ++ others → HasNoCommand words → NameNone others
   names_no_action action e none partial names n = none (of_main action partial names) (asks_action action partial names e n)
 
   pub names_no_comparison : words ≡ codes "same" ∷ others → HasNoCommand words → AreTwoNames others → ⊥
   names_no_comparison e none two =
-      none (compares two.first two.second) (record { names = subst AreNames two.are two.names; are = e ∙ ap (λ (ws : List (List ℕ)). codes "same" ∷ ws) two.are })
+      none (compares two.first two.second) (record { allowed = subst AreNames two.are two.names; are = e ∙ ap (λ (ws : List (List ℕ)). codes "same" ∷ ws) two.are })
+
+  pub names_no_trial : words ≡ codes "trial" ∷ others → HasNoCommand words → IsOneSize others → ⊥
+  names_no_trial e none one =
+      none (tries one.size) (record { allowed = one.is.allowed; are = e ∙ ap (λ (ws : List (List ℕ)). codes "trial" ∷ ws) (one.are ∙ ap (λ (w : List ℕ). w ∷ []) one.is.written) })
 
 -- words that begin with none of these
-pub no_verb : (words : List (List ℕ)) → ((action : Action) (others : List (List ℕ)) → words ≢ action_words action ++ others) → ((others : List (List ℕ)) → words ≢ codes "same" ∷ others) → HasNoCommand words
-no_verb words a c (of_main action partial names) asks = a action (flag_words partial ++ names) asks.are
-no_verb words a c (compares first second) asks = c (first ∷ second ∷ []) asks.are
+pub no_verb : (words : List (List ℕ)) → ((action : Action) (others : List (List ℕ)) → words ≢ action_words action ++ others) → ((others : List (List ℕ)) → words ≢ codes "same" ∷ others) → ((others : List (List ℕ)) → words ≢ codes "trial" ∷ others) → HasNoCommand words
+no_verb words a c t (of_main action partial names) asks = a action (flag_words partial ++ names) asks.are
+no_verb words a c t (compares first second) asks = c (first ∷ second ∷ []) asks.are
+no_verb words a c t (tries size) asks = t (decimal size ∷ []) asks.are
 
 -- two words that are names
 pub pair_asks : {X : Type 0} (text : X → List ℕ) (words : List X) (x y : X) (first second : List ℕ) → 2 ≤ length words → length words < 3 → x ≡ get_or words 0 x → y ≡ get_or words 1 y → encode_utf8_all first ≡ text x → encode_utf8_all second ≡ text y → AreNames (map text words) → Asks (codes "same" ∷ map text words) (compares (encode_utf8_all first) (encode_utf8_all second))
@@ -89,5 +105,5 @@ pair_asks text [] x y first second l m e f g h n = absurd (omega arith)
 pair_asks text (a ∷ []) x y first second l m e f g h n = absurd (omega arith)
 pair_asks text (a ∷ b ∷ []) x y first second l m e f g h n =
     let are : text a ∷ text b ∷ [] ≡ encode_utf8_all first ∷ encode_utf8_all second ∷ [] = cc in
-    record { names = subst AreNames are n; are = ap (λ (ws : List (List ℕ)). codes "same" ∷ ws) are }
+    record { allowed = subst AreNames are n; are = ap (λ (ws : List (List ℕ)). codes "same" ∷ ws) are }
 pair_asks text (a ∷ b ∷ c ∷ ws) x y first second l m e f g h n = absurd (omega arith)

@@ -1,7 +1,9 @@
 -- Words ask for one thing.
-use Rattle.std.proofs.Common.{◌≡◌, ℕ, Bool, false, true, List, [], ◌∷◌, ◌++◌, codes, nat_eq, if◌then◌else◌, refl, ap, sym, ◌∙◌, subst}
+use Rattle.std.proofs.Common.{◌≡◌, ℕ, arith, Bool, false, true, List, [], ◌∷◌, ◌++◌, codes, nat_eq, if◌then◌else◌, refl, ap, sym, ◌∙◌, subst}
+use Rattle.std.specs.Fmt.{decimal}
 use Rattle.std.specs.List.{AllByRecursion}
-use Rattle.owl_command.specs.Commands.{Asks, IsName, Request, action_words, compares, flag_words, names_of, of_main, profile_word, target_word, words_of}
+use Rattle.std.proofs.lemmas.Fmt.{decimal_injective}
+use Rattle.owl_command.specs.Commands.{AreDistinct, Asks, IsAllowed, IsName, IsTrialSize, Request, action_words, compares, flag_words, names_of, of_main, profile_word, target_word, tries, words_of}
 use Rattle.owl_command.specs.declared.command.Action.{Action}
 use Rattle.owl_command.specs.declared.command.Action.TheVariants.{Translate, Check, Show}
 use Rattle.owl_command.specs.declared.command.Profile.{Profile}
@@ -87,16 +89,48 @@ action_is_not_same (Translate target) behind rest e = cc
 action_is_not_same (Check profile) behind rest e = cc
 action_is_not_same Show behind rest e = show_is_not_same (ap verb e)
 
+-- whether the third letter is that of `trial`
+abbrev is_trial : List ℕ → Bool
+is_trial (c ∷ d ∷ e ∷ cs) = nat_eq e 105
+is_trial cs = false
+
+pub trial_is_not_same : codes "trial" ≡ codes "same" → ⊥
+trial_is_not_same e = let h : true ≡ false = ap is_trial e in absurd (cc)
+
+-- nor are they those of a trial
+pub action_is_not_trial : (action : Action) (behind rest : List (List ℕ)) → action_words action ++ behind ≡ codes "trial" ∷ rest → ⊥
+action_is_not_trial (Translate target) behind rest e = let h : false ≡ true = ap (λ ws. is_trial (verb ws)) e in absurd (cc)
+action_is_not_trial (Check profile) behind rest e = let h : false ≡ true = ap (λ ws. is_trial (verb ws)) e in absurd (cc)
+action_is_not_trial Show behind rest e = let h : false ≡ true = ap (λ ws. is_trial (verb ws)) e in absurd (cc)
+
+size_once : (one other : ℕ) → IsTrialSize one → IsTrialSize other → decimal one ≡ decimal other → one ≡ other
+size_once one other h k e = decimal_injective one other (omega (arith, h.few)) (omega (arith, k.few)) e
+
+-- documents are named, and each once
+pub allowed_names : (request : Request) → IsAllowed request → AllByRecursion IsName (names_of request) × AreDistinct (names_of request)
+allowed_names (of_main action partial names) h = (h.named, h.distinct)
+allowed_names (compares first second) h = (h.named, h.distinct)
+allowed_names (tries size) h = (tt, tt)
+
 pub asks_once : (words : List (List ℕ)) (one other : Request) → Asks words one → Asks words other → one ≡ other
-asks_once words one other h k = by_words one other h.names.named k.names.named (sym h.are ∙ k.are)
+asks_once words one other h k = by_words one other h.allowed k.allowed (sym h.are ∙ k.are)
   where
-    by_words : (one other : Request) → AllByRecursion IsName (names_of one) → AllByRecursion IsName (names_of other) → words_of one ≡ words_of other → one ≡ other
+    by_words : (one other : Request) → IsAllowed one → IsAllowed other → words_of one ≡ words_of other → one ≡ other
     by_words (of_main a p names) (of_main b q others) h k e =
         let action = actions_once a b (flag_words p ++ names) (flag_words q ++ others) e in
-        let once = flags_once p q names others h k action.1 in
+        let once = flags_once p q names others h.named k.named action.1 in
         cc
     by_words (of_main a p names) (compares first second) h k e =
         absurd (action_is_not_same a (flag_words p ++ names) (first ∷ second ∷ []) e)
+    by_words (of_main a p names) (tries size) h k e =
+        absurd (action_is_not_trial a (flag_words p ++ names) (decimal size ∷ []) e)
     by_words (compares first second) (of_main b q others) h k e =
         absurd (action_is_not_same b (flag_words q ++ others) (first ∷ second ∷ []) (sym e))
     by_words (compares first second) (compares third fourth) h k e = cc
+    by_words (compares first second) (tries size) h k e = absurd (trial_is_not_same (ap verb (sym e)))
+    by_words (tries size) (of_main b q others) h k e =
+        absurd (action_is_not_trial b (flag_words q ++ others) (decimal size ∷ []) (sym e))
+    by_words (tries size) (compares third fourth) h k e = absurd (trial_is_not_same (ap verb e))
+    by_words (tries m) (tries n) h k e =
+        let word : decimal m ≡ decimal n = cc in
+        ap tries (size_once m n h k word)

@@ -1,5 +1,6 @@
 -- What the words of the command line ask for.
 use Rattle.std.specs.Prelude.{◌≡◌, ◌≢◌, ◌<◌, ◌≤◌, ◌⊎◌, ℕ, Bool, false, true, List, [], ◌∷◌, ◌++◌, length, map, codes}
+use Rattle.std.specs.Fmt.{decimal}
 use Rattle.std.specs.List.{AllByRecursion}
 use Rattle.std.specs.Str.{encode_utf8_all}
 use Rattle.owl_command.specs.declared.command.Target.{Target}
@@ -9,7 +10,7 @@ use Rattle.owl_command.specs.declared.command.Profile.TheVariants.{Dl, El, Ql, R
 use Rattle.owl_command.specs.declared.command.Action.{Action}
 use Rattle.owl_command.specs.declared.command.Action.TheVariants.{Translate, Check, Show}
 use Rattle.owl_command.specs.declared.command.Command.{Command}
-use Rattle.owl_command.specs.declared.command.Command.TheVariants.{OfMain, Same}
+use Rattle.owl_command.specs.declared.command.Command.TheVariants.{OfMain, Same, Trial}
 
 -- the name ends in the suffix, behind at least one character
 pub record EndsIn (suffix name : List ℕ) : Type 0 where
@@ -47,21 +48,39 @@ pub record AreNames (names : List (List ℕ)) : Type 0 where
   pub named : AllByRecursion IsName names
   pub distinct : AreDistinct names
 
--- What words can ask for: an action, or whether two documents say the same. An action is of a main document, whose name is the
--- first, and of those that it may import; imports may be missing where that is said. Names are in bytes.
+-- the most classes that the document of a trial has
+abbrev pub most_classes : ℕ
+most_classes = 20000
+
+-- so many classes the document of a trial may have
+pub record IsTrialSize (size : ℕ) : Type 0 where
+  pub some : 0 < size
+  pub few : size ≤ most_classes
+
+-- What words can ask for: an action, whether two documents say the same, or a trial of the program on a document of its own, with so
+-- many classes. An action is of a main document, whose name is the first, and of those that it may import; imports may be missing
+-- where that is said. Names are in bytes.
 pub data Request : Type 0 where
   of_main : Action → Bool → List (List ℕ) → Request
   compares : List ℕ → List ℕ → Request
+  tries : ℕ → Request
 
 -- the documents, in the order in which they are read
 abbrev pub names_of : Request → List (List ℕ)
 names_of (of_main action partial names) = names
 names_of (compares first second) = first ∷ second ∷ []
+names_of (tries size) = []
+
+-- the documents may be named so, or the trial may have this size
+abbrev pub IsAllowed : Request → Type 0
+IsAllowed (tries size) = IsTrialSize size
+IsAllowed request = AreNames (names_of request)
 
 -- each import has to be there
 abbrev pub AsksImports : Request → Type 0
 AsksImports (of_main action partial names) = partial ≡ false
 AsksImports (compares first second) = ⊥
+AsksImports (tries size) = ⊥
 
 -- the word of a target
 abbrev pub target_word : Target → List ℕ
@@ -91,10 +110,11 @@ flag_words true = codes "--partial" ∷ []
 abbrev pub words_of : Request → List (List ℕ)
 words_of (of_main action partial names) = action_words action ++ (flag_words partial ++ names)
 words_of (compares first second) = codes "same" ∷ first ∷ second ∷ []
+words_of (tries size) = codes "trial" ∷ decimal size ∷ []
 
 -- The words ask for this.
 pub record Asks (words : List (List ℕ)) (request : Request) : Type 0 where
-  pub names : AreNames (names_of request)
+  pub allowed : IsAllowed request
   pub are : words ≡ words_of request
 
 -- These words have no command.
@@ -111,6 +131,7 @@ pub record Name (words : List (List ℕ)) (name : List ℕ) : Type 0 where
 abbrev pub request_of : Command → Request
 request_of (OfMain action partial names) = of_main action partial (map encode_utf8_all names.items)
 request_of (Same first second) = compares (encode_utf8_all first) (encode_utf8_all second)
+request_of (Trial size) = tries size
 
 -- The words ask for what the command does.
 abbrev pub IsCommand : List (List ℕ) → Command → Type 0

@@ -2,9 +2,10 @@
 
 ghost use Rattle.std.specs.Prelude.{◌≡◌, ◌≢◌, ◌∷◌, ◌++◌, ◌<◌, ◌↔◌, List, ℕ, Some, length, map, slice_get, string_bytes, IsTrue, IfOk, IfSome, IfNone, IsErrOf, codes};
 ghost use Rattle.owl_command.specs.Commands.{AsksImports, HasNoCommand, IsCommand, action_words, names_of, profile_word, request_of, target_word};
-ghost use Rattle.owl_command.specs.WordParts.{AreTwoNames, IsStripped, NameNone, NameWith};
+ghost use Rattle.owl_command.specs.WordParts.{AreTwoNames, IsOneSize, IsStripped, NameNone, NameWith};
 
 use crate::names::{are_names, is_word, texts_of};
+use crate::size::trial_size;
 use owl_characters::{NoMemory, Text};
 use std::alloc::Global;
 use thiserror::Error;
@@ -74,6 +75,10 @@ pub enum Command {
         first: Text,
         second: Text,
     },
+    /// `trial SIZE`, of a document with so many classes
+    Trial {
+        size: u32,
+    },
 }
 
 impl Command {
@@ -84,6 +89,7 @@ impl Command {
         match self {
             Command::OfMain { names, .. } => names.len(),
             Command::Same { .. } => 2,
+            Command::Trial { .. } => 0,
         }
     }
 
@@ -102,6 +108,7 @@ impl Command {
                     second.as_str()
                 }
             }
+            Command::Trial { .. } => unreachable!(),
         }
     }
 
@@ -111,7 +118,7 @@ impl Command {
     {
         match self {
             Command::OfMain { partial, .. } => !*partial,
-            Command::Same { .. } => false,
+            Command::Same { .. } | Command::Trial { .. } => false,
         }
     }
 }
@@ -307,6 +314,21 @@ fn same(alloc: Global, words: &[String]) -> Result<Command, WordsFault>
     }
 }
 
+/// What the words behind `trial` ask for.
+fn trial(words: &[String]) -> Result<Command, WordsFault>
+    ensures command { IfOk result (IsCommand (codes "trial" ∷ map string_bytes words.now)) }
+    ensures none { IsErrOf result WordsFault.Words → IsOneSize (map string_bytes words.now) → ⊥ }
+    ensures refused { (IsOneSize (map string_bytes words.now) → ⊥) → IsErrOf result WordsFault.Words }
+{
+    match words {
+        [word] => match trial_size(word.as_str()) {
+            Some(size) => Ok(Command::Trial { size }),
+            None => Err(WordsFault::Words),
+        },
+        _ => Err(WordsFault::Words),
+    }
+}
+
 /// What the words behind the program's name ask for. `Words` comes exactly where they have no command, and `Memory`
 /// where memory runs out.
 pub fn words(alloc: Global, words: &[String]) -> Result<Command, WordsFault>
@@ -318,6 +340,8 @@ pub fn words(alloc: Global, words: &[String]) -> Result<Command, WordsFault>
         of_main(alloc, action, others)
     } else if let Some(others) = strip(words, "same") {
         same(alloc, others)
+    } else if let Some(others) = strip(words, "trial") {
+        trial(others)
     } else {
         Err(WordsFault::Words)
     }

@@ -3,6 +3,7 @@
 
 mod command;
 mod names;
+mod size;
 mod status;
 
 pub use command::{Action, Command, Profile, Target, WordsFault, words};

@@ -5,3 +5,4 @@ pub mod Summary
 pub mod Unsaid
 pub mod VerdictLines
 pub mod Verdicts
+pub mod Trial

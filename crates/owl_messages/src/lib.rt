@@ -5,6 +5,7 @@ mod answer;
 mod refusal;
 mod refusals;
 mod summaries;
+mod trial;
 mod unsaid;
 mod verdicts;
 
@@ -12,5 +13,6 @@ pub use answer::{Answer, done_line, said, told, too_long_output};
 pub use refusal::{answer_trouble, refuse_import, refuse_output};
 pub use refusals::{refuse_kinds, refuse_undeclared, refuse_unsayable};
 pub use summaries::summary;
+pub use trial::{BreachCounts, Findings, trial_report};
 pub use unsaid::{UnsaidFault, refuse_unsaid};
 pub use verdicts::verdict;

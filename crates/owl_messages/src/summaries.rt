@@ -25,7 +25,7 @@ fn iri_line(alloc: Global, label: &str, iri: &Option<Iri>) -> Result<String, All
 }
 
 /// A line with a number.
-fn count_line(alloc: Global, label: &str, count: u64) -> Result<String, AllocError>
+pub fn count_line(alloc: Global, label: &str, count: u64) -> Result<String, AllocError>
     ensures { IfOk result (λ line. string_bytes line ≡ count_line label.now count) }
 {
     format!(in alloc; "{label} {count}\n")

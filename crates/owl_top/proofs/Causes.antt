@@ -1,13 +1,14 @@
 -- What the line of a read fault tells.
-use Rattle.std.proofs.Common.{◌≡◌, inl, inr, ℕ, List, refl, ap, ◌∙◌}
+use Rattle.std.proofs.Common.{◌≡◌, inl, inr, ℕ, List, refl, sym, ap, ◌∙◌, subst}
 use Rattle.owl_reader.specs.declared.fault.ReadFault.TheVariants as read
 use Rattle.owl_documents.specs.declared.trouble.Refusal.{Refusal}
 use Rattle.owl_documents.specs.declared.trouble.Refusal.TheVariants.{DocumentBytes, AllBytes, Unreadable, Headless}
-use Rattle.owl_command.specs.Commands.{Request, compares, of_main}
+use Rattle.owl_command.specs.Commands.{Request, compares, of_main, tries}
 use Rattle.owl_command.specs.declared.command.Action.TheVariants.{Translate, Check, Show}
 use Rattle.owl_documents.specs.Documents.{IsProperRefusal}
 use Rattle.rdf_scans.specs.declared.fault.OutlineFault.TheVariants as outline
-use Rattle.owl_answer.specs.Runs.{IsIllTyped, IsRefusalLine, IsUnsayable, LineFor, SuccessLine, of_bytes, of_saying, of_import, of_no_memory, of_output, of_part, of_read_fault, of_refusal, of_success, of_triples, of_two_kinds, of_typing, of_undeclared, of_unsayable, of_weight, of_write_fault}
+use Rattle.owl_answer.specs.Outcome.{IsSettled}
+use Rattle.owl_answer.specs.Runs.{IsIllTyped, IsRefusalLine, IsUnsayable, LineFor, SuccessLine, of_bytes, of_saying, of_import, of_no_memory, of_output, of_part, of_read_fault, of_refusal, of_success, of_trial, of_triples, of_two_kinds, of_typing, of_undeclared, of_unsayable, of_weight, of_write_fault}
 use Rattle.owl_command.specs.declared.status.Status.TheVariants.{ReadFailed}
 use Rattle.owl_messages.proofs.UnsaidLaws.{IsRefusal, unsaid_is_refused}
 use Rattle.owl_messages.specs.Outcome.{Outcome, refusal_outcome}
@@ -19,6 +20,7 @@ no_success (of_main (Translate target) partial names) line s = s
 no_success (of_main (Check profile) partial names) line s = s
 no_success (of_main Show partial names) line s = s
 no_success (compares first second) line s = s
+no_success (tries size) line s = s
 
 no_refusal : (name : List ℕ) (refusal : Refusal) → IsProperRefusal refusal → ReadFailed ≡ (refusal_outcome name refusal).status → ⊥
 no_refusal name DocumentBytes n e = cc
@@ -59,6 +61,7 @@ fault_in request IsCause line (of_typing asks refusal h e l) = absurd (no_typing
 fault_in request IsCause line (of_unsayable asks refusal h e l) = absurd (no_unsayable refusal h e)
 fault_in request IsCause line (of_triples asks e l) = absurd (cc)
 fault_in request IsCause line (of_output e l) = absurd (cc)
+fault_in request IsCause line (of_trial size same outcome h settled e l) = absurd (subst IsSettled (sym e) settled)
 fault_in request IsCause line (of_read_fault name h e l) = (name, h)
 fault_in request IsCause line (of_write_fault e l) = absurd (cc)
 fault_in request IsCause line (of_no_memory e l) = absurd (cc)

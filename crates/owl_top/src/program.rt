@@ -1,15 +1,15 @@
 //! All that the program does.
 
-ghost use Rattle.std.specs.Prelude.{◌≡◌, ◌≢◌, ◌++◌, ◌↔◌, ◌⊎◌, ℕ, Bool, List, Some, [], map, take, string_bytes, IsTrue, IfOk};
+ghost use Rattle.std.specs.Prelude.{◌≡◌, ◌≢◌, ◌++◌, ◌↔◌, ◌⊎◌, ℕ, Bool, List, Some, [], map, take, string_bytes, IsTrue};
 ghost use Rattle.std.specs.List.{AllByRecursion};
 ghost use Rattle.owl_port.specs.Outside.{Rose};
-ghost use Rattle.owl_command.specs.Commands.{AreNames, Asks, HasNoCommand, Name, Request, names_of, of_main, request_of};
+ghost use Rattle.owl_command.specs.Commands.{Asks, HasNoCommand, IsAllowed, Name, Request, names_of, of_main, request_of};
 ghost use Rattle.owl_command.specs.declared.command.Action.TheVariants as Action;
 ghost use Rattle.owl_command.specs.declared.command.Profile.{Profile};
 ghost use Rattle.owl_documents.specs.Shelves.{IsFaulty, IsFirstFaulty, IsFrontTaken, IsTaken};
 ghost use Rattle.owl_answer.specs.InProfile.{IsInProfile};
 ghost use Rattle.owl_answer.specs.Outcome.{IsQuiet, IsSettled, IsSuccess, IsTheOutcome};
-ghost use Rattle.owl_answer.specs.Runs.{Becomes, IsFrontNoted, IsFrontOfNote, IsFrontWritten, IsLine, IsNoted, IsNotedAlone, IsOutcome, IsReadBack, IsWritten, LineFor};
+ghost use Rattle.owl_answer.specs.Runs.{Becomes, IsFrontNoted, IsFrontOfNote, IsFrontWritten, IsLine, IsNoted, IsNotedAlone, IsOutcome, IsWritten, LineFor};
 ghost use Rattle.owl_answer.specs.Answers.{IsProper, IsWrittenFor, delivered_line};
 ghost use Rattle.owl_messages.specs.Answers.{outcome_of};
 ghost use Rattle.owl_messages.specs.Outcome.{Outcome};
@@ -65,7 +65,7 @@ fn obey<S: Shelf, O: Sink, N: Sink>(
     out: &mut O,
     note: &mut N,
 ) -> Status
-    requires { AreNames (names_of (request_of command.now)) }
+    requires { IsAllowed (request_of command.now) }
     ensures some { result ≢ Status.Words }
     ensures outcome { IsTrue (S.tells shelf.old) → IsSettled result →
         (outcome : Outcome) × IsTheOutcome (Becomes (S.left shelf.old) (request_of command.now)) outcome × (result ≡ outcome.status) }
@@ -111,7 +111,7 @@ fn obey<S: Shelf, O: Sink, N: Sink>(
 /// A name that ends in `.ttl` is of a document in Turtle, one that ends in `.omn` of a document in Manchester Syntax, and
 /// each other one of a document in Functional-Style Syntax.
 ///
-/// The line of a status is `translated; axioms A; absorbed K`, `profile P: yes`, `shown` or `same` for `Done`,
+/// The line of a status is `translated; axioms A; absorbed K`, `profile P: yes`, `shown`, `same` or `trial done` for `Done`,
 /// `profile P: no; breaches B` or `different` for `No`, `words` for `Words`; for `Document` `NAME: item at ITEM: REASON at AT`,
 /// `NAME: MissingImport <IRI>`, or the fault of a graph or of frames:
 /// `NAME: NoHeader`, `NAME: TwoHeaders`, `NAME: BadHeader NODE`, `NAME: TwoKinds <IRI>`, `NAME: Mixed _:LABEL`, and so with
@@ -127,6 +127,10 @@ fn obey<S: Shelf, O: Sink, N: Sink>(
 /// says no ontology is refused; then, unless a document in Functional-Style Syntax is translated to it, whether what the main
 /// one says is well typed; then, for Turtle and Manchester Syntax, whether it can be said. A check looks at all documents of
 /// the import closure, and tells each rule with each part that breaks it. A fault of `note` changes no status.
+///
+/// A trial reads nothing from the shelf: it makes a document in Functional-Style Syntax with so many classes, reads it,
+/// translates it to Turtle and to Manchester Syntax, reads both back, and checks it for each profile. Its nine lines tell
+/// how many axioms, distinct trees and triples there are, whether both texts say the same, and how often rules are broken.
 pub fn run<S: Shelf, O: Sink, N: Sink>(
     alloc: Global,
     words: &[String],

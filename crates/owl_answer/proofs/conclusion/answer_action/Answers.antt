@@ -8,7 +8,7 @@ use Rattle.owl_answer.specs.Reading.{IsFirstFault, IsReadAs}
 use Rattle.owl_messages.specs.declared.answer.Answer.{Answer}
 use Rattle.owl_answer.proofs.Readings.{as_many, some_read, within_names}
 use Rattle.owl_answer.proofs.Same.{no_want}
-use Rattle.owl_answer.proofs.UnderKinds.{action_told, action_unsaid}
+use Rattle.owl_answer.proofs.UnderKinds.{action_told, action_unsaid, some_of_main}
 use Rattle.owl_answer.proofs.Wanting.{from_both, parsed_at, stands_at}
 use Rattle.owl_answer.proofs.conclusion.answer_action.Goals as goal
 use Rattle.owl_messages.specs.Answers.{outcome_of}
@@ -31,7 +31,7 @@ returns-in-Ok c =
     let closure = c.in_ok-closure.closure in
     let closed = subst (λ (docs : List Document). IsClosure (map parsed_of docs) c.in_ok-closure.closure) c.deref.ensures.value c.in_ok-closure.ensures in
     let document = c.index.result.now in
-    let there = parsed_at docs 0 document (stands_at docs 0 document document c.requires.asked_for.some c.index.ensures refl) in
+    let there = parsed_at docs 0 document (stands_at docs 0 document document (some_of_main asked c.args.action c.requires) c.index.ensures refl) in
     let read : IsReadAs documents closure c.in-Ok.said.items c.asks_types-asks.result = record { closed = closed; say = c.in-Ok.ensures.said; main = parsed_of document; there = there; asks = sym c.asks_types-asks.ensures } in
     IfOk-weaker c.tell_closure.result _ _ (λ (a : Answer) h. action_told (request_of asked.command.now) c.args.action c.requires.partial c.requires.names c.requires.asks documents c.requires.imports closure closed c.in-Ok.said.items c.in-Ok.ensures.said (outcome_of a) (h documents read)) c.tell_closure.ensures
 

@@ -1,4 +1,4 @@
-use Rattle.owl_command.proofs.Asking.{names_no_action, names_no_comparison}
+use Rattle.owl_command.proofs.Asking.{names_no_action, names_no_comparison, names_no_trial}
 use Rattle.owl_command.proofs.command.words.Goals as goal
 
 pub returns-in-Some-clause-refused : goal.returns-in-Some-clause-refused
@@ -6,3 +6,6 @@ returns-in-Some-clause-refused c = λ none. c.of_main.ensures.refused (names_no_
 
 pub returns-in-Some-strip-clause-refused : goal.returns-in-Some-strip-clause-refused
 returns-in-Some-strip-clause-refused c = λ none. c.same.ensures.refused (names_no_comparison _ _ c.in-Some-strip.ensures.some none)
+
+pub returns-in-Some-strip-2-clause-refused : goal.returns-in-Some-strip-2-clause-refused
+returns-in-Some-strip-2-clause-refused c = λ none. c.trial.ensures.refused (names_no_trial _ _ c.in-Some-strip-2.ensures.some none)
