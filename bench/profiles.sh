@@ -9,7 +9,7 @@
 # at most 1.5 times as long as `show` in each profile, and of 20,000 in DL 1.3 times.
 #
 # Where Java and the OWL API are there (Debian's libowlapi-java), its check of the same
-# profile (OwlApiCheck.java) is timed once behind each, with all that Java takes to begin.
+# profile (OwlApiBench.java) is timed once behind each, with all that Java takes to begin.
 set -uo pipefail
 
 runs=${RUNS:-3}
@@ -149,7 +149,7 @@ run() {
 # Times the OWL API's check of a profile once, and tells what came of it.
 run_other() {
     local user system kilobytes status
-    /usr/bin/time -q -f '%U %S %M' -o "$room/time" timeout "$limit" java -Xmx8g -cp "$jars:$room" OwlApiCheck "$1" "$room/$document" >"$room/out" 2>/dev/null
+    /usr/bin/time -q -f '%U %S %M' -o "$room/time" timeout "$limit" java -Xmx8g -cp "$jars:$room" OwlApiBench 1 check "$1" "$room/$document" >"$room/out" 2>/dev/null
     status=$?
     if ((status == 124)); then
         echo "OWL API not within $limit s"
@@ -158,7 +158,7 @@ run_other() {
     else
         read -r user system kilobytes < <(tail -n 1 "$room/time")
         awk "BEGIN { printf \"OWL API %.2f s %.1f MB \", $user + $system, $kilobytes / 1000 }"
-        tail -n 1 "$room/out"
+        cut -d ' ' -f 2- "$room/out"
     fi
 }
 
@@ -215,7 +215,7 @@ program=$(readlink -f -- "${1:-$top/bin/owl}") && [[ -x $program ]] || fail "the
 jars=
 if command -v javac >/dev/null && [[ -e /usr/share/java/owlapi-distribution.jar ]]; then
     jars=$(printf '%s:' /usr/share/java/*.jar)
-    javac -d "$room" -cp "$jars" "$top/bench/OwlApiCheck.java" || jars=
+    javac -d "$room" -cp "$jars" "$top/bench/OwlApiBench.java" || jars=
 fi
 
 printf '%-26s %7s %10s %10s %10s %10s %10s %12s  %s\n' document count size show memory check memory check/show line
