@@ -151,6 +151,8 @@ printf 'Prefix(:=<http://e/>) Ontology(:k Declaration(ObjectProperty(:p)))' >kin
 sed '1s/Ontology(/&Import(:k) /' heavy.ofn >typed.ofn
 # 4,200 axioms over one list of as many classes, half a megabyte.
 "$top/tools/make_hostile.py" disjoint_unions 4200 >shared.ttl
+# The document of a trial, 2 MB.
+"$top/tools/make_trial.py" 20000 >trial.ofn
 mkdir folder.ofn
 cp m.ofn secret.ofn && chmod 000 secret.ofn
 mkfifo pipe.ofn
@@ -160,8 +162,8 @@ cp "$top/examples/home.omn" home.omn
 
 # --- Each status, with both streams.
 call 'an empty ontology is translated' 0 "$nothing" "$done_line" translate --to fss m.ofn
-call 'the example is translated' 0 "$top/crates/owl_cli/stdout" \
-    "translated; axioms $(grep -c -v -E '^(Prefix\(|Annotation\(|Ontology\(|\)$)' "$top/crates/owl_cli/stdout"); absorbed 0
+call 'the example is translated' 0 "$top/checks/instruments.ofn" \
+    "translated; axioms $(grep -c -v -E '^(Prefix\(|Annotation\(|Ontology\(|\)$)' "$top/checks/instruments.ofn"); absorbed 0
 " translate --to fss instruments.ofn
 call 'an empty ontology in Turtle' 0 '@prefix owl: <http://www.w3.org/2002/07/owl#> .
 @prefix rdf: <http://www.w3.org/1999/02/22-rdf-syntax-ns#> .
@@ -388,6 +390,35 @@ DL-9 1 AsymmetricObjectProperty(<http://e/p>)
 shell 'an output that nobody reads' 7 '' 'write
 ' '{ sleep 0.2; "$owl" translate --to fss m.ofn; } | true; exit ${PIPESTATUS[0]}'
 
+# --- All of it.
+call 'a trial of three classes' 0 'axioms 8
+distinct 15
+triples 15
+ttl same
+omn same
+dl yes
+el yes
+ql yes
+rl no 2
+' 'trial done
+' trial 3
+call 'a trial of 20,000 classes' 0 'axioms 59999
+distinct 100000
+triples 119997
+ttl same
+omn same
+dl yes
+el yes
+ql yes
+rl no 19999
+' 'trial done
+' trial 20000
+line='translated; axioms 59999; absorbed 0
+'
+shell 'four translations of the document of a trial' 0 '' "$line$line$line$line" '
+    cd "$room/seen" && "$owl" translate --to fss ../work/trial.ofn >first.ofn && "$owl" translate --to ttl first.ofn >m.ttl &&
+    "$owl" translate --to omn m.ttl >m.omn && "$owl" translate --to fss m.omn >last.ofn && cmp first.ofn last.ofn'
+
 # --- The script.
 script() {
     local what=$1 status=$2 wanted=$3
@@ -398,9 +429,9 @@ script() {
     grep -q -- "$wanted" "$room/seen/output" "$room/seen/note" || wrong+="it doesn't say $wanted"
     judge "$what" "$wrong"
 }
-script 'the script tells how to use it' 0 'usage: owl translate --to fss' "$top/owl" --help
+script 'the script tells how to use it' 0 'translate --to fss' "$top/owl" --help
 script 'the script tells the version' 0 "^owl $(<"$top/VERSION")," "$top/owl" --version
-script 'the script names its help' 2 'owl --help' "$top/owl" show
+script 'the script names its help' 2 'owl --help' "$top/owl"
 script 'the script passes words and the status through' 6 'read: no  such.ofn' "$top/owl" show 'no  such.ofn'
 
 echo "$passed passed, $failed failed"
