@@ -210,7 +210,7 @@ def fail_streams(words, base):
         ("no input", base, {"before": bash("exec <&-")}),
         ("no stream", neither, {"before": bash("exec <&- >&- 2>&-")}),
     ]
-    if text:
+    if text and not words.startswith("trial"):
         # The second document is one too many.
         last = (6, b"", f"read: {words.split()[-1]}\n".encode())
         streams.append(("four files", last, {"before": bash("ulimit -n 4")}))
