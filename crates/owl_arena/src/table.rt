@@ -94,8 +94,8 @@ impl Table {
         if more <= self.spare() {
             return Ok(());
         }
-        self.nodes.reserve(more.saturating_add(1))?;
-        let buckets = odd_at_most(self.nodes.capacity());
+        let buckets = buckets_for(self.nodes.len(), more).ok_or(NoMemory)?;
+        self.nodes.reserve(buckets - self.nodes.len())?;
         self.nexts.reserve(buckets - self.nexts.len())?;
         let mut heads = vec![in *self.heads.allocator(); 0; buckets]?;
         link_all(&self.nodes, &mut heads, &mut self.nexts);
@@ -118,22 +118,21 @@ impl Table {
     }
 }
 
-/// The greatest odd number up to this one.
+/// The least number of buckets that is one less than a power of two and has room for
+/// so many nodes and so many more; none where it is past the numbers of the machine.
 ///
-/// Nodes over kids at places that follow one another have mixes that lie a
-/// multiple of four apart, and would leave most of an even number of buckets
-/// empty.
-fn odd_at_most(number: usize) -> usize
-    requires { 0 < number }
-    ensures most { result ≤ number }
-    ensures near { number ≤ result + 1 }
-    ensures some { 0 < result }
+/// A step of a mix multiplies by 1000003. Nodes over kids at places that follow one
+/// another have mixes that lie 1000004 or 1000002 apart, and would leave most buckets
+/// empty where their number shares a large factor with one of these.
+fn buckets_for(nodes: usize, more: usize) -> Option<usize>
+    ensures { IfSome result (λ buckets. nodes + more ≤ buckets) }
 {
-    if number.is_multiple_of(2) {
-        number - 1
-    } else {
-        number
+    let needed = nodes.checked_add(more)?;
+    let mut buckets: usize = 1;
+    while buckets < needed {
+        buckets = buckets.checked_add(buckets)?.checked_add(1)?;
     }
+    Some(buckets)
 }
 
 /// Puts the nodes into empty chains, one behind the other.
