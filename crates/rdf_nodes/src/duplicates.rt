@@ -13,15 +13,25 @@ use rdf_asked::shares_lists;
 use rdf_graph::{Term, Triple};
 use rdf_terms::Label;
 use std::hash::{DefaultHasher, Hasher};
+use std::marker::Model;
 
 /// Nodes that were asked for, by a hash of their predicates and objects. Only where
 /// two triples name one list are any kept: there each of the nodes that share it may
 /// have to be read in the time that the list takes, and one that has the same triples
-/// as another need not.
+/// as another need not. Contracts see the hashes that are kept, in the order in which
+/// they came, each with the number of its node.
 #[derive(Debug, Drop)]
 pub struct Duplicates {
     asked_for: IndexMap<u64, usize>,
     are_kept: bool,
+}
+
+impl Model for Duplicates {
+    ghost use Rattle.std.specs.Prelude.{List, ℕ};
+
+    ghost Value = { List (ℕ × ℕ) };
+
+    ghost view = { λ d. d.asked_for.entries };
 }
 
 impl Duplicates {
@@ -42,15 +52,15 @@ impl Duplicates {
         requires { IsTableOf source.now.graph.now source.now.roles.now }
         ensures found { IfOk result (λ found. IfSome found (λ other.
             AreDuplicates source.now.graph.now source.now.roles.now other number)) }
-        ensures kept { AddsAtMost self.old.asked_for.entries self.new.asked_for.entries number }
-        ensures err { OnErr result (self.new.asked_for.entries ≡ self.old.asked_for.entries) }
+        ensures kept { AddsAtMost self.old self.new number }
+        ensures err { OnErr result (self.new ≡ self.old) }
     {
         if !self.are_kept {
             return Ok(None);
         }
         let hash = hash_of(source, number)?;
         let Some(other) = self.asked_for.get(&hash).copied() else {
-            self.keep(hash, number)?;
+            keep(&mut self.asked_for, hash, number)?;
             return Ok(None);
         };
         if are_duplicates(source, other, number)? {
@@ -59,18 +69,17 @@ impl Duplicates {
             Ok(None)
         }
     }
+}
 
-    /// Keeps the number of a node by a hash that no node had.
-    fn keep(&mut self, hash: u64, number: usize) -> Result<(), NoMemory>
-        requires { get nat_eq self.old.asked_for hash ≡ None }
-        ensures ok { OnOk result (self.new.asked_for.entries
-            ≡ self.old.asked_for.entries ++ (hash, number) ∷ []) }
-        ensures err { OnErr result (self.new.asked_for.entries ≡ self.old.asked_for.entries) }
-    {
-        match self.asked_for.insert(hash, number) {
-            Ok(_) => Ok(()),
-            Err(_) => Err(NoMemory),
-        }
+/// Keeps the number of a node by a hash that no node had.
+fn keep(asked_for: &mut IndexMap<u64, usize>, hash: u64, number: usize) -> Result<(), NoMemory>
+    requires { get nat_eq asked_for.old hash ≡ None }
+    ensures ok { OnOk result (asked_for.new.entries ≡ asked_for.old.entries ++ (hash, number) ∷ []) }
+    ensures err { OnErr result (asked_for.new.entries ≡ asked_for.old.entries) }
+{
+    match asked_for.insert(hash, number) {
+        Ok(_) => Ok(()),
+        Err(_) => Err(NoMemory),
     }
 }
 

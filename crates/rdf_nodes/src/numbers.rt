@@ -147,10 +147,8 @@ impl<'a> Source<'a> {
         requires { IsTableOf self.now.graph.now self.now.roles.now }
         ensures found { IfOk result (λ found. IfSome found (
             IsNumberOfDuplicate self.now.graph.now self.now.roles.now ids.now number)) }
-        ensures kept { AddsAtMost duplicates.old.asked_for.entries
-            duplicates.new.asked_for.entries number }
-        ensures err { OnErr result (duplicates.new.asked_for.entries
-            ≡ duplicates.old.asked_for.entries) }
+        ensures kept { AddsAtMost duplicates.old duplicates.new number }
+        ensures err { OnErr result (duplicates.new ≡ duplicates.old) }
     {
         let Some(other) = duplicates.earlier(self, number)? else {
             return Ok(None);
