@@ -26,4 +26,5 @@ pub use numbers::no_numbers;
 pub use rdf_asked::untyped;
 pub use rdf_meaning::Role;
 pub use rdf_roles::{NodeFault, Roles};
+pub use rdf_thin::{is_thin, thin};
 pub use source::Source;

@@ -14,7 +14,7 @@ mod site;
 pub use carried::{carried_word, carries};
 pub use chosen::{cell, is_reification, next_object, only_facet, only_object};
 pub use fits::NodeWords;
-pub use iris::{is_facet, is_nil, is_nil_iri};
+pub use iris::{has_iri, is_facet, is_nil, is_nil_iri, is_spelled, is_type_iri};
 pub use laws::{nodes_are_told_by_their_triples, only_ones_are_told};
 pub use literals::{Cardinality, cardinality_of, is_digits, is_true};
 pub use roles::{Marked, is_own, marked_role};
