@@ -4,6 +4,7 @@ use Rattle.std.specs.Prelude.{Contains}
 use Rattle.owl_kind.specs.Kinds.{Entity}
 use Rattle.owl_list.proofs.AscendingLaws.{all_from}
 use Rattle.owl_tree.specs.Ontologies.{Ontology}
+use Rattle.rdf_meaning.specs.Kinds.{HaveNoClash}
 use Rattle.rdf_meaning.specs.Statements.{Says}
 use Rattle.rdf_mapping.specs.Drawing.{Statement}
 use Rattle.rdf_mapping.specs.Entries.{AreAllBeside, AreEntries}
@@ -22,7 +23,7 @@ use Rattle.rdf_axioms.specs.AxiomReading.{IsWellDrawn}
 use Rattle.rdf_states.proofs.GraphOf.{AreReadBack, AreWellDrawn, IsGraphOf, LabelsAreSingle}
 use Rattle.rdf_states.proofs.RoleLaws.{no_note_marks}
 use Rattle.rdf_states.proofs.SideLaws.{header_beside, labels_single, set_beside}
-use Rattle.rdf_states.specs.Stated.{CanBeStated}
+use Rattle.rdf_states.specs.Stated.{CanBeDrawn}
 use Rattle.rdf_states.proofs.StatedLaws.{bare_statement}
 use Rattle.rdf_states.proofs.WholeStateLaws.{says}
 
@@ -32,7 +33,7 @@ group_drawn name o drawn q m =
     let a = group_of_axiom o.axioms q m in
     subst (λ (s : Statement). IsWellDrawn name (made_nodes o) s) (sym (bare_statement a.0) ∙ ap (λ (r : Group). r.statement) a.2) (drawn a.0 a.1)
 
-module _ (k : List Entity) (o : Ontology) (c : CanBeStated k o) (drawn : AreWellDrawn (fresh_name (labels_of o)) o) where
+module _ (k : List Entity) (o : Ontology) (c : CanBeDrawn k o) (drawn : AreWellDrawn (fresh_name (labels_of o)) o) where
   abbrev name : ℕ → List ℕ
   name = fresh_name (labels_of o)
 
@@ -62,5 +63,5 @@ module _ (k : List Entity) (o : Ontology) (c : CanBeStated k o) (drawn : AreWell
     pub entries : AreEntries name (graph_of o) (made_entries name o)
     entries = graph_entries o c.few stated_apart (header_beside k o c) beside (no_note_marks k o c name (graph_of o) graph_is drawn single read)
 
-    pub graph_says : Says (graph_of o) k o
-    graph_says = says k o c name (graph_of o) graph_is drawn single read entries
+    pub graph_says : HaveNoClash k → Says (graph_of o) k o
+    graph_says apart = says k o (record { no_clash = apart; can_be_drawn = c }) name (graph_of o) graph_is drawn single read entries

@@ -202,7 +202,7 @@ module _ (k : List Entity) (o : Ontology) (c : CanBeStated k o) (name : ℕ → 
     where
       by : IsAtHeader name o t → Contains (head_triples header o.head) t
       by (names j) = j
-      by (annotates j) = absurd (free_carries t.predicate (header_property k o c header t j).free t refl w h)
+      by (annotates j) = absurd (free_carries t.predicate (header_property k o c.can_be_drawn header t j).free t refl w h)
       by (says b l p j) = absurd (says_no_word t w (place_says name o drawn b l p t j) i h)
 
   versions_same : HoldSame (filter (carries word.VersionIri) (of_subject g header)) (version_triples header (version_of o.head.name))
@@ -277,9 +277,9 @@ module _ (k : List Entity) (o : Ontology) (c : CanBeStated k o) (name : ℕ → 
 
   pub header_notes_are : HoldSame (header_notes g k header) (note_links header own_notes)
   header_notes_are =
-      notes_are g k header (note_links header own_notes) (header_no_main k o c name g d drawn single read are) (header_no_note k o c name g d drawn single read are)
+      notes_are g k header (note_links header own_notes) (header_no_main k o c.can_be_drawn name g d drawn single read are) (header_no_note k o c.can_be_drawn name g d drawn single read are)
       (λ t m.
-      let p = header_property k o c header t m in
+      let p = header_property k o c.can_be_drawn header t m in
       (notes_there t m, record { subject = link_subjects header own_notes t m; free = p.free; property = p.property }))
       (λ t m at. by t (at_header name g o d t m at))
     where
@@ -293,18 +293,18 @@ module _ (k : List Entity) (o : Ontology) (c : CanBeStated k o) (name : ℕ → 
       subst (λ (ts : List Tree). AreNotes g k ts own_notes) (list_of_kids_of o.annotations)
       (subst (AreNotes g k (list_of (kids_of o.annotations))) (sym (notes_from_kids o.annotations))
       (readable_notes g k (kids_of o.annotations)
-      (readable g k (kids_of o.annotations) (annotations_are k o c) c.typed_annotations
+      (readable g k (kids_of o.annotations) (annotations_are k o c.can_be_drawn) c.can_be_drawn.typed_annotations
       (λ label m. let t = kid_labels o.annotations label m in annotation_single g o single t.0 t.1 label t.2))))
 
   header_settled : AreSettled own_notes
   header_settled =
       subst AreSettled (sym (notes_from_kids o.annotations))
-      (settled_notes (kids_of o.annotations) (annotations_are k o c) (subst AreNeeded (sym (list_of_kids_of o.annotations)) (needed_annotations k o c)))
+      (settled_notes (kids_of o.annotations) (annotations_are k o c.can_be_drawn) (subst AreNeeded (sym (list_of_kids_of o.annotations)) (needed_annotations k o c.can_be_drawn)))
 
   header_each_settled : EachSettled own_notes
   header_each_settled =
       subst EachSettled (sym (notes_from_kids o.annotations))
-      (each_settled (kids_of o.annotations) (annotations_are k o c) (λ t m. annotations_tidy k o c t (subst (λ (ts : List Tree). Contains ts t) (list_of_kids_of o.annotations) m)))
+      (each_settled (kids_of o.annotations) (annotations_are k o c.can_be_drawn) (λ t m. annotations_tidy k o c.can_be_drawn t (subst (λ (ts : List Tree). Contains ts t) (list_of_kids_of o.annotations) m)))
 
   -- what reifies an annotation of the header is drawn there
   header_roots : (f : Entry) → Contains (made_entries name o) f → Contains (note_links header own_notes) f.triple → Contains (note_roots header own_notes (header_nodes o.head.name)) f
@@ -318,7 +318,7 @@ module _ (k : List Entity) (o : Ontology) (c : CanBeStated k o) (name : ℕ → 
       by (of_header j) = j
       by (of_place b l p (of_main t j h)) =
           let same = set_root_triples name (made_nodes o) t (sets_of b o.axioms) (sets_at (statement_of b) l) f h in
-          let p' = header_property k o c header f.triple i in
+          let p' = header_property k o c.can_be_drawn header f.triple i in
           absurd (no_own_assertion k o c name g d drawn single read are b l p f.triple (subst (λ (u : Triple). Contains (main_of name (statement_of b) l) u) same j) (link_subjects header own_notes f.triple i) p'.free p'.property)
       by (of_place b l p (of_stand e j h)) =
           absurd (stand_apart name g o d b l p e j (sym (root_subjects (stand_node name e) e.notes (notes_at e) f h) ∙ link_subjects header own_notes f.triple i))

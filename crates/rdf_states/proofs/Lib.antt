@@ -12,8 +12,10 @@ pub mod OnePlaceLaws
 pub mod OneTripleLaws
 pub mod OntologyLaws
 pub mod OwnAssertionLaws
+pub mod OwnKindLaws
 pub mod PartNodeLaws
 pub mod ReadLaws
+pub mod RedundantLaws
 pub mod RoleLaws
 pub mod SetReadLaws
 pub mod SideLaws
@@ -22,4 +24,5 @@ pub mod StandLaws
 pub mod StatedLaws
 pub mod StatementCountLaws
 pub mod StatesLaws
+pub mod ThinLaws
 pub mod WholeStateLaws

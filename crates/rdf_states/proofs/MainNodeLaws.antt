@@ -29,7 +29,7 @@ use Rattle.rdf_states.specs.PlaceLaws.{end_bounds, made_cases, stand_bounds, sta
 use Rattle.rdf_states.proofs.ReadLaws.{end_sound, main_sound, stand_main, stand_sound}
 use Rattle.rdf_states.proofs.RoleLaws.{note_is_no_main, sound_no_main}
 use Rattle.rdf_states.proofs.SideLaws.{header_beside, header_place, iri_no_blank}
-use Rattle.rdf_states.specs.Stated.{CanBeStated}
+use Rattle.rdf_states.specs.Stated.{CanBeDrawn}
 
 -- the node is one that stands for an axiom at its place
 pub record IsStandNode (name : ℕ → List ℕ) (o : Ontology) (x : Term) : Type 0 where
@@ -100,7 +100,7 @@ module _ (name : ℕ → List ℕ) (g : List Triple) (o : Ontology) (d : IsGraph
         | inr f ↦ absurd (entry_apart f.entry f.among (sym (entry_subjects name f.entry t f.inside) ∙ h))
       ]
 
-module _ (k : List Entity) (o : Ontology) (c : CanBeStated k o) (name : ℕ → List ℕ) (g : List Triple) (d : IsGraphOf name g o) (drawn : AreWellDrawn name o) (single : LabelsAreSingle g o) (read : AreReadBack name g k o) (are : AreEntries name g (made_entries name o)) where
+module _ (k : List Entity) (o : Ontology) (c : CanBeDrawn k o) (name : ℕ → List ℕ) (g : List Triple) (d : IsGraphOf name g o) (drawn : AreWellDrawn name o) (single : LabelsAreSingle g o) (read : AreReadBack name g k o) (are : AreEntries name g (made_entries name o)) where
   pub entry_role : (e : Entry) → Contains (made_entries name o) e → role_of g (entry_node name e) ≡ role.Note
   entry_role e m = note_role name g d.apart e (are.said e m) (are.own e m)
 

@@ -28,7 +28,7 @@ use Rattle.rdf_mapping.proofs.TreeDrawingLaws.{all_back, all_front}
 use Rattle.rdf_states.proofs.CountLaws.{few_labels}
 use Rattle.rdf_states.proofs.EndLaws.{all_both}
 use Rattle.rdf_states.proofs.OntologyLaws.{ontology_said}
-use Rattle.rdf_states.specs.Stated.{CanBeStated}
+use Rattle.rdf_states.specs.Stated.{CanBeDrawn}
 
 -- Leaves, as a list and as a fact.
 
@@ -110,12 +110,12 @@ mutual
   kids_meet_typed k (kid t ks) h =
       all_both (λ (e : Entity). HasKind k e.kind e.iri) (entities t) (entities_of ks) (meets_typed k t h.0) (kids_meet_typed k ks h.1)
 
-all_kids_typed : (k : List Entity) (ts : List Tree) → AllByRecursion (λ t. AreWellTyped k (entities t)) ts → AreWellTyped k (entities_of (kids_of ts))
+pub all_kids_typed : (k : List Entity) (ts : List Tree) → AllByRecursion (λ t. AreWellTyped k (entities t)) ts → AreWellTyped k (entities_of (kids_of ts))
 all_kids_typed k [] h = tt
 all_kids_typed k (t ∷ ts) h =
     all_both (λ (e : Entity). HasKind k e.kind e.iri) (entities t) (entities_of (kids_of ts)) h.0 (all_kids_typed k ts h.1)
 
-each_typed : (k : List Entity) (ts : List Tree) → AreWellTyped k (entities_of (kids_of ts)) → AllByRecursion (λ t. AreWellTyped k (entities t)) ts
+pub each_typed : (k : List Entity) (ts : List Tree) → AreWellTyped k (entities_of (kids_of ts)) → AllByRecursion (λ t. AreWellTyped k (entities t)) ts
 each_typed k [] h = tt
 each_typed k (t ∷ ts) h = (
   all_front (λ (e : Entity). HasKind k e.kind e.iri) (entities t) (entities_of (kids_of ts)) h,
@@ -143,9 +143,8 @@ module _ (k : List Entity) (o : Ontology) (notes : AreWellTyped k (entities_of (
       (all_later Meets (λ t. AreWellTyped k (entities t)) (λ t h. meets_typed k t h) (normal_form o).annotations (leaves_of_annotations (IsTyped k) o axioms_meet notes_meet))
 
 -- what is wanted of a normal form so that its graph states it
-pub form_stated : (k : List Entity) (o : Ontology) → IsOntology o → CanSayAll o → ontology_weight (normal_form o) ≤ heaviest → HaveNoClash k → AreWellTyped k (entities_of (kids_of (normal_form o).annotations)) → AllByRecursion (λ t. AreWellTyped k (entities t)) (normal_form o).axioms → CanBeStated k (normal_form o)
-form_stated k o is said light apart notes axioms = record {
-  no_clash = apart;
+pub form_drawn : (k : List Entity) (o : Ontology) → IsOntology o → CanSayAll o → ontology_weight (normal_form o) ≤ heaviest → AreWellTyped k (entities_of (kids_of (normal_form o).annotations)) → AllByRecursion (λ t. AreWellTyped k (entities t)) (normal_form o).axioms → CanBeDrawn k (normal_form o)
+form_drawn k o is said light notes axioms = record {
   is_ontology = normal_is_ontology o is;
   normal = normal_again o is;
   sayable = form_said o said;
@@ -157,4 +156,4 @@ form_stated k o is said light apart notes axioms = record {
 -- the graph of a normal form says it, and no more
 pub form_says : (k : List Entity) (o : Ontology) → IsOntology o → CanSayAll o → ontology_weight (normal_form o) ≤ heaviest → HaveNoClash k → AreWellTyped k (entities_of (kids_of (normal_form o).annotations)) → AllByRecursion (λ t. AreWellTyped k (entities t)) (normal_form o).axioms → Says (graph_of (normal_form o)) k (normal_form o)
 form_says k o is said light apart notes axioms =
-    ontology_said k (normal_form o) (form_stated k o is said light apart notes axioms)
+    ontology_said k (normal_form o) (form_drawn k o is said light notes axioms) apart

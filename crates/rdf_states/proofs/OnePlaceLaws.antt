@@ -61,13 +61,13 @@ module _ (k : List Entity) (o : Ontology) (c : CanBeStated k o) (name : ℕ → 
       subst (λ (x : Tree). IsEquivalent (node (tag_of r.tree) (kids_of (n ∷ r.read.kids))) x) (bare_without r.tree ∙ r.is) (r.read.equivalent n n (equivalent_refl n))
 
   place_form : (b : Tree) (m : ℕ) (r : IsReadAtPlace name g k o b m) → canonical b ≡ b
-  place_form b m r = subst (λ (x : Tree). canonical x ≡ x) r.is (bare_form k o r.tree (stated_axiom k o c r.tree r.inside))
+  place_form b m r = subst (λ (x : Tree). canonical x ≡ x) r.is (bare_form k o r.tree (stated_axiom k o c.can_be_drawn r.tree r.inside))
 
   -- where one triple is the axiom of two places, it is one axiom
   same_axiom : (b e : Tree) (m l : ℕ) (p : StandsAt o b m) (q : StandsAt o e l) (t : Triple) → Contains (main_of name (statement_of b) m) t → Contains (main_of name (statement_of e) l) t → b ≡ e
   same_axiom b e m l p q t i j =
-      let r = read_at k o c name g d drawn single read b m p in
-      let s = read_at k o c name g d drawn single read e l q in
+      let r = read_at k o c.can_be_drawn name g d drawn single read b m p in
+      let s = read_at k o c.can_be_drawn name g d drawn single read e l q in
       let n = node tag.Notes no_kids in
       let one = one_axiom g k c.no_clash (of_triple t) (tag_of r.tree) (tag_of s.tree) r.read.kids s.read.kids (r.main t i) (s.main t j) in
       let left = bare_read b m r in

@@ -6,6 +6,7 @@ use Rattle.owl_kind.specs.Kinds.{Entity}
 use Rattle.owl_list.proofs.AscendingLaws.{all_in}
 use Rattle.owl_tree.specs.Ontologies.{Ontology}
 use Rattle.owl_tree.specs.Trees.{Tree}
+use Rattle.rdf_meaning.specs.Kinds.{HaveNoClash}
 use Rattle.rdf_meaning.specs.Statements.{Says}
 use Rattle.blank_labels.specs.FreshLabels.{fresh_name}
 use Rattle.blank_labels.proofs.FreshLabelLaws.{fresh_new}
@@ -21,9 +22,9 @@ use Rattle.rdf_axioms.proofs.WellDrawnLaws.{axiom_well_drawn}
 use Rattle.rdf_states.proofs.GraphOf.{AreReadBack, AreWellDrawn}
 use Rattle.rdf_states.proofs.GraphStatesLaws.{graph_says, single}
 use Rattle.rdf_states.proofs.ReadLaws.{axiom_single, labels_among}
-use Rattle.rdf_states.specs.Stated.{CanBeStated}
+use Rattle.rdf_states.specs.Stated.{CanBeDrawn}
 
-module _ (k : List Entity) (o : Ontology) (c : CanBeStated k o) where
+module _ (k : List Entity) (o : Ontology) (c : CanBeDrawn k o) where
   abbrev name : ℕ → List ℕ
   name = fresh_name (labels_of o)
 
@@ -35,13 +36,13 @@ module _ (k : List Entity) (o : Ontology) (c : CanBeStated k o) where
       let few = c.few in
       fresh_new (labels_of o) n (omega (arith, few, l)) (subst (λ (x : List ℕ). Contains (labels_of o) x) (same_label label (name n) e) (labels_among (o.annotations ++ o.axioms) a label (Contains-append_right o.annotations o.axioms a m) i))
 
-  all_drawn : AreWellDrawn name o
+  pub all_drawn : AreWellDrawn name o
   all_drawn a m = axiom_well_drawn name (made_nodes o) k a (said a m) (foreign_labels a m)
 
-  all_read : AreReadBack name (graph_of o) k o
+  pub all_read : AreReadBack name (graph_of o) k o
   all_read a m =
       axiom_read_back name (made_nodes o) (fresh_named_apart (labels_of o) (made_nodes o) c.few) (graph_of o) k (graph_apart o) a (said a m)
       (axiom_single (graph_of o) o (single k o c all_drawn) a m)
 
-  pub ontology_said : Says (graph_of o) k o
+  pub ontology_said : HaveNoClash k → Says (graph_of o) k o
   ontology_said = graph_says k o c all_drawn all_read

@@ -89,7 +89,7 @@ free_site t f = ap is_other (other_link_site t.subject t.object t.predicate f.no
 
 -- What an IRI stands for where a property, or the subject of an annotation, is wanted.
 
-iri_itself : (g : List Triple) (k : List Entity) (s : Sort) (iri : List ℕ) (ts : List Tree) → Denotes g k (Iri iri) (One s) ts → (t : Tree) × (simple g k s (Iri iri) ≡ Some t) × (ts ≡ t ∷ [])
+pub iri_itself : (g : List Triple) (k : List Entity) (s : Sort) (iri : List ℕ) (ts : List Tree) → Denotes g k (Iri iri) (One s) ts → (t : Tree) × (simple g k s (Iri iri) ≡ Some t) × (ts ≡ t ∷ [])
 iri_itself g k s iri ts h = by (one_is g k s (Iri iri) ts h)
   where
     by : IsOne g k s (Iri iri) ts → (t : Tree) × (simple g k s (Iri iri) ≡ Some t) × (ts ≡ t ∷ [])

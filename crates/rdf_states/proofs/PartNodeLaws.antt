@@ -39,7 +39,7 @@ use Rattle.rdf_states.specs.Places.{End, IsMade, of_head, of_header_note, of_axi
 use Rattle.rdf_states.specs.PlaceLaws.{made_cases, stand_notes}
 use Rattle.rdf_states.proofs.ReadLaws.{end_sound, end_structural, stand_main, stand_sound, stand_structural}
 use Rattle.rdf_states.proofs.SideLaws.{header_beside, iri_no_blank, place_says, set_beside}
-use Rattle.rdf_states.specs.Stated.{CanBeStated}
+use Rattle.rdf_states.specs.Stated.{CanBeDrawn}
 
 -- Lists of one element.
 
@@ -82,7 +82,7 @@ part_no_main r p e = subst IsPartOfAxiom e p
 part_no_individual : (r : Role) → IsPartOfAxiom r → r ≡ role.Individual → ⊥
 part_no_individual r p e = subst IsPartOfAxiom e p
 
-module _ (k : List Entity) (o : Ontology) (c : CanBeStated k o) (name : ℕ → List ℕ) (g : List Triple) (d : IsGraphOf name g o) (drawn : AreWellDrawn name o) (single : LabelsAreSingle g o) (read : AreReadBack name g k o) (are : AreEntries name g (made_entries name o)) where
+module _ (k : List Entity) (o : Ontology) (c : CanBeDrawn k o) (name : ℕ → List ℕ) (g : List Triple) (d : IsGraphOf name g o) (drawn : AreWellDrawn name o) (single : LabelsAreSingle g o) (read : AreReadBack name g k o) (are : AreEntries name g (made_entries name o)) where
   abbrev header : Term
   header = header_term name o.head.name
 

@@ -40,7 +40,7 @@ use Rattle.rdf_states.specs.Places.{AllEnds, End, Stand, StandsAt, ends_of, firs
 use Rattle.rdf_states.specs.PlaceLaws.{end_bounds, kept_at, stand_bounds, stands_bounds, width}
 use Rattle.rdf_states.proofs.SideLaws.{place_axiom, place_drawn, set_beside}
 use Rattle.rdf_states.proofs.StandLaws.{stand_words}
-use Rattle.rdf_states.specs.Stated.{CanBeStated}
+use Rattle.rdf_states.specs.Stated.{CanBeDrawn}
 use Rattle.rdf_states.proofs.StatedLaws.{bare_statement, beside_apart, stated_axiom}
 use Rattle.rdf_states.specs.UnderLaws.{AreStructural, IsUnder, itself, further, arcs_under, form_under, sound_under}
 
@@ -126,7 +126,7 @@ axiom_single g o single a m label i = single label (labels_among (o.annotations 
 pub annotation_single : (g : List Triple) (o : Ontology) → LabelsAreSingle g o → (a : Tree) → Contains o.annotations a → AreIndividuals g a
 annotation_single g o single a m label i = single label (labels_among (o.annotations ++ o.axioms) a label (Contains-append_left o.annotations o.axioms a m) i)
 
-module _ (k : List Entity) (o : Ontology) (c : CanBeStated k o) (name : ℕ → List ℕ) (g : List Triple) (d : IsGraphOf name g o) (drawn : AreWellDrawn name o) (single : LabelsAreSingle g o) (read : AreReadBack name g k o) (b : Tree) (m : ℕ) (p : StandsAt o b m) where
+module _ (k : List Entity) (o : Ontology) (c : CanBeDrawn k o) (name : ℕ → List ℕ) (g : List Triple) (d : IsGraphOf name g o) (drawn : AreWellDrawn name o) (single : LabelsAreSingle g o) (read : AreReadBack name g k o) (b : Tree) (m : ℕ) (p : StandsAt o b m) where
   abbrev most : ℕ
   most = made_nodes o
 

@@ -21,7 +21,7 @@ use Rattle.rdf_states.specs.Places.{IsMade, of_head, of_header_note, of_axiom, a
 use Rattle.rdf_states.specs.PlaceLaws.{made_other, stand_notes}
 use Rattle.rdf_states.proofs.ReadLaws.{end_sound, end_structural, stand_main, stand_sound, stand_structural}
 use Rattle.rdf_states.proofs.SideLaws.{header_beside, place_says, set_beside}
-use Rattle.rdf_states.specs.Stated.{CanBeStated}
+use Rattle.rdf_states.specs.Stated.{CanBeDrawn}
 use Rattle.rdf_states.specs.UnderLaws.{sound_role}
 
 no_main_part : IsPartOfAxiom role.Main → ⊥
@@ -49,7 +49,7 @@ sound_no_note g x s e = sound_role g x role.Note no_note_part note_is_no_individ
 note_no_header : role.Note ≡ role.Header → ⊥
 note_no_header e = cc
 
-module _ (k : List Entity) (o : Ontology) (c : CanBeStated k o) (name : ℕ → List ℕ) (g : List Triple) (d : IsGraphOf name g o) (drawn : AreWellDrawn name o) (single : LabelsAreSingle g o) (read : AreReadBack name g k o) where
+module _ (k : List Entity) (o : Ontology) (c : CanBeDrawn k o) (name : ℕ → List ℕ) (g : List Triple) (d : IsGraphOf name g o) (drawn : AreWellDrawn name o) (single : LabelsAreSingle g o) (read : AreReadBack name g k o) where
   -- no triple that is of no node that reifies is a mark of one
   no_note_at : (t : Triple) → IsMade name o t → marks_role role.Note t ≡ true → ⊥
   no_note_at t (of_head i) h = note_no_header (head_mark role.Note (header_term name o.head.name) o.head t i h)

@@ -53,7 +53,7 @@ use Rattle.rdf_states.proofs.ReadLaws.{axiom_single, main_sound, read_at, stand_
 use Rattle.rdf_states.proofs.RoleLaws.{note_is_no_main, sound_no_main, sound_no_note}
 use Rattle.rdf_states.proofs.SideLaws.{place_axiom, set_beside}
 use Rattle.rdf_states.proofs.SortedLaws.{IsNoteProperty, header_property, no_own_assertion}
-use Rattle.rdf_states.specs.Stated.{CanBeStated, IsStatedAxiom}
+use Rattle.rdf_states.specs.Stated.{CanBeDrawn, CanBeStated, IsStatedAxiom}
 use Rattle.rdf_states.proofs.StatedLaws.{bare_statement, needed_axioms, notes_are, notes_tidy, notes_typed, stated_axiom}
 
 -- the annotations of an axiom, as trees
@@ -92,7 +92,7 @@ module _ (k : List Entity) (o : Ontology) (g : List Triple) (single : LabelsAreS
         each = each_settled t.notes t.annotations (λ u j. tidy_kid tag.Notes t.notes u tidy j);
       })
 
-  all_own : (c : CanBeStated k o) (cs : List Tree) → ((a : Tree) → Contains cs a → Contains o.axioms a) → AreAllNotes g k (map annotations_of cs) (map axiom_notes cs)
+  all_own : (c : CanBeDrawn k o) (cs : List Tree) → ((a : Tree) → Contains cs a → Contains o.axioms a) → AreAllNotes g k (map annotations_of cs) (map axiom_notes cs)
   all_own c [] h = no_sets
   all_own c (a ∷ cs) h =
       let m = h a (in_head a cs) in
@@ -100,7 +100,7 @@ module _ (k : List Entity) (o : Ontology) (g : List Triple) (single : LabelsAreS
       a_set (annotations_of a) (axiom_notes a) (map annotations_of cs) (map axiom_notes cs) own.notes own.settled own.each (all_own c cs (λ b n. h b (in_tail a cs b n)))
 
 -- An axiom that one triple says has no bare one beside it.
-module _ (k : List Entity) (o : Ontology) (c : CanBeStated k o) where
+module _ (k : List Entity) (o : Ontology) (c : CanBeDrawn k o) where
   annotated_tree : (t : Tag) (n : Tree) (ns ks : Kids) → is_axiom t ≡ true → is_annotated (node t (kid (node tag.Notes (kid n ns)) ks)) ≡ true
   annotated_tree t n ns ks h = both_true (bears_notes t) true (or_right (is_tag tag.Annotation t) (is_axiom t) h) refl
 
@@ -141,7 +141,7 @@ module _ (k : List Entity) (o : Ontology) (c : CanBeStated k o) (name : ℕ → 
   again f m no_note =
       made_root name o f
       (root_again name (header_nodes o.head.name) (made_nodes o) (made_others name o) (made_roots name o) es (made_triples name o) (made_drawn name o) f m
-      (λ e n s. no_note (ap (role_of g) s ∙ entry_role k o c name g d drawn single read are e n)))
+      (λ e n s. no_note (ap (role_of g) s ∙ entry_role k o c.can_be_drawn name g d drawn single read are e n)))
 
   place_roots : (b : Tree) (m : ℕ) (p : StandsAt o b m) (f : Entry) → Contains (statement_roots name (statement_of b) (sets_of b o.axioms) m) f → Contains es f
   place_roots b m p f i =
@@ -155,7 +155,7 @@ module _ (k : List Entity) (o : Ontology) (c : CanBeStated k o) (name : ℕ → 
   main_root b m p t i f e (of_header j) =
       let x = header_term name o.head.name in
       let link = root_links x (notes_from o.annotations) (header_nodes o.head.name) f j in
-      let property = header_property k o c x f.triple link in
+      let property = header_property k o c.can_be_drawn x f.triple link in
       let at : t.subject ≡ x = ap (λ (u : Triple). u.subject) (sym e) ∙ link_subjects x (notes_from o.annotations) f.triple link in
       let its = subst (λ (u : Triple). IsNoteProperty k u.predicate) e property in
       absurd (no_own_assertion k o c name g d drawn single read are b m p t i at its.free its.property)
@@ -167,7 +167,7 @@ module _ (k : List Entity) (o : Ontology) (c : CanBeStated k o) (name : ℕ → 
       (subst (λ (v : Triple). Contains (set_roots v (sets_of a o.axioms) (sets_at (statement_of a) l)) f) same h))
   main_root b m p t i f e (of_place a l q (of_stand s j h)) =
       let at : t.subject ≡ stand_node name s = ap (λ (u : Triple). u.subject) (sym e) ∙ root_subjects (stand_node name s) s.notes (notes_at s) f h in
-      absurd (sound_no_main g t.subject (main_sound k o c name g d drawn single read b m p t i).0 (ap (role_of g) at ∙ stand_main k o c name g d drawn single read a l q s j))
+      absurd (sound_no_main g t.subject (main_sound k o c.can_be_drawn name g d drawn single read b m p t i).0 (ap (role_of g) at ∙ stand_main k o c.can_be_drawn name g d drawn single read a l q s j))
 
   one_at_place : (b : Tree) (m : ℕ) (t : Triple) → Contains (main_of name (statement_of b) m) t → (a : Tree) → bare a ≡ b → is_one_triple a ≡ true
   one_at_place b m t i a e =
@@ -180,10 +180,10 @@ module _ (k : List Entity) (o : Ontology) (c : CanBeStated k o) (name : ℕ → 
       let n = sets_at (statement_of b) m in
       let among : Contains (members b o.axioms) a.0 = subst (λ (x : Tree). Contains (members x o.axioms) a.0) a.2 (in_members o.axioms a.0 a.1) in
       sets_read name g d.apart es are k t (map annotations_of (members b o.axioms)) sets n
-      (all_own k o g single c (members b o.axioms) (λ x j. (from_members o.axioms b x j).0))
-      (sets_settled k o c b (λ x j e. one_at_place b m t i x e))
+      (all_own k o g single c.can_be_drawn (members b o.axioms) (λ x j. (from_members o.axioms b x j).0))
+      (sets_settled k o c.can_be_drawn b (λ x j e. one_at_place b m t i x e))
       (λ f j. place_roots b m p f (subst (λ (rs : List Entry). Contains rs f) (sym (main_roots name (statement_of b) sets m t i)) j))
-      (λ f j e. main_root b m p t i f e (again f j (λ r. sound_no_note g t.subject (main_sound k o c name g d drawn single read b m p t i).0 (ap (λ (u : Triple). role_of g u.subject) (sym e) ∙ r))))
+      (λ f j e. main_root b m p t i f e (again f j (λ r. sound_no_note g t.subject (main_sound k o c.can_be_drawn name g d drawn single read b m p t i).0 (ap (λ (u : Triple). role_of g u.subject) (sym e) ∙ r))))
       (annotations_of a.0) (in_map annotations_of (members b o.axioms) a.0 among)
 
   -- A node that stands for an axiom has its annotations.
@@ -194,7 +194,7 @@ module _ (k : List Entity) (o : Ontology) (c : CanBeStated k o) (name : ℕ → 
   stand_root b m p e i f at (of_place a l q (of_main u j h)) =
       let same = set_root_triples name (made_nodes o) u (sets_of a o.axioms) (sets_at (statement_of a) l) f h in
       let its : u.subject ≡ stand_node name e = ap (λ (v : Triple). v.subject) same ∙ at in
-      absurd (sound_no_main g u.subject (main_sound k o c name g d drawn single read a l q u j).0 (ap (role_of g) its ∙ stand_main k o c name g d drawn single read b m p e i))
+      absurd (sound_no_main g u.subject (main_sound k o c.can_be_drawn name g d drawn single read a l q u j).0 (ap (role_of g) its ∙ stand_main k o c.can_be_drawn name g d drawn single read b m p e i))
   stand_root b m p e i f at (of_place a l q (of_stand s j h)) =
       let same = one_stand_place name g o d a b l m q p s e j i (sym (root_subjects (stand_node name s) s.notes (notes_at s) f h) ∙ at) in
       subst (λ (x : Stand). Contains (note_roots (stand_node name x) x.notes (notes_at x)) f) same.stand h
@@ -202,15 +202,15 @@ module _ (k : List Entity) (o : Ontology) (c : CanBeStated k o) (name : ℕ → 
   pub stand_links : (b : Tree) (m : ℕ) (p : StandsAt o b m) (e : Stand) → Contains (stands_of (statement_of b) (sets_of b o.axioms) m) e → HoldSame (notes_of g (stand_node name e)) (note_links (stand_node name e) e.notes)
   stand_links b m p e i =
       let x = stand_node name e in
-      let words = all_from_each (carries_some (words_of role.Main)) (own_triples name x e.arcs (suc e.number)) (stand_own_words k o c name g d drawn single read b m p e i) in
-      let beside = all_beside e.notes (set_beside k o c b e.notes (stand_notes (statement_of b) (sets_of b o.axioms) m e i)) in
-      main_notes g x (own_triples name x e.arcs (suc e.number)) e.notes (stand_main k o c name g d drawn single read b m p e i) words beside ((read_at k o c name g d drawn single read b m p).own e i)
+      let words = all_from_each (carries_some (words_of role.Main)) (own_triples name x e.arcs (suc e.number)) (stand_own_words k o c.can_be_drawn name g d drawn single read b m p e i) in
+      let beside = all_beside e.notes (set_beside k o c.can_be_drawn b e.notes (stand_notes (statement_of b) (sets_of b o.axioms) m e i)) in
+      main_notes g x (own_triples name x e.arcs (suc e.number)) e.notes (stand_main k o c.can_be_drawn name g d drawn single read b m p e i) words beside ((read_at k o c.can_be_drawn name g d drawn single read b m p).own e i)
 
   pub stand_read : (b : Tree) (m : ℕ) (p : StandsAt o b m) (e : Stand) → Contains (stands_of (statement_of b) (sets_of b o.axioms) m) e → (a : Tree) → Contains o.axioms a → axiom_notes a ≡ e.notes → AreReadAs g k (notes_of g (stand_node name e)) (annotations_of a)
   stand_read b m p e i a in_axioms same =
       let x = stand_node name e in
-      let main = stand_main k o c name g d drawn single read b m p e i in
-      let own = own_annotations k o g single a in_axioms (stated_axiom k o c a in_axioms) in
+      let main = stand_main k o c.can_be_drawn name g d drawn single read b m p e i in
+      let own = own_annotations k o g single a in_axioms (stated_axiom k o c.can_be_drawn a in_axioms) in
       notes_read name g d.apart es are k x (annotations_of a) e.notes (notes_at e) (notes_of g x)
       (subst (AreNotes g k (annotations_of a)) same own.notes) (subst AreSettled same own.settled) (subst EachSettled same own.each)
       (stand_links b m p e i)

@@ -33,7 +33,7 @@ use Rattle.rdf_states.proofs.AnnotationLaws.{declarable}
 use Rattle.rdf_states.proofs.GraphOf.{AreWellDrawn, IsGraphOf, LabelsAreSingle}
 use Rattle.rdf_states.specs.Places.{IsMade, of_head, of_header_note, of_axiom, at_end, is_main, at_node, at_note, StandsAt, first_number}
 use Rattle.rdf_states.specs.PlaceLaws.{end_bounds, made_cases, placed_in, stand_bounds, stands_bounds}
-use Rattle.rdf_states.specs.Stated.{CanBeStated}
+use Rattle.rdf_states.specs.Stated.{CanBeDrawn}
 use Rattle.rdf_states.proofs.StatedLaws.{annotations_are, annotations_said, bare_statement, notes_beside, notes_from_kids, stated_axiom}
 
 -- the header is an IRI, or the first node
@@ -59,7 +59,7 @@ place_drawn name o drawn b m p =
 pub place_says : (name : ℕ → List ℕ) (o : Ontology) → AreWellDrawn name o → (b : Tree) (m : ℕ) → StandsAt o b m → (t : Triple) → Contains (main_of name (statement_of b) m) t → SaysAxiom t
 place_says name o drawn b m p t i = all_in SaysAxiom (main_of name (statement_of b) m) t ((place_drawn name o drawn b m p).says m) i
 
-module _ (k : List Entity) (o : Ontology) (c : CanBeStated k o) where
+module _ (k : List Entity) (o : Ontology) (c : CanBeDrawn k o) where
   -- no annotation makes its subject what it is
   pub set_beside : (b : Tree) (ns : Notes) → Contains (sets_of b o.axioms) ns → AreAllBeside ns
   set_beside b ns m =

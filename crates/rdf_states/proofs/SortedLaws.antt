@@ -59,7 +59,7 @@ use Rattle.rdf_states.specs.PlaceLaws.{from_mains, in_mains, made_cases, stand_n
 use Rattle.rdf_states.proofs.ReadLaws.{end_structural, main_sound, read_at, stand_main, stand_structural}
 use Rattle.rdf_states.proofs.RoleLaws.{sound_no_main, sound_no_note}
 use Rattle.rdf_states.proofs.SideLaws.{header_place, place_drawn, place_says, set_beside}
-use Rattle.rdf_states.specs.Stated.{CanBeStated}
+use Rattle.rdf_states.specs.Stated.{CanBeDrawn, CanBeStated}
 use Rattle.rdf_states.proofs.StatedLaws.{annotations_are, annotations_said, notes_from_kids, stated_axiom}
 
 -- The annotations of the header are those of annotation properties, which mean nothing else.
@@ -94,7 +94,7 @@ link_property k x (note p v inside more) t h m =
       | inr n ↦ link_property k x more t h.1 n
     ]
 
-pub header_property : (k : List Entity) (o : Ontology) → CanBeStated k o → (x : Term) (t : Triple) → Contains (note_links x (notes_from o.annotations)) t → IsNoteProperty k t.predicate
+pub header_property : (k : List Entity) (o : Ontology) → CanBeDrawn k o → (x : Term) (t : Triple) → Contains (note_links x (notes_from o.annotations)) t → IsNoteProperty k t.predicate
 header_property k o c x t m =
     let ks = kids_of o.annotations in
     link_property k x (notes_in ks) t (note_properties k ks (annotations_are k o c) (declarable ks (annotations_are k o c) (annotations_said k o c)) c.typed_annotations)
@@ -153,8 +153,8 @@ module _ (k : List Entity) (o : Ontology) (c : CanBeStated k o) (name : ℕ → 
             ]
         | inl h ↦
             let iri = header_iri name o.head.name h in
-            let r = read_at k o c name g d drawn single read b m p in
-            let is = stated_axiom k o c r.tree r.inside in
+            let r = read_at k o c.can_be_drawn name g d drawn single read b m p in
+            let is = stated_axiom k o c.can_be_drawn r.tree r.inside in
             let about = about_iri g k c.no_clash t r.tree is.tree is.sayable.is.shaped r.read.kids (r.main t i) r.read.equivalent iri.0 (at ∙ iri.1) free property in
             both_ways (is_about (iri_in o.head.name) r.tree) is.other (ap (λ (n : Option (List ℕ)). is_about n r.tree) iri.2 ∙ about)
       ]
@@ -162,29 +162,29 @@ module _ (k : List Entity) (o : Ontology) (c : CanBeStated k o) (name : ℕ → 
   -- the triple of an axiom is a main triple
   pub main_is_main : (b : Tree) (m : ℕ) → StandsAt o b m → (t : Triple) → Contains (main_of name (statement_of b) m) t → IsMain g k header t
   main_is_main b m p t i =
-      let ends = main_sound k o c name g d drawn single read b m p t i in
+      let ends = main_sound k o c.can_be_drawn name g d drawn single read b m p t i in
       says_main g k header t (place_says name o drawn b m p t i) (no_own_assertion b m p t i) (sound_no_main g t.subject ends.0) (sound_no_note g t.subject ends.0)
 
   entry_aside : (t : Triple) → IsOfEntry name (made_entries name o) t → IsAside g k header t
   entry_aside t f =
-      noted_aside g k header t (inr (ap (role_of g) (entry_subjects name f.entry t f.inside) ∙ entry_role k o c name g d drawn single read are f.entry f.among))
+      noted_aside g k header t (inr (ap (role_of g) (entry_subjects name f.entry t f.inside) ∙ entry_role k o c.can_be_drawn name g d drawn single read are f.entry f.among))
 
   made_sorted : (t : Triple) → IsMade name o t → Contains (mains_of name o) t ⊎ IsAside g k header t
   made_sorted t (of_head i) = inr (of_header (head_named header o.head t i))
   made_sorted t (of_header_note i) =
-      let p = header_property k o c header t i in
+      let p = header_property k o c.can_be_drawn header t i in
       inr (of_annotations (header_note g k header t (link_subjects header (notes_from o.annotations) t i) p.free p.property))
-  made_sorted t (of_axiom b m p (at_end e i j)) = inr (of_node (end_structural k o c name g d drawn single read b m p e i t j).1)
+  made_sorted t (of_axiom b m p (at_end e i j)) = inr (of_node (end_structural k o c.can_be_drawn name g d drawn single read b m p e i t j).1)
   made_sorted t (of_axiom b m p (is_main i)) = inl (in_mains o.axioms name b m _ _ p t i)
-  made_sorted t (of_axiom b m p (at_node e i j)) = inr (of_node (stand_structural k o c name g d drawn single read b m p e i t j).1)
+  made_sorted t (of_axiom b m p (at_node e i j)) = inr (of_node (stand_structural k o c.can_be_drawn name g d drawn single read b m p e i t j).1)
   made_sorted t (of_axiom b m p (at_note e i j)) =
-      inr (noted_aside g k header t (inl (ap (role_of g) (link_subjects (stand_node name e) e.notes t j) ∙ stand_main k o c name g d drawn single read b m p e i)))
+      inr (noted_aside g k header t (inl (ap (role_of g) (link_subjects (stand_node name e) e.notes t j) ∙ stand_main k o c.can_be_drawn name g d drawn single read b m p e i)))
 
   -- each triple of the graph is an axiom, or aside
   pub are_sorted : AreSorted g k header (mains_of name o)
   are_sorted = record {
     cases = λ t m. elim (made_cases name o t ((d.holds t).0 m)) [ inl own ↦ made_sorted t own | inr f ↦ inr (entry_aside t f) ];
-    there = λ t m. let r = from_mains o.axioms name _ _ t m in (read_at k o c name g d drawn single read r.0 r.1 r.2).there t r.3;
+    there = λ t m. let r = from_mains o.axioms name _ _ t m in (read_at k o c.can_be_drawn name g d drawn single read r.0 r.1 r.2).there t r.3;
     main = λ t m. let r = from_mains o.axioms name _ _ t m in main_is_main r.0 r.1 r.2 t r.3;
   }
 
@@ -206,11 +206,11 @@ module _ (k : List Entity) (o : Ontology) (c : CanBeStated k o) (name : ℕ → 
   made_ontology : (t : Triple) → IsMade name o t → carries word.Ontology t ≡ true → t.subject ≡ header
   made_ontology t (of_head i) h = head_subject header o.head t i
   made_ontology t (of_header_note i) h = link_subjects header (notes_from o.annotations) t i
-  made_ontology t (of_axiom b m p (at_end e i j)) h = absurd (no_structural_ontology t (end_structural k o c name g d drawn single read b m p e i t j).1 h)
+  made_ontology t (of_axiom b m p (at_end e i j)) h = absurd (no_structural_ontology t (end_structural k o c.can_be_drawn name g d drawn single read b m p e i t j).1 h)
   made_ontology t (of_axiom b m p (is_main i)) h = absurd (says_no_word t word.Ontology (place_says name o drawn b m p t i) (2, omega arith, refl) h)
-  made_ontology t (of_axiom b m p (at_node e i j)) h = absurd (no_structural_ontology t (stand_structural k o c name g d drawn single read b m p e i t j).1 h)
+  made_ontology t (of_axiom b m p (at_node e i j)) h = absurd (no_structural_ontology t (stand_structural k o c.can_be_drawn name g d drawn single read b m p e i t j).1 h)
   made_ontology t (of_axiom b m p (at_note e i j)) h =
-      absurd (beside_links (stand_node name e) e.notes t (all_beside e.notes (set_beside k o c b e.notes (stand_notes (statement_of b) (sets_of b o.axioms) m e i))) j (by_word word.Ontology ontology_is_word h))
+      absurd (beside_links (stand_node name e) e.notes t (all_beside e.notes (set_beside k o c.can_be_drawn b e.notes (stand_notes (statement_of b) (sets_of b o.axioms) m e i))) j (by_word word.Ontology ontology_is_word h))
 
   pub in_head_triples : (t : Triple) → Contains (head_triples header o.head) t → Contains g t
   in_head_triples t i = (d.holds t).1 (Contains-append_left (head_triples header o.head) _ t i)

@@ -36,7 +36,7 @@ use Rattle.rdf_mapping.specs.Notes.{Notes, no_notes, note, annotation_in, notes_
 use Rattle.rdf_mapping.proofs.TreeDrawingLaws.{all_front}
 use Rattle.rdf_states.specs.Annotations.{AreAnnotations}
 use Rattle.rdf_states.proofs.AnnotationLaws.{AreNeeded, declarable, kids_annotate, needed_needs, notes_annotate, tidy_kid}
-use Rattle.rdf_states.specs.Stated.{CanBeStated, IsAxiomTree, IsStatedAxiom}
+use Rattle.rdf_states.specs.Stated.{CanBeDrawn, IsAxiomTree, IsStatedAxiom}
 
 -- The first kid of an axiom is its annotations.
 
@@ -95,7 +95,7 @@ pub notes_from_kids : (ts : List Tree) → notes_from ts ≡ notes_in (kids_of t
 notes_from_kids [] = refl
 notes_from_kids (t ∷ ts) = ap (annotation_in t) (notes_from_kids ts)
 
-module _ (k : List Entity) (o : Ontology) (c : CanBeStated k o) where
+module _ (k : List Entity) (o : Ontology) (c : CanBeDrawn k o) where
   same_axioms : settled (unsettled_axioms o) ≡ o.axioms
   same_axioms = ap (λ (p : Ontology). p.axioms) c.normal
 

@@ -68,13 +68,13 @@ module _ (k : List Entity) (o : Ontology) (c : CanBeStated k o) (name : ℕ → 
   axiom_nodes = nodes_of g role.Main
 
   at : (b : Tree) (m : ℕ) → StandsAt o b m → IsReadAtPlace name g k o b m
-  at b m p = read_at k o c name g d drawn single read b m p
+  at b m p = read_at k o c.can_be_drawn name g d drawn single read b m p
 
   -- what is read at a place, with annotations that are equivalent to an axiom's, is equivalent to it
   read_as : (b : Tree) (m : ℕ) (r : IsReadAtPlace name g k o b m) (a : Tree) → Contains o.axioms a → bare a ≡ b → (s : Tree) → IsEquivalent s (notes (annotations_of a)) → IsEquivalent (node (tag_of r.tree) (kids_of (s ∷ r.read.kids))) a
   read_as b m r a i e s h =
       let n = notes (annotations_of a) in
-      let whole : with_notes n r.tree ≡ a = sym (without n r.tree) ∙ ap (with_notes n) (r.is ∙ sym e) ∙ own_set a (stated_axiom k o c a i).tree in
+      let whole : with_notes n r.tree ≡ a = sym (without n r.tree) ∙ ap (with_notes n) (r.is ∙ sym e) ∙ own_set a (stated_axiom k o c.can_be_drawn a i).tree in
       subst (λ (x : Tree). IsEquivalent (node (tag_of r.tree) (kids_of (s ∷ r.read.kids))) x) whole (r.read.equivalent s n h)
 
   -- Each triple that is an axiom, and each node that stands for one, has its axiom.
@@ -101,7 +101,7 @@ module _ (k : List Entity) (o : Ontology) (c : CanBeStated k o) (name : ℕ → 
 
   has_stand : (x : Term) → Contains axiom_nodes x → HasStand x
   has_stand x i =
-      let s = main_is_stand k o c name g d drawn single read are x ((nodes_are g role.Main x main_no_individual).0 i) in
+      let s = main_is_stand k o c.can_be_drawn name g d drawn single read are x ((nodes_are g role.Main x main_no_individual).0 i) in
       let a = set_of_axiom o.axioms s.bare s.stand.notes (stand_notes (statement_of s.bare) (sets_of s.bare o.axioms) s.number s.stand s.among) in
       record { node_is = s; axiom_of = a.0; inside = a.1; same = a.2; notes_are = a.3 }
 
@@ -159,7 +159,7 @@ module _ (k : List Entity) (o : Ontology) (c : CanBeStated k o) (name : ℕ → 
         let r = at (bare a) m p in
         let x = stand_node name e in
         let own = stand_read k o c name g d drawn single read are (bare a) m p e j a i (sym same) in
-        let main = stand_is_main k o c name g d drawn single read are x (record { bare = bare a; number = m; place = p; stand = e; among = j; is = refl }) in
+        let main = stand_is_main k o c.can_be_drawn name g d drawn single read are x (record { bare = bare a; number = m; place = p; stand = e; among = j; is = refl }) in
         let u = node (tag_of r.tree) (kids_of (notes own.trees ∷ r.read.kids)) in
         let equal = read_as (bare a) m r a i refl (notes own.trees) (same_set (annotations_of a) own.trees own.same) in (
           u,

@@ -71,7 +71,7 @@ module _ (k : List Entity) (o : Ontology) (c : CanBeStated k o) (name : ℕ → 
 
   stand_row : (x : Term) → IsStandNode name o x → HasRow g axiom_rows x
   stand_row x s =
-      let r = read_at k o c name g d drawn single read s.bare s.number s.place in
+      let r = read_at k o c.can_be_drawn name g d drawn single read s.bare s.number s.place in
       let said = subst (λ (y : Term). IsAxiomWith g k (of_node y) (tag_of r.tree) r.read.kids) (sym s.is) (r.stand s.stand s.among) in
       record { row = said.row; among = said.among; fits = said.fits }
 
@@ -89,7 +89,7 @@ module _ (k : List Entity) (o : Ontology) (c : CanBeStated k o) (name : ℕ → 
   part_as : (label : List ℕ) (r : Role) → role_of g (Blank label) ≡ r → IsPartOfAxiom r → IsSoundAs g r (Blank label)
   part_as label r e p =
       let is = subst IsPartOfAxiom (sym e) p in
-      let s = part_sound k o c name g d drawn single read are (Blank label) is (part_node k o c name g d drawn single read are label is) in
+      let s = part_sound k o c.can_be_drawn name g d drawn single read are (Blank label) is (part_node k o c.can_be_drawn name g d drawn single read are label is) in
       elim (sound_is g (Blank label) s) [
         | inl i ↦ absurd (subst IsPartOfAxiom i is)
         | inr h ↦ subst (λ (q : Role). IsSoundAs g q (Blank label)) e h.sound
@@ -101,7 +101,7 @@ module _ (k : List Entity) (o : Ontology) (c : CanBeStated k o) (name : ℕ → 
   sound_by label role.Class e = part_as label role.Class e tt
   sound_by label role.Range e = part_as label role.Range e tt
   sound_by label role.Facet e = part_as label role.Facet e tt
-  sound_by label role.Main e = stand_row (Blank label) (main_is_stand k o c name g d drawn single read are (Blank label) e)
+  sound_by label role.Main e = stand_row (Blank label) (main_is_stand k o c.can_be_drawn name g d drawn single read are (Blank label) e)
   sound_by label role.Note e = let n = are.all (Blank label) e in subst (λ (x : Term). IsReification g x) (sym n.is) (entry_sound n.entry n.among)
   sound_by label role.Header e = tt
   sound_by label role.Individual e = tt
@@ -110,7 +110,7 @@ module _ (k : List Entity) (o : Ontology) (c : CanBeStated k o) (name : ℕ → 
 
   stand_grounded : (b : Tree) (m : ℕ) (p : StandsAt o b m) (e : Stand) → Contains (stands_of (statement_of b) (sets_of b o.axioms) m) e → IsGrounded g (stand_node name e)
   stand_grounded b m p e i =
-      let r = read_at k o c name g d drawn single read b m p in
+      let r = read_at k o c.can_be_drawn name g d drawn single read b m p in
       leads_grounded g (stand_node name e) (main_leads g k (stand_node name e) (tag_of r.tree) r.read.kids (r.stand e i))
 
   structural_role : (t : Triple) (r : Role) → role_of g t.subject ≡ r → is_structural g t ≡ true → is_own r t ≡ true
@@ -125,7 +125,7 @@ module _ (k : List Entity) (o : Ontology) (c : CanBeStated k o) (name : ℕ → 
       by (Literal literal) e = structural_has_role g t h (ap (role_of g) (at ∙ e))
       by (Blank label) e =
           let r = role_of g header in
-          let is = header_role k o c name g d drawn single read are label e r (λ i. structural_has_role g t h (ap (role_of g) at ∙ i)) refl in
+          let is = header_role k o c.can_be_drawn name g d drawn single read are label e r (λ i. structural_has_role g t h (ap (role_of g) at ∙ i)) refl in
           no_header_words t (structural_role t role.Header (ap (role_of g) at ∙ is) h)
 
   iri_single : (x : Term) → is_iri x ≡ true → role_of g x ≡ role.Individual
@@ -136,11 +136,11 @@ module _ (k : List Entity) (o : Ontology) (c : CanBeStated k o) (name : ℕ → 
   made_grounded : (t : Triple) → is_structural g t ≡ true → IsMade name o t → IsGrounded g t.subject
   made_grounded t h (of_head i) = absurd (no_header_structural t (head_subject header o.head t i) h)
   made_grounded t h (of_header_note i) = absurd (no_header_structural t (link_subjects header (notes_from o.annotations) t i) h)
-  made_grounded t h (of_axiom b m p (at_end e i j)) = sound_grounded g t.subject (end_sound k o c name g d drawn single read b m p e i t j)
+  made_grounded t h (of_axiom b m p (at_end e i j)) = sound_grounded g t.subject (end_sound k o c.can_be_drawn name g d drawn single read b m p e i t j)
   made_grounded t h (of_axiom b m p (is_main i)) =
       absurd (structural_has_role g t h (iri_single t.subject (node_iri t (place_says name o drawn b m p t i) (structural_of_node g t h))))
   made_grounded t h (of_axiom b m p (at_node e i j)) =
-      elim (stand_sound k o c name g d drawn single read b m p e i t j) [
+      elim (stand_sound k o c.can_be_drawn name g d drawn single read b m p e i t j) [
         | inl s ↦ subst (IsGrounded g) (sym s) (stand_grounded b m p e i)
         | inr s ↦ sound_grounded g t.subject s
       ]
@@ -151,7 +151,7 @@ module _ (k : List Entity) (o : Ontology) (c : CanBeStated k o) (name : ℕ → 
       let b = (below_some (IsDirectlyBelow g) x x h).1 in
       elim (made_cases name o b.triple ((d.holds b.triple).0 b.inside)) [
         | inl own ↦ no_cycle g x (subst (IsGrounded g) b.subject (made_grounded b.triple b.structural own)) h
-        | inr f ↦ b.no_note (ap (role_of g) (sym b.subject ∙ entry_subjects name f.entry b.triple f.inside) ∙ entry_role k o c name g d drawn single read are f.entry f.among)
+        | inr f ↦ b.no_note (ap (role_of g) (sym b.subject ∙ entry_subjects name f.entry b.triple f.inside) ∙ entry_role k o c.can_be_drawn name g d drawn single read are f.entry f.among)
       ]
 
   -- No reification is noted under itself, since what is noted under another has a greater number.
@@ -231,7 +231,7 @@ module _ (k : List Entity) (o : Ontology) (c : CanBeStated k o) (name : ℕ → 
   root_some : (e : Entry) → Contains es e → IsRootMade name o e → ReifiesSome g k header (entry_node name e)
   root_some e m (of_header j) =
       let link = root_links header (notes_from o.annotations) (header_nodes o.head.name) e j in
-      let p = header_property k o c header e.triple link in
+      let p = header_property k o c.can_be_drawn header e.triple link in
       an_annotation e.triple (header_links k o c name g d drawn single read are e.triple link)
       (header_note g k header e.triple (link_subjects header (notes_from o.annotations) e.triple link) p.free p.property) (own_reified e m)
   root_some e m (of_place b l p (of_main t j h)) =
@@ -240,14 +240,14 @@ module _ (k : List Entity) (o : Ontology) (c : CanBeStated k o) (name : ℕ → 
       an_axiom e.triple (subst (λ (u : Triple). Contains (main_triples g k header) u) same main) (own_reified e m)
   root_some e m (of_place b l p (of_stand s j h)) =
       let link = root_links (stand_node name s) s.notes (notes_at s) e h in
-      noted_some e m (stand_node name s) (link_subjects (stand_node name s) s.notes e.triple link) (inl (stand_main k o c name g d drawn single read b l p s j))
+      noted_some e m (stand_node name s) (link_subjects (stand_node name s) s.notes e.triple link) (inl (stand_main k o c.can_be_drawn name g d drawn single read b l p s j))
       ((stand_links k o c name g d drawn single read are b l p s j e.triple).1 link)
 
   below_some_entry : (e : Entry) → Contains es e → IsBelowEntry name es e → ReifiesSome g k header (entry_node name e)
   below_some_entry e m b =
       let f = b.entry in
       let link = root_links (entry_node name f) f.notes (suc f.number) e b.inside in
-      noted_some e m (entry_node name f) (link_subjects (entry_node name f) f.notes e.triple link) (inr (entry_role k o c name g d drawn single read are f b.among))
+      noted_some e m (entry_node name f) (link_subjects (entry_node name f) f.notes e.triple link) (inr (entry_role k o c.can_be_drawn name g d drawn single read are f b.among))
       ((notes_entry name g d.apart f (are.said f b.among) (are.own f b.among) e.triple).1 link)
 
   entry_some : (e : Entry) → Contains es e → ReifiesSome g k header (entry_node name e)
@@ -275,8 +275,8 @@ module _ (k : List Entity) (o : Ontology) (c : CanBeStated k o) (name : ℕ → 
 
   from_stand : (x y : Term) (b : Tree) (m : ℕ) (p : StandsAt o b m) (e : Stand) → Contains (stands_of (statement_of b) (sets_of b o.axioms) m) e → x ≡ stand_node name e → IsUnder g (stand_node name e) y → IsPartOfAxiom (role_of g y) → IsReached g k header y
   from_stand x y b m p e i at u is =
-      let main = stand_main k o c name g d drawn single read b m p e i in
-      let r = read_at k o c name g d drawn single read b m p in
+      let main = stand_main k o c.can_be_drawn name g d drawn single read b m p e i in
+      let r = read_at k o c.can_be_drawn name g d drawn single read b m p in
       let leads = main_leads g k (stand_node name e) (tag_of r.tree) r.read.kids (r.stand e i) in
       let no_note : (z : Term) → IsUnder g (stand_node name e) z → role_of g z ≡ role.Note → ⊥ =
       λ z v n. elim (lead_under g (stand_node name e) z leads v) [
@@ -290,26 +290,26 @@ module _ (k : List Entity) (o : Ontology) (c : CanBeStated k o) (name : ℕ → 
 
   part_reached : (x : Term) → IsPartOfAxiom (role_of g x) → IsPartNode name o x → IsReached g k header x
   part_reached x is (below_end b m p e i t j at) =
-      let h = end_below k o c name g d drawn single read b m p e i t j in
+      let h = end_below k o c.can_be_drawn name g d drawn single read b m p e i t j in
       let main = in_main_triples b m p h.triple h.main in
-      let ends = main_sound k o c name g d drawn single read b m p h.triple h.main in
+      let ends = main_sound k o c.can_be_drawn name g d drawn single read b m p h.triple h.main in
       subst (IsReached g k header) at
       (elim h.under [
         | inl u ↦ from_root h.triple.subject t.subject (is_subject h.triple main) ends.0 u
         | inr u ↦ from_root h.triple.object t.subject (is_object h.triple main) ends.1 u
       ])
   part_reached x is (below_stand b m p e i t j at) =
-      from_stand (stand_node name e) x b m p e i refl (subst (IsUnder g (stand_node name e)) at (stand_under k o c name g d drawn single read b m p e i t j)) is
+      from_stand (stand_node name e) x b m p e i refl (subst (IsUnder g (stand_node name e)) at (stand_under k o c.can_be_drawn name g d drawn single read b m p e i t j)) is
 
   -- nothing of the graph is passed over
   pub whole : IsWhole g k header
   whole = record {
-    one_role = one_role k o c name g d drawn single read are;
+    one_role = one_role k o c.can_be_drawn name g d drawn single read are;
     sound = λ label. sound_by label (role_of g (Blank label)) refl;
     no_cycle = no_way_round;
     no_cycle_of_notes = no_notes_round;
     reifications = each_reification;
-    reached = λ label is. part_reached (Blank label) is (part_node k o c name g d drawn single read are label is);
+    reached = λ label is. part_reached (Blank label) is (part_node k o c.can_be_drawn name g d drawn single read are label is);
   }
 
   -- The graph says the ontology.

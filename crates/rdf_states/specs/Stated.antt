@@ -16,16 +16,20 @@ use Rattle.rdf_mapping.specs.Graphs.{labels_of}
 use Rattle.rdf_axioms.specs.AxiomReading.{IsSayableAxiom}
 use Rattle.rdf_states.specs.Annotations.{AreAnnotations}
 
--- An ontology that is its own normal form, of which all is well typed under kinds without a clash and can be said in RDF, with no more
--- labels and other blank nodes in its graph than there are fresh labels that are known to differ.
-pub record CanBeStated (k : List Entity) (o : Ontology) : Type 0 where
-  pub no_clash : HaveNoClash k
+-- An ontology that is its own normal form, of which all is well typed under these kinds and can be said in RDF, with no more labels and
+-- other blank nodes in its graph than there are fresh labels that are known to differ.
+pub record CanBeDrawn (k : List Entity) (o : Ontology) : Type 0 where
   pub is_ontology : IsOntology o
   pub normal : normal_form o ≡ o
   pub sayable : CanSayAll o
   pub typed_annotations : AreWellTyped k (entities_of (kids_of o.annotations))
   pub typed_axioms : AllByRecursion (λ t. AreWellTyped k (entities t)) o.axioms
   pub few : made_nodes o + length (labels_of o) ≤ 9 * 10 ^ 18
+
+-- such an ontology, under kinds without a clash
+pub record CanBeStated (k : List Entity) (o : Ontology) : Type 0 where
+  pub no_clash : HaveNoClash k
+  pub can_be_drawn : CanBeDrawn k o
 
 -- an axiom with its annotations as its first kid
 pub record IsAxiomTree (a : Tree) : Type 0 where
