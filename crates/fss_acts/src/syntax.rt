@@ -31,11 +31,13 @@ impl Syntax for Assembler {
 
     type Grammar = fss_grammar::Functional;
 
-    ghost rules = { functional_rules };
+    ghost Context = { Unit {0} };
 
-    ghost Made = { MadeByEvents Made };
+    ghost rules = { λ _. functional_rules };
 
-    ghost Whole = { WholeByEvents Did };
+    ghost Made = { λ _. MadeByEvents Made };
+
+    ghost Whole = { λ _. WholeByEvents Did };
 
     fn document() -> u16 {
         0
@@ -67,17 +69,18 @@ impl Syntax for Assembler {
     }
 
     fn take(&mut self, acts: &[u8], next: Option<Placed<Token>>) -> Result<(), TokenFault>
-        requires { MayTake Spells functional functional_rules (MadeByEvents Made) self.old acts.now next }
-        ensures takes { OnOk result ((steps : List (Step lexeme.Token))
+        requires { Unit {0} × MayTake Spells functional functional_rules (MadeByEvents Made)
+            self.old acts.now next }
+        ensures takes { OnOk result (Unit {0} → (steps : List (Step lexeme.Token))
             → MadeByEvents Made steps self.old
             → MayFollow functional functional_rules (events_of steps) acts.now (token_in next)
             → GoesOn (MadeByEvents Made) (WholeByEvents Did) steps acts.now next self.new) }
-        ensures free { OnOk result ((steps : List (Step lexeme.Token))
+        ensures free { OnOk result (Unit {0} → (steps : List (Step lexeme.Token))
             → MadeByEvents Made steps self.old
             → MayFollow functional functional_rules (events_of steps) acts.now (token_in next)
             → (fault : token.TokenFault) → BarsByEvents Bars steps acts.now next fault → ⊥) }
         ensures barred { IfErr result (λ fault. fault ≢ token.TokenFault.Memory
-            → (steps : List (Step lexeme.Token)) → MadeByEvents Made steps self.old
+            → Unit {0} → (steps : List (Step lexeme.Token)) → MadeByEvents Made steps self.old
             → MayFollow functional functional_rules (events_of steps) acts.now (token_in next)
             → BarsByEvents Bars steps acts.now next fault) }
     {
@@ -85,7 +88,7 @@ impl Syntax for Assembler {
         self.do_all(acts, &mut next)
     }
 
-    ghost has_document = { has_document };
+    ghost has_document = { λ _. has_document };
 
-    ghost is_prompt = { functional_is_prompt };
+    ghost is_prompt = { λ _. functional_is_prompt };
 }

@@ -32,11 +32,13 @@ impl Syntax for Assembler {
 
     type Grammar = man_grammar::Manchester;
 
-    ghost rules = { manchester_rules };
+    ghost Context = { Unit {0} };
 
-    ghost Made = { Made };
+    ghost rules = { λ _. manchester_rules };
 
-    ghost Whole = { Whole };
+    ghost Made = { λ _. Made };
+
+    ghost Whole = { λ _. Whole };
 
     fn document() -> u16 {
         0
@@ -64,23 +66,25 @@ impl Syntax for Assembler {
     }
 
     fn take(&mut self, acts: &[u8], next: Option<Placed<Token>>) -> Result<(), TokenFault>
-        requires { MayTake SpellsManchester manchester manchester_rules Made
+        requires { Unit {0} × MayTake SpellsManchester manchester manchester_rules Made
             self.old acts.now next }
-        ensures takes { OnOk result ((steps : List (Step lexeme.Token)) → Made steps self.old
+        ensures takes { OnOk result (Unit {0} → (steps : List (Step lexeme.Token))
+            → Made steps self.old
             → MayFollow manchester manchester_rules (events_of steps) acts.now (token_in next)
             → GoesOn Made Whole steps acts.now next self.new) }
-        ensures free { OnOk result ((steps : List (Step lexeme.Token)) → Made steps self.old
+        ensures free { OnOk result (Unit {0} → (steps : List (Step lexeme.Token))
+            → Made steps self.old
             → MayFollow manchester manchester_rules (events_of steps) acts.now (token_in next)
             → (fault : token.TokenFault) → Bars steps acts.now next fault → ⊥) }
         ensures barred { IfErr result (λ fault. fault ≢ token.TokenFault.Memory
-            → (steps : List (Step lexeme.Token)) → Made steps self.old
+            → Unit {0} → (steps : List (Step lexeme.Token)) → Made steps self.old
             → MayFollow manchester manchester_rules (events_of steps) acts.now (token_in next)
             → Bars steps acts.now next fault) }
     {
         self.do_all(acts, &next)
     }
 
-    ghost has_document = { has_document };
+    ghost has_document = { λ _. has_document };
 
-    ghost is_prompt = { manchester_is_prompt };
+    ghost is_prompt = { λ _. manchester_is_prompt };
 }

@@ -47,3 +47,13 @@ module _ {T S : Type 0} (Made Whole : List (Event T) → S → Type 0) (Follows 
   steps_barred Bars (Ok done) h = tt
   steps_barred Bars (Err fault) h = λ other steps m f.
       (subst (λ (y : Option T). Follows (events_of steps) y → Bars (events_of steps) acts y fault) same (h other (events_of steps) m)) f
+
+-- what a call answers in each context
+
+pub ok_in_each : {C X E : Type 0} (P : C → Type 0) (r : Result X E) → ((context : C) → OnOk r (P context)) → OnOk r ((context : C) → P context)
+ok_in_each P (Ok x) h = h
+ok_in_each P (Err e) h = tt
+
+pub err_in_each : {C X : Type 0} (P : C → TokenFault → Type 0) (r : Result X TokenFault) → ((context : C) → IfErr r (λ fault. fault ≢ Memory → P context fault)) → IfErr r (λ fault. fault ≢ Memory → (context : C) → P context fault)
+err_in_each P (Ok x) h = tt
+err_in_each P (Err e) h = λ other context. h context other

@@ -200,16 +200,16 @@ front_refused {spells = spells} {g = g} {rules = rules} {r = r} bytes left piece
     (h (o.0 ++ more))
 
 -- the piece so far was taken
-pub record TakesSoFar {T S : Type 0} (spells : T → List ℕ → Type 0) (g : List Entry) (rules : Rules T) (Made : List (Step T) → S → Type 0) (old : Lexing) (parsing : Parsing) (made : S) (item : Option Item) (now : Lexing) (after : Parsing) (other : S) (last : Option Item) (piece : List ℕ) (place : ℕ) : Type 0 where
+pub record TakesSoFar {T S C : Type 0} (spells : T → List ℕ → Type 0) (g : List Entry) (rules : C → Rules T) (Made : C → List (Step T) → S → Type 0) (old : Lexing) (parsing : Parsing) (made : S) (item : Option Item) (now : Lexing) (after : Parsing) (other : S) (last : Option Item) (piece : List ℕ) (place : ℕ) : Type 0 where
   pub within : place ≤ length piece
-  pub room : HasRoom spells g rules Made now after other last (length piece - place)
-  pub takes : (bytes : List ℕ) → IsOpen spells g rules Made old parsing made item bytes → IsOpen spells g rules Made now after other last (bytes ++ take place piece)
+  pub room : (context : C) × HasRoom spells g (rules context) (Made context) now after other last (length piece - place)
+  pub takes : (context : C) (bytes : List ℕ) → IsOpen spells g (rules context) (Made context) old parsing made item bytes → IsOpen spells g (rules context) (Made context) now after other last (bytes ++ take place piece)
 
-pub none_so_far : {T S : Type 0} {spells : T → List ℕ → Type 0} {g : List Entry} {rules : Rules T} {Made : List (Step T) → S → Type 0} {old : Lexing} {parsing : Parsing} {made : S} {item : Option Item} (piece : List ℕ) → HasRoom spells g rules Made old parsing made item (length piece) → TakesSoFar spells g rules Made old parsing made item old parsing made item piece 0
+pub none_so_far : {T S C : Type 0} {spells : T → List ℕ → Type 0} {g : List Entry} {rules : C → Rules T} {Made : C → List (Step T) → S → Type 0} {old : Lexing} {parsing : Parsing} {made : S} {item : Option Item} (piece : List ℕ) → ((context : C) × HasRoom spells g (rules context) (Made context) old parsing made item (length piece)) → TakesSoFar spells g rules Made old parsing made item old parsing made item piece 0
 none_so_far {spells = spells} {g = g} {rules = rules} {Made = Made} {old = old} {parsing = parsing} {made = made} {item = item} piece room = record {
   within = omega arith;
-  room = record { bytes = room.bytes; open_yet = room.open_yet; few = let few = room.few in omega arith };
-  takes = λ bytes o. subst (λ (l : List ℕ). IsOpen spells g rules Made old parsing made item l) (sym (append-nil bytes)) o;
+  room = (room.0, record { bytes = room.1.bytes; open_yet = room.1.open_yet; few = let few = room.1.few in omega arith });
+  takes = λ context bytes o. subst (λ (l : List ℕ). IsOpen spells g (rules context) (Made context) old parsing made item l) (sym (append-nil bytes)) o;
 }
 
 -- the rest of the piece from a place
@@ -219,21 +219,22 @@ rest_from piece place = take (length piece - place) (drop place piece)
 rest_length : (piece : List ℕ) (place : ℕ) → length (rest_from piece place) ≡ length piece - place
 rest_length piece place = ap (λ (l : List ℕ). length l) (take_rest piece place) ∙ length-drop place piece
 
-pub more_so_far : {T S : Type 0} {spells : T → List ℕ → Type 0} {g : List Entry} {rules : Rules T} {Made : List (Step T) → S → Type 0} {old now new : Lexing} {parsing mid after : Parsing} {made half other : S} {item between last : Option Item} (piece : List ℕ) (place count : ℕ) → TakesSoFar spells g rules Made old parsing made item now mid half between piece place → count ≤ length (rest_from piece place) → ((bytes : List ℕ) → IsOpen spells g rules Made now mid half between bytes → IsOpen spells g rules Made new after other last (bytes ++ take count (rest_from piece place))) → TakesSoFar spells g rules Made old parsing made item new after other last piece (place + count)
+pub more_so_far : {T S C : Type 0} {spells : T → List ℕ → Type 0} {g : List Entry} {rules : C → Rules T} {Made : C → List (Step T) → S → Type 0} {old now new : Lexing} {parsing mid after : Parsing} {made half other : S} {item between last : Option Item} (piece : List ℕ) (place count : ℕ) → TakesSoFar spells g rules Made old parsing made item now mid half between piece place → count ≤ length (rest_from piece place) → ((context : C) (bytes : List ℕ) → IsOpen spells g (rules context) (Made context) now mid half between bytes → IsOpen spells g (rules context) (Made context) new after other last (bytes ++ take count (rest_from piece place))) → TakesSoFar spells g rules Made old parsing made item new after other last piece (place + count)
 more_so_far {spells = spells} {g = g} {rules = rules} {Made = Made} {new = new} {after = after} {other = other} {last = last} piece place count s few takes =
     let left = rest_length piece place in
     let within = s.within in
-    let room = s.room.few in
+    let can = s.room.1 in
+    let room = can.few in
     let size : length (take count (rest_from piece place)) ≡ count = length-take-le count (rest_from piece place) few in
-    let all : length (s.room.bytes ++ take count (rest_from piece place)) ≡ length s.room.bytes + length (take count (rest_from piece place)) = length-append s.room.bytes (take count (rest_from piece place)) in
+    let all : length (can.bytes ++ take count (rest_from piece place)) ≡ length can.bytes + length (take count (rest_from piece place)) = length-append can.bytes (take count (rest_from piece place)) in
     record {
       within = omega arith;
-      room = record { bytes = s.room.bytes ++ take count (rest_from piece place); open_yet = takes s.room.bytes s.room.open_yet; few = omega arith };
-      takes = λ bytes o.
-          subst (λ (l : List ℕ). IsOpen spells g rules Made new after other last l)
+      room = (s.room.0, record { bytes = can.bytes ++ take count (rest_from piece place); open_yet = takes s.room.0 can.bytes can.open_yet; few = omega arith });
+      takes = λ context bytes o.
+          subst (λ (l : List ℕ). IsOpen spells g (rules context) (Made context) new after other last l)
           (append_assoc bytes (take place piece) (take count (rest_from piece place))
           ∙ ap (λ (l : List ℕ). bytes ++ l) (ap (λ (l : List ℕ). take place piece ++ take count l) (take_rest piece place) ∙ sym (take-add place count piece)))
-          (takes (bytes ++ take place piece) (s.takes bytes o));
+          (takes context (bytes ++ take place piece) (s.takes context bytes o));
     }
 
 -- what stands behind what was taken is the rest
@@ -247,29 +248,29 @@ begins_within h = let place = h.open_yet.place in let few = h.few in omega arith
 pub rest_refused : {T : Type 0} {spells : T → List ℕ → Type 0} {g : List Entry} {rules : Rules T} {r : ReadFault} (bytes piece : List ℕ) (place : ℕ) → HasDefectAlways spells g rules ((bytes ++ take place piece) ++ rest_from piece place) r → HasDefectAlways spells g rules (bytes ++ piece) r
 rest_refused {spells = spells} {g = g} {rules = rules} {r = r} bytes piece place h = subst (λ (l : List ℕ). HasDefectAlways spells g rules l r) (whole_piece bytes piece place) h
 
-pub all_so_far : {T S : Type 0} {spells : T → List ℕ → Type 0} {g : List Entry} {rules : Rules T} {Made : List (Step T) → S → Type 0} {old now new : Lexing} {parsing mid after : Parsing} {made half other : S} {item between last : Option Item} (piece : List ℕ) (place : ℕ) → TakesSoFar spells g rules Made old parsing made item now mid half between piece place → ((bytes : List ℕ) → IsOpen spells g rules Made now mid half between bytes → IsOpen spells g rules Made new after other last (bytes ++ rest_from piece place)) → (bytes : List ℕ) → IsOpen spells g rules Made old parsing made item bytes → IsOpen spells g rules Made new after other last (bytes ++ piece)
-all_so_far {spells = spells} {g = g} {rules = rules} {Made = Made} {new = new} {after = after} {other = other} {last = last} piece place s takes bytes o =
-    subst (λ (l : List ℕ). IsOpen spells g rules Made new after other last l) (whole_piece bytes piece place) (takes (bytes ++ take place piece) (s.takes bytes o))
+pub all_so_far : {T S C : Type 0} {spells : T → List ℕ → Type 0} {g : List Entry} {rules : C → Rules T} {Made : C → List (Step T) → S → Type 0} {old now new : Lexing} {parsing mid after : Parsing} {made half other : S} {item between last : Option Item} (piece : List ℕ) (place : ℕ) → TakesSoFar spells g rules Made old parsing made item now mid half between piece place → ((context : C) (bytes : List ℕ) → IsOpen spells g (rules context) (Made context) now mid half between bytes → IsOpen spells g (rules context) (Made context) new after other last (bytes ++ rest_from piece place)) → (context : C) (bytes : List ℕ) → IsOpen spells g (rules context) (Made context) old parsing made item bytes → IsOpen spells g (rules context) (Made context) new after other last (bytes ++ piece)
+all_so_far {spells = spells} {g = g} {rules = rules} {Made = Made} {new = new} {after = after} {other = other} {last = last} piece place s takes context bytes o =
+    subst (λ (l : List ℕ). IsOpen spells g (rules context) (Made context) new after other last l) (whole_piece bytes piece place) (takes context (bytes ++ take place piece) (s.takes context bytes o))
 
 -- as a call answers it
 
-pub more_left : {T S : Type 0} {spells : T → List ℕ → Type 0} {g : List Entry} {rules : Rules T} {Made : List (Step T) → S → Type 0} {old now new : Lexing} {parsing mid after : Parsing} {made half other : S} {item between last : Option Item} (piece : List ℕ) (place count : ℕ) (left : Option ℕ) → left ≡ Some count → TakesSoFar spells g rules Made old parsing made item now mid half between piece place → IfSome left (λ n. n ≤ length (rest_from piece place)) → ((bytes : List ℕ) → IsOpen spells g rules Made now mid half between bytes → IsOpen spells g rules Made new after other last (bytes ++ taken_of left (rest_from piece place))) → TakesSoFar spells g rules Made old parsing made item new after other last piece (place + count)
+pub more_left : {T S C : Type 0} {spells : T → List ℕ → Type 0} {g : List Entry} {rules : C → Rules T} {Made : C → List (Step T) → S → Type 0} {old now new : Lexing} {parsing mid after : Parsing} {made half other : S} {item between last : Option Item} (piece : List ℕ) (place count : ℕ) (left : Option ℕ) → left ≡ Some count → TakesSoFar spells g rules Made old parsing made item now mid half between piece place → IfSome left (λ n. n ≤ length (rest_from piece place)) → ((context : C) (bytes : List ℕ) → IsOpen spells g (rules context) (Made context) now mid half between bytes → IsOpen spells g (rules context) (Made context) new after other last (bytes ++ taken_of left (rest_from piece place))) → TakesSoFar spells g rules Made old parsing made item new after other last piece (place + count)
 more_left {spells = spells} {g = g} {rules = rules} {Made = Made} {new = new} {after = after} {other = other} {last = last} piece place count left e s within takes =
     more_so_far piece place count s (subst (λ (o : Option ℕ). IfSome o (λ n. n ≤ length (rest_from piece place))) e within)
-    (λ bytes o. subst (λ (l : Option ℕ). IsOpen spells g rules Made new after other last (bytes ++ taken_of l (rest_from piece place))) e (takes bytes o))
+    (λ context bytes o. subst (λ (l : Option ℕ). IsOpen spells g (rules context) (Made context) new after other last (bytes ++ taken_of l (rest_from piece place))) e (takes context bytes o))
 
-pub all_left : {T S : Type 0} {spells : T → List ℕ → Type 0} {g : List Entry} {rules : Rules T} {Made : List (Step T) → S → Type 0} {old now new : Lexing} {parsing mid after : Parsing} {made half other : S} {item between last : Option Item} (piece : List ℕ) (place : ℕ) (left : Option ℕ) → left ≡ None → TakesSoFar spells g rules Made old parsing made item now mid half between piece place → ((bytes : List ℕ) → IsOpen spells g rules Made now mid half between bytes → IsOpen spells g rules Made new after other last (bytes ++ taken_of left (rest_from piece place))) → (bytes : List ℕ) → IsOpen spells g rules Made old parsing made item bytes → IsOpen spells g rules Made new after other last (bytes ++ piece)
+pub all_left : {T S C : Type 0} {spells : T → List ℕ → Type 0} {g : List Entry} {rules : C → Rules T} {Made : C → List (Step T) → S → Type 0} {old now new : Lexing} {parsing mid after : Parsing} {made half other : S} {item between last : Option Item} (piece : List ℕ) (place : ℕ) (left : Option ℕ) → left ≡ None → TakesSoFar spells g rules Made old parsing made item now mid half between piece place → ((context : C) (bytes : List ℕ) → IsOpen spells g (rules context) (Made context) now mid half between bytes → IsOpen spells g (rules context) (Made context) new after other last (bytes ++ taken_of left (rest_from piece place))) → (context : C) (bytes : List ℕ) → IsOpen spells g (rules context) (Made context) old parsing made item bytes → IsOpen spells g (rules context) (Made context) new after other last (bytes ++ piece)
 all_left {spells = spells} {g = g} {rules = rules} {Made = Made} {new = new} {after = after} {other = other} {last = last} piece place left e s takes =
-    all_so_far piece place s (λ bytes o. subst (λ (l : Option ℕ). IsOpen spells g rules Made new after other last (bytes ++ taken_of l (rest_from piece place))) e (takes bytes o))
+    all_so_far piece place s (λ context bytes o. subst (λ (l : Option ℕ). IsOpen spells g (rules context) (Made context) new after other last (bytes ++ taken_of l (rest_from piece place))) e (takes context bytes o))
 
 -- ---- portions of the last tokens
 
-pub record EndsSoFar {T S : Type 0} (spells : T → List ℕ → Type 0) (g : List Entry) (rules : Rules T) (Made : List (Step T) → S → Type 0) (old : Lexing) (parsing : Parsing) (made : S) (item : Option Item) (now : Lexing) (after : Parsing) (other : S) (last : Option Item) : Type 0 where
-  pub can : CanEnd spells g rules Made now after other last
-  pub takes : (bytes : List ℕ) → IsEnding spells g rules Made old parsing made item bytes → IsEnding spells g rules Made now after other last bytes
+pub record EndsSoFar {T S C : Type 0} (spells : T → List ℕ → Type 0) (g : List Entry) (rules : C → Rules T) (Made : C → List (Step T) → S → Type 0) (old : Lexing) (parsing : Parsing) (made : S) (item : Option Item) (now : Lexing) (after : Parsing) (other : S) (last : Option Item) : Type 0 where
+  pub can : (context : C) × CanEnd spells g (rules context) (Made context) now after other last
+  pub takes : (context : C) (bytes : List ℕ) → IsEnding spells g (rules context) (Made context) old parsing made item bytes → IsEnding spells g (rules context) (Made context) now after other last bytes
 
-pub none_ended : {T S : Type 0} {spells : T → List ℕ → Type 0} {g : List Entry} {rules : Rules T} {Made : List (Step T) → S → Type 0} {old : Lexing} {parsing : Parsing} {made : S} {item : Option Item} {room : ℕ} → HasRoom spells g rules Made old parsing made item room → EndsSoFar spells g rules Made old parsing made item old parsing made item
-none_ended h = record { can = record { bytes = h.bytes; ending = open_ends h.open_yet }; takes = λ bytes o. o }
+pub none_ended : {T S C : Type 0} {spells : T → List ℕ → Type 0} {g : List Entry} {rules : C → Rules T} {Made : C → List (Step T) → S → Type 0} {old : Lexing} {parsing : Parsing} {made : S} {item : Option Item} {room : ℕ} → ((context : C) × HasRoom spells g (rules context) (Made context) old parsing made item room) → EndsSoFar spells g rules Made old parsing made item old parsing made item
+none_ended h = record { can = (h.0, record { bytes = h.1.bytes; ending = open_ends h.1.open_yet }); takes = λ context bytes o. o }
 
-pub more_ended : {T S : Type 0} {spells : T → List ℕ → Type 0} {g : List Entry} {rules : Rules T} {Made : List (Step T) → S → Type 0} {old now new : Lexing} {parsing mid after : Parsing} {made half other : S} {item between last : Option Item} → EndsSoFar spells g rules Made old parsing made item now mid half between → ((bytes : List ℕ) → IsEnding spells g rules Made now mid half between bytes → IsEnding spells g rules Made new after other last bytes) → EndsSoFar spells g rules Made old parsing made item new after other last
-more_ended h takes = record { can = record { bytes = h.can.bytes; ending = takes h.can.bytes h.can.ending }; takes = λ bytes o. takes bytes (h.takes bytes o) }
+pub more_ended : {T S C : Type 0} {spells : T → List ℕ → Type 0} {g : List Entry} {rules : C → Rules T} {Made : C → List (Step T) → S → Type 0} {old now new : Lexing} {parsing mid after : Parsing} {made half other : S} {item between last : Option Item} → EndsSoFar spells g rules Made old parsing made item now mid half between → ((context : C) (bytes : List ℕ) → IsEnding spells g (rules context) (Made context) now mid half between bytes → IsEnding spells g (rules context) (Made context) new after other last bytes) → EndsSoFar spells g rules Made old parsing made item new after other last
+more_ended h takes = record { can = (h.can.0, record { bytes = h.can.1.bytes; ending = takes h.can.0 h.can.1.bytes h.can.1.ending }); takes = λ context bytes o. takes context bytes (h.takes context bytes o) }

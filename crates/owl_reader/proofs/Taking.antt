@@ -54,8 +54,8 @@ begins_if {g = g} {parsing = parsing} steps s next classes false begins same tak
       begins = fed_goes_on s.fed.fed whole.class whole.goes_on;
     }))))
 
-pub anew_if : {T S E : Type 0} (g : List Entry) (rules : Rules T) (Made : List (Step T) → S → Type 0) (parsing : Parsing) (made : S) (item : Option Item) (begins : Bool) (classes : List ℕ) (r : Result Bool E) → begins ≡ true → classes ≡ rules.behind → (parsing.refused ≡ None → IfOk r (λ takes. IsTrue takes ↔ TakesOneOf g parsing.expected classes)) → IfOk r (λ is. (steps : List (Step T)) → Stands g rules Made parsing made item steps → (next : Option T) → begins ≡ rules.begins next → BeginsItem g rules steps next is)
-anew_if g rules Made parsing made item begins classes (Ok takes) may same tells = λ steps s next e. begins_if steps s next classes takes (sym e ∙ may) same (tells s.open_yet)
+pub anew_if : {T S C E : Type 0} (g : List Entry) (rules : C → Rules T) (Made : C → List (Step T) → S → Type 0) (parsing : Parsing) (made : S) (item : Option Item) (begins : Bool) (classes : List ℕ) (r : Result Bool E) → begins ≡ true → ((context : C) → classes ≡ (rules context).behind) → (parsing.refused ≡ None → IfOk r (λ takes. IsTrue takes ↔ TakesOneOf g parsing.expected classes)) → IfOk r (λ is. (context : C) (steps : List (Step T)) → Stands g (rules context) (Made context) parsing made item steps → (next : Option T) → begins ≡ (rules context).begins next → BeginsItem g (rules context) steps next is)
+anew_if g rules Made parsing made item begins classes (Ok takes) may same tells = λ context steps s next e. begins_if steps s next classes takes (sym e ∙ may) (same context) (tells s.open_yet)
 anew_if g rules Made parsing made item begins classes (Err fault) may same tells = tt
 
 pub begins_none : {T : Type 0} {g : List Entry} {rules : Rules T} (steps : List (Step T)) (next : Option T) → rules.begins next ≡ false → BeginsItem g rules steps next false

@@ -25,7 +25,7 @@ pub struct Item {
 
 /// Whether the token behind these acts ends its item.
 pub fn ends_item<S: Syntax>(acts: &[u8]) -> bool
-    ensures { result ≡ ends_item S.rules.mark acts.now }
+    ensures { (context : S.Context) → result ≡ ends_item (S.rules context).mark acts.now }
 {
     acts.iter().any(|act| S::mark_of(*act) == Mark::Last)
 }
@@ -33,7 +33,7 @@ pub fn ends_item<S: Syntax>(acts: &[u8]) -> bool
 /// Whether the token behind these acts belongs to the item before, though it
 /// was whole.
 pub fn resumes_item<S: Syntax>(acts: &[u8]) -> bool
-    ensures { result ≡ resumes_item S.rules.mark acts.now }
+    ensures { (context : S.Context) → result ≡ resumes_item (S.rules context).mark acts.now }
 {
     acts.iter().any(|act| S::mark_of(*act) == Mark::Again)
 }

@@ -30,11 +30,11 @@ impl<S: Syntax> Progress<S> {
     /// Whether a token, or the end, which may begin an item or not, begins one if
     /// no document goes on with it.
     fn is_anew(&self, alloc: Global, begins: bool) -> Result<bool, AllocError>
-        ensures { IfOk result (λ anew. (steps : List (Step S.Language.Token))
-            → Stands S.Grammar.grammar S.rules S.Made
+        ensures { IfOk result (λ anew. (context : S.Context) (steps : List (Step S.Language.Token))
+            → Stands S.Grammar.grammar (S.rules context) (S.Made context)
             self.now.parser self.now.syntax self.now.last steps
-            → (next : Option S.Language.Token) → begins ≡ S.rules.begins next
-            → BeginsItem S.Grammar.grammar S.rules steps next anew) }
+            → (next : Option S.Language.Token) → begins ≡ (S.rules context).begins next
+            → BeginsItem S.Grammar.grammar (S.rules context) steps next anew) }
     {
         if !begins {
             return Ok(false);
@@ -62,18 +62,20 @@ impl<S: Syntax> Progress<S> {
         alloc: Global,
         placed: Placed<<S::Language as TokenLanguage>::Token>,
     ) -> Result<(), ReadFault>
-        requires stands { CanStand S.Grammar.grammar S.rules S.Made
+        requires stands { (context : S.Context) × CanStand S.Grammar.grammar (S.rules context)
+            (S.Made context)
             self.old.parser self.old.syntax self.old.last }
         requires spelled { AreSpelled S.Language.spells (placed ∷ []) }
-        ensures takes { OnOk result ((steps : List (Step S.Language.Token))
-            → Stands S.Grammar.grammar S.rules S.Made
+        ensures takes { OnOk result ((context : S.Context) (steps : List (Step S.Language.Token))
+            → Stands S.Grammar.grammar (S.rules context) (S.Made context)
             self.old.parser self.old.syntax self.old.last steps
-            → StandsWith S.Grammar.grammar S.rules S.Made
+            → StandsWith S.Grammar.grammar (S.rules context) (S.Made context)
             self.new.parser self.new.syntax self.new.last steps (placed ∷ [])) }
-        ensures refuses { IfErr result (λ fault. fault ≢ Memory → (steps : List (Step S.Language.Token))
-            → Stands S.Grammar.grammar S.rules S.Made
+        ensures refuses { IfErr result (λ fault. fault ≢ Memory
+            → (context : S.Context) (steps : List (Step S.Language.Token))
+            → Stands S.Grammar.grammar (S.rules context) (S.Made context)
             self.old.parser self.old.syntax self.old.last steps
-            → IsRefused S.Grammar.grammar S.rules steps placed.at (Some placed) fault) }
+            → IsRefused S.Grammar.grammar (S.rules context) steps placed.at (Some placed) fault) }
     {
         let at = placed.at;
         let begins = S::begins_item(&placed.token);
@@ -100,18 +102,20 @@ impl<S: Syntax> Progress<S> {
         alloc: Global,
         tokens: Vec<Placed<<S::Language as TokenLanguage>::Token>>,
     ) -> Result<(), ReadFault>
-        requires stands { CanStand S.Grammar.grammar S.rules S.Made
+        requires stands { (context : S.Context) × CanStand S.Grammar.grammar (S.rules context)
+            (S.Made context)
             self.old.parser self.old.syntax self.old.last }
         requires spelled { AreSpelled S.Language.spells tokens.items }
-        ensures takes { OnOk result ((steps : List (Step S.Language.Token))
-            → Stands S.Grammar.grammar S.rules S.Made
+        ensures takes { OnOk result ((context : S.Context) (steps : List (Step S.Language.Token))
+            → Stands S.Grammar.grammar (S.rules context) (S.Made context)
             self.old.parser self.old.syntax self.old.last steps
-            → StandsWith S.Grammar.grammar S.rules S.Made
+            → StandsWith S.Grammar.grammar (S.rules context) (S.Made context)
             self.new.parser self.new.syntax self.new.last steps tokens.items) }
-        ensures refuses { IfErr result (λ fault. fault ≢ Memory → (steps : List (Step S.Language.Token))
-            → Stands S.Grammar.grammar S.rules S.Made
+        ensures refuses { IfErr result (λ fault. fault ≢ Memory
+            → (context : S.Context) (steps : List (Step S.Language.Token))
+            → Stands S.Grammar.grammar (S.rules context) (S.Made context)
             self.old.parser self.old.syntax self.old.last steps
-            → IsRefusedAmong S.Grammar.grammar S.rules steps tokens.items fault) }
+            → IsRefusedAmong S.Grammar.grammar (S.rules context) steps tokens.items fault) }
     {
         for placed in tokens {
             self.take(alloc, placed)?;
@@ -121,16 +125,18 @@ impl<S: Syntax> Progress<S> {
 
     /// Takes the end, at this byte.
     pub fn end(&mut self, alloc: Global, at: u64) -> Result<(), ReadFault>
-        requires stands { CanStand S.Grammar.grammar S.rules S.Made
+        requires stands { (context : S.Context) × CanStand S.Grammar.grammar (S.rules context)
+            (S.Made context)
             self.old.parser self.old.syntax self.old.last }
-        ensures ends { OnOk result ((steps : List (Step S.Language.Token))
-            → Stands S.Grammar.grammar S.rules S.Made
+        ensures ends { OnOk result ((context : S.Context) (steps : List (Step S.Language.Token))
+            → Stands S.Grammar.grammar (S.rules context) (S.Made context)
             self.old.parser self.old.syntax self.old.last steps
-            → Ends S.Grammar.grammar S.rules S.Whole self.new.syntax steps) }
-        ensures refuses { IfErr result (λ fault. fault ≢ Memory → (steps : List (Step S.Language.Token))
-            → Stands S.Grammar.grammar S.rules S.Made
+            → Ends S.Grammar.grammar (S.rules context) (S.Whole context) self.new.syntax steps) }
+        ensures refuses { IfErr result (λ fault. fault ≢ Memory
+            → (context : S.Context) (steps : List (Step S.Language.Token))
+            → Stands S.Grammar.grammar (S.rules context) (S.Made context)
             self.old.parser self.old.syntax self.old.last steps
-            → IsRefused S.Grammar.grammar S.rules steps at None fault) }
+            → IsRefused S.Grammar.grammar (S.rules context) steps at None fault) }
     {
         let begins = S::end_begins_item();
         let anew = self.is_anew(alloc, begins)?;

@@ -47,8 +47,10 @@ impl<S: Syntax> Model for Reader<S> {
     } };
 
     ghost invariant = { λ r. (r.refused ≡ None →
-        HoldsNoEnd S.Language.spells S.rules.long_quotes r.lexer.begun)
-        × (r.refused ≡ None → CanRead S.Language.spells S.Grammar.grammar S.rules S.Made
+        (context : S.Context) → HoldsNoEnd S.Language.spells
+        (S.rules context).long_quotes r.lexer.begun)
+        × (r.refused ≡ None → (context : S.Context) × CanRead S.Language.spells S.Grammar.grammar
+        (S.rules context) (S.Made context)
         (record {
           lexing = r.lexer;
           parsing = r.progress.parser;
@@ -62,9 +64,10 @@ impl<S: Syntax> Model for Reader<S> {
 impl<S: Syntax> Reader<S> {
     /// A reader that was fed nothing, over a syntax that was given nothing.
     pub fn new(alloc: Global, syntax: S) -> Result<Reader<S>, NoMemory>
-        requires { S.Made [] syntax }
-        ensures { IfOk result (λ reader.
-            HasRead S.Language.spells S.Grammar.grammar S.rules S.Made reader []) }
+        requires { (context : S.Context) × S.Made context [] syntax }
+        ensures { IfOk result (λ reader. (context : S.Context) → S.Made context [] syntax →
+            HasRead S.Language.spells S.Grammar.grammar (S.rules context)
+            (S.Made context) reader []) }
     {
         let parser = Parser::new(alloc, S::document())?;
         let progress = Progress {
@@ -91,14 +94,20 @@ impl<S: Syntax> Reader<S> {
     /// No token is held back that white space follows, unless the quotes of a
     /// long string are. So a defect at such a token is told at once (`TellsEarly`).
     pub fn feed(&mut self, piece: &[u8]) -> Result<(), ReadFault>
-        ensures reads { OnOk result ((bytes : List ℕ)
-            → HasRead S.Language.spells S.Grammar.grammar S.rules S.Made self.old bytes
-            → HasRead S.Language.spells S.Grammar.grammar S.rules S.Made self.new (bytes ++ piece.now)) }
-        ensures refuses { IfErr result (λ fault. fault ≢ ReadFault.Memory → (bytes : List ℕ)
-            → HasRead S.Language.spells S.Grammar.grammar S.rules S.Made self.old bytes
-            → Refuses S.Language.spells S.Grammar.grammar S.rules (bytes ++ piece.now) fault) }
+        ensures reads { OnOk result ((context : S.Context) (bytes : List ℕ)
+            → HasRead S.Language.spells S.Grammar.grammar (S.rules context) (S.Made context)
+            self.old bytes
+            → HasRead S.Language.spells S.Grammar.grammar (S.rules context) (S.Made context)
+            self.new (bytes ++ piece.now)) }
+        ensures refuses { IfErr result (λ fault. fault ≢ ReadFault.Memory → (context : S.Context)
+            (bytes : List ℕ)
+            → HasRead S.Language.spells S.Grammar.grammar (S.rules context) (S.Made context)
+            self.old bytes
+            → Refuses S.Language.spells S.Grammar.grammar (S.rules context)
+            (bytes ++ piece.now) fault) }
         ensures early { OnOk result
-            (TellsEarly S.Language.spells S.Grammar.grammar S.rules S.Made self.new) }
+            ((context : S.Context) → TellsEarly S.Language.spells S.Grammar.grammar
+            (S.rules context) (S.Made context) self.new) }
         ensures empty { self.old.refused ≡ None → piece.now ≡ [] → IsOk result }
         ensures keeps { IfErr result (λ fault. self.new.refused ≡ Some fault) }
         ensures same { (fault : ReadFault) → self.old.refused ≡ Some fault → result ≡ Err fault }
@@ -132,12 +141,16 @@ impl<S: Syntax> Reader<S> {
     /// A refusal other than `Memory` is the first defect of these bytes. A
     /// reader that has refused answers the same refusal.
     pub fn finish(self) -> Result<S, ReadFault>
-        ensures read { IfOk result (λ made. (bytes : List ℕ)
-            → HasRead S.Language.spells S.Grammar.grammar S.rules S.Made self bytes
-            → IsRead S.Language.spells S.Grammar.grammar S.rules S.Whole bytes made) }
-        ensures refuses { IfErr result (λ fault. fault ≢ ReadFault.Memory → (bytes : List ℕ)
-            → HasRead S.Language.spells S.Grammar.grammar S.rules S.Made self bytes
-            → IsFirstDefect S.Language.spells S.Grammar.grammar S.rules bytes fault) }
+        ensures read { IfOk result (λ made. (context : S.Context) (bytes : List ℕ)
+            → HasRead S.Language.spells S.Grammar.grammar (S.rules context)
+            (S.Made context) self bytes
+            → IsRead S.Language.spells S.Grammar.grammar (S.rules context)
+            (S.Whole context) bytes made) }
+        ensures refuses { IfErr result (λ fault. fault ≢ ReadFault.Memory → (context : S.Context)
+            (bytes : List ℕ)
+            → HasRead S.Language.spells S.Grammar.grammar (S.rules context)
+            (S.Made context) self bytes
+            → IsFirstDefect S.Language.spells S.Grammar.grammar (S.rules context) bytes fault) }
         ensures same { (fault : ReadFault) → self.refused ≡ Some fault → result ≡ Err fault }
     {
         let Reader {
@@ -162,22 +175,26 @@ fn read<S: Syntax>(
     fed: u64,
     piece: &[u8],
 ) -> Result<(), ReadFault>
-    requires room { HasRoom S.Language.spells S.Grammar.grammar S.rules S.Made lexer.old
+    requires room { (context : S.Context) × HasRoom S.Language.spells S.Grammar.grammar
+        (S.rules context) (S.Made context) lexer.old
         progress.old.parser progress.old.syntax progress.old.last (most_bytes - fed) }
     requires within { fed ≤ most_bytes }
-    ensures reads { OnOk result ((bytes : List ℕ)
-        → IsOpen S.Language.spells S.Grammar.grammar S.rules S.Made lexer.old
+    ensures reads { OnOk result ((context : S.Context) (bytes : List ℕ)
+        → IsOpen S.Language.spells S.Grammar.grammar (S.rules context) (S.Made context) lexer.old
         progress.old.parser progress.old.syntax progress.old.last bytes
-        → IsOpen S.Language.spells S.Grammar.grammar S.rules S.Made lexer.new
+        → IsOpen S.Language.spells S.Grammar.grammar (S.rules context) (S.Made context) lexer.new
         progress.new.parser progress.new.syntax progress.new.last (bytes ++ piece.now)) }
-    ensures refuses { IfErr result (λ fault. fault ≢ ReadFault.Memory → (bytes : List ℕ)
+    ensures refuses { IfErr result (λ fault. fault ≢ ReadFault.Memory → (context : S.Context)
+        (bytes : List ℕ)
         → fed ≡ length bytes
-        → IsOpen S.Language.spells S.Grammar.grammar S.rules S.Made lexer.old
+        → IsOpen S.Language.spells S.Grammar.grammar (S.rules context) (S.Made context) lexer.old
         progress.old.parser progress.old.syntax progress.old.last bytes
-        → Refuses S.Language.spells S.Grammar.grammar S.rules (bytes ++ piece.now) fault) }
+        → Refuses S.Language.spells S.Grammar.grammar (S.rules context)
+        (bytes ++ piece.now) fault) }
     ensures within { OnOk result (fed + length piece.now ≤ most_bytes) }
     ensures prompt { OnOk result
-        (HoldsNoEnd S.Language.spells S.rules.long_quotes lexer.new.begun) }
+        ((context : S.Context) → HoldsNoEnd S.Language.spells (S.rules context).long_quotes
+        lexer.new.begun) }
 {
     let room = MOST_BYTES - fed;
     if room < piece.len() as u64 {
@@ -194,17 +211,21 @@ fn end<S: Syntax>(
     progress: Progress<S>,
     fed: u64,
 ) -> Result<S, ReadFault>
-    requires room { HasRoom S.Language.spells S.Grammar.grammar S.rules S.Made lexer
+    requires room { (context : S.Context) × HasRoom S.Language.spells S.Grammar.grammar
+        (S.rules context) (S.Made context) lexer
         progress.parser progress.syntax progress.last 0 }
-    ensures read { IfOk result (λ made. (bytes : List ℕ) → length bytes ≤ most_bytes
-        → IsOpen S.Language.spells S.Grammar.grammar S.rules S.Made lexer
+    ensures read { IfOk result (λ made. (context : S.Context) (bytes : List ℕ)
+        → length bytes ≤ most_bytes
+        → IsOpen S.Language.spells S.Grammar.grammar (S.rules context) (S.Made context) lexer
         progress.parser progress.syntax progress.last bytes
-        → IsRead S.Language.spells S.Grammar.grammar S.rules S.Whole bytes made) }
-    ensures refuses { IfErr result (λ fault. fault ≢ ReadFault.Memory → (bytes : List ℕ)
+        → IsRead S.Language.spells S.Grammar.grammar (S.rules context)
+        (S.Whole context) bytes made) }
+    ensures refuses { IfErr result (λ fault. fault ≢ ReadFault.Memory → (context : S.Context)
+        (bytes : List ℕ)
         → fed ≡ length bytes
-        → IsOpen S.Language.spells S.Grammar.grammar S.rules S.Made lexer
+        → IsOpen S.Language.spells S.Grammar.grammar (S.rules context) (S.Made context) lexer
         progress.parser progress.syntax progress.last bytes
-        → HasDefect S.Language.spells S.Grammar.grammar S.rules bytes fault) }
+        → HasDefect S.Language.spells S.Grammar.grammar (S.rules context) bytes fault) }
 {
     let mut lexer = lexer;
     let mut progress = progress;

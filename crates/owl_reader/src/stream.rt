@@ -41,22 +41,25 @@ fn take_some<S: Syntax>(
     progress: &mut Progress<S>,
     piece: &[u8],
 ) -> Result<Option<usize>, ReadFault>
-    requires { HasRoom S.Language.spells S.Grammar.grammar S.rules S.Made lexer.old
+    requires { (context : S.Context) × HasRoom S.Language.spells S.Grammar.grammar (S.rules context)
+        (S.Made context) lexer.old
         progress.old.parser progress.old.syntax progress.old.last (length piece.now) }
     ensures within { IfOk result (λ left. IfSome left (λ count. count ≤ length piece.now)) }
-    ensures takes { IfOk result (λ left. (bytes : List ℕ)
-        → IsOpen S.Language.spells S.Grammar.grammar S.rules S.Made lexer.old
+    ensures takes { IfOk result (λ left. (context : S.Context) (bytes : List ℕ)
+        → IsOpen S.Language.spells S.Grammar.grammar (S.rules context) (S.Made context) lexer.old
         progress.old.parser progress.old.syntax progress.old.last bytes
-        → IsOpen S.Language.spells S.Grammar.grammar S.rules S.Made lexer.new
+        → IsOpen S.Language.spells S.Grammar.grammar (S.rules context) (S.Made context) lexer.new
         progress.new.parser progress.new.syntax progress.new.last
         (bytes ++ taken_of left piece.now)) }
-    ensures refuses { IfErr result (λ fault. fault ≢ Memory → (bytes : List ℕ)
-        → IsOpen S.Language.spells S.Grammar.grammar S.rules S.Made lexer.old
+    ensures refuses { IfErr result (λ fault. fault ≢ Memory → (context : S.Context) (bytes : List ℕ)
+        → IsOpen S.Language.spells S.Grammar.grammar (S.rules context) (S.Made context) lexer.old
         progress.old.parser progress.old.syntax progress.old.last bytes
-        → HasDefectAlways S.Language.spells S.Grammar.grammar S.rules (bytes ++ piece.now) fault) }
+        → HasDefectAlways S.Language.spells S.Grammar.grammar (S.rules context)
+        (bytes ++ piece.now) fault) }
     ensures nearer { IfOk result (λ left. IsSome left → lexer.old.begun.at < lexer.new.begun.at) }
     ensures prompt { IfOk result (λ left. left ≡ None →
-        HoldsNoEnd S.Language.spells S.rules.long_quotes lexer.new.begun) }
+        (context : S.Context) → HoldsNoEnd S.Language.spells (S.rules context).long_quotes
+        lexer.new.begun) }
 {
     tokens_come_always::<S::Language>();
     let mut tokens = Vec::new(alloc);
@@ -80,19 +83,22 @@ pub fn take<S: Syntax>(
     progress: &mut Progress<S>,
     piece: &[u8],
 ) -> Result<(), ReadFault>
-    requires { HasRoom S.Language.spells S.Grammar.grammar S.rules S.Made lexer.old
+    requires { (context : S.Context) × HasRoom S.Language.spells S.Grammar.grammar (S.rules context)
+        (S.Made context) lexer.old
         progress.old.parser progress.old.syntax progress.old.last (length piece.now) }
-    ensures takes { OnOk result ((bytes : List ℕ)
-        → IsOpen S.Language.spells S.Grammar.grammar S.rules S.Made lexer.old
+    ensures takes { OnOk result ((context : S.Context) (bytes : List ℕ)
+        → IsOpen S.Language.spells S.Grammar.grammar (S.rules context) (S.Made context) lexer.old
         progress.old.parser progress.old.syntax progress.old.last bytes
-        → IsOpen S.Language.spells S.Grammar.grammar S.rules S.Made lexer.new
+        → IsOpen S.Language.spells S.Grammar.grammar (S.rules context) (S.Made context) lexer.new
         progress.new.parser progress.new.syntax progress.new.last (bytes ++ piece.now)) }
-    ensures refuses { IfErr result (λ fault. fault ≢ Memory → (bytes : List ℕ)
-        → IsOpen S.Language.spells S.Grammar.grammar S.rules S.Made lexer.old
+    ensures refuses { IfErr result (λ fault. fault ≢ Memory → (context : S.Context) (bytes : List ℕ)
+        → IsOpen S.Language.spells S.Grammar.grammar (S.rules context) (S.Made context) lexer.old
         progress.old.parser progress.old.syntax progress.old.last bytes
-        → HasDefectAlways S.Language.spells S.Grammar.grammar S.rules (bytes ++ piece.now) fault) }
+        → HasDefectAlways S.Language.spells S.Grammar.grammar (S.rules context)
+        (bytes ++ piece.now) fault) }
     ensures prompt { OnOk result
-        (HoldsNoEnd S.Language.spells S.rules.long_quotes lexer.new.begun) }
+        ((context : S.Context) → HoldsNoEnd S.Language.spells (S.rules context).long_quotes
+        lexer.new.begun) }
 {
     let mut place = 0;
     while let Some(count) = take_some::<S>(alloc, lexer, progress, &piece[place..])? {
@@ -108,22 +114,23 @@ fn take_some_last<S: Syntax>(
     lexer: &mut Lexer<S::Language>,
     progress: &mut Progress<S>,
 ) -> Result<bool, ReadFault>
-    requires { CanEnd S.Language.spells S.Grammar.grammar S.rules S.Made lexer.old
+    requires { (context : S.Context) × CanEnd S.Language.spells S.Grammar.grammar (S.rules context)
+        (S.Made context) lexer.old
         progress.old.parser progress.old.syntax progress.old.last }
-    ensures all { IfOk result (λ done. IsTrue done → (bytes : List ℕ)
-        → IsEnding S.Language.spells S.Grammar.grammar S.rules S.Made lexer.old
+    ensures all { IfOk result (λ done. IsTrue done → (context : S.Context) (bytes : List ℕ)
+        → IsEnding S.Language.spells S.Grammar.grammar (S.rules context) (S.Made context) lexer.old
         progress.old.parser progress.old.syntax progress.old.last bytes
-        → AreAllTaken S.Language.spells S.Grammar.grammar S.rules S.Made
+        → AreAllTaken S.Language.spells S.Grammar.grammar (S.rules context) (S.Made context)
         progress.new.parser progress.new.syntax progress.new.last bytes) }
-    ensures some { IfOk result (λ done. done ≡ false → (bytes : List ℕ)
-        → IsEnding S.Language.spells S.Grammar.grammar S.rules S.Made lexer.old
+    ensures some { IfOk result (λ done. done ≡ false → (context : S.Context) (bytes : List ℕ)
+        → IsEnding S.Language.spells S.Grammar.grammar (S.rules context) (S.Made context) lexer.old
         progress.old.parser progress.old.syntax progress.old.last bytes
-        → IsEnding S.Language.spells S.Grammar.grammar S.rules S.Made lexer.new
+        → IsEnding S.Language.spells S.Grammar.grammar (S.rules context) (S.Made context) lexer.new
         progress.new.parser progress.new.syntax progress.new.last bytes) }
-    ensures refuses { IfErr result (λ fault. fault ≢ Memory → (bytes : List ℕ)
-        → IsEnding S.Language.spells S.Grammar.grammar S.rules S.Made lexer.old
+    ensures refuses { IfErr result (λ fault. fault ≢ Memory → (context : S.Context) (bytes : List ℕ)
+        → IsEnding S.Language.spells S.Grammar.grammar (S.rules context) (S.Made context) lexer.old
         progress.old.parser progress.old.syntax progress.old.last bytes
-        → HasDefect S.Language.spells S.Grammar.grammar S.rules bytes fault) }
+        → HasDefect S.Language.spells S.Grammar.grammar (S.rules context) bytes fault) }
     ensures nearer { IfOk result (λ done. done ≡ false →
         length lexer.new.begun.held < length lexer.old.begun.held) }
 {
@@ -148,17 +155,18 @@ pub fn take_last<S: Syntax>(
     lexer: &mut Lexer<S::Language>,
     progress: &mut Progress<S>,
 ) -> Result<(), ReadFault>
-    requires { HasRoom S.Language.spells S.Grammar.grammar S.rules S.Made lexer.old
+    requires { (context : S.Context) × HasRoom S.Language.spells S.Grammar.grammar (S.rules context)
+        (S.Made context) lexer.old
         progress.old.parser progress.old.syntax progress.old.last 0 }
-    ensures takes { OnOk result ((bytes : List ℕ)
-        → IsOpen S.Language.spells S.Grammar.grammar S.rules S.Made lexer.old
+    ensures takes { OnOk result ((context : S.Context) (bytes : List ℕ)
+        → IsOpen S.Language.spells S.Grammar.grammar (S.rules context) (S.Made context) lexer.old
         progress.old.parser progress.old.syntax progress.old.last bytes
-        → AreAllTaken S.Language.spells S.Grammar.grammar S.rules S.Made
+        → AreAllTaken S.Language.spells S.Grammar.grammar (S.rules context) (S.Made context)
         progress.new.parser progress.new.syntax progress.new.last bytes) }
-    ensures refuses { IfErr result (λ fault. fault ≢ Memory → (bytes : List ℕ)
-        → IsOpen S.Language.spells S.Grammar.grammar S.rules S.Made lexer.old
+    ensures refuses { IfErr result (λ fault. fault ≢ Memory → (context : S.Context) (bytes : List ℕ)
+        → IsOpen S.Language.spells S.Grammar.grammar (S.rules context) (S.Made context) lexer.old
         progress.old.parser progress.old.syntax progress.old.last bytes
-        → HasDefect S.Language.spells S.Grammar.grammar S.rules bytes fault) }
+        → HasDefect S.Language.spells S.Grammar.grammar (S.rules context) bytes fault) }
 {
     while !take_some_last::<S>(alloc, lexer, progress)? {}
     Ok(())

@@ -21,40 +21,43 @@ pub trait Syntax: Drop {
 
     type Grammar: Table;
 
+    /// What a document is read in, which its bytes don't say: as its base IRI.
+    ghost Context: { Type 0 };
+
     /// What the syntax tells of its tokens.
-    ghost rules: { Rules Self.Language.Token };
+    ghost rules: { Context → Rules Self.Language.Token };
 
     /// This was made by these steps.
-    ghost Made: { List (Step Self.Language.Token) → Self → Type 0 };
+    ghost Made: { Context → List (Step Self.Language.Token) → Self → Type 0 };
 
     /// This was made by the steps of a whole document, and the acts behind the
     /// last token.
-    ghost Whole: { List (Step Self.Language.Token) → List ℕ → Self → Type 0 };
+    ghost Whole: { Context → List (Step Self.Language.Token) → List ℕ → Self → Type 0 };
 
     /// The rule of documents.
     fn document() -> u16
-        ensures { result ≡ rules.document };
+        ensures { (context : Context) → result ≡ (rules context).document };
 
     /// The class of a token, by which the grammar tells it.
     fn class_of(token: &<Self::Language as TokenLanguage>::Token) -> u8
-        ensures { result ≡ rules.class token.now };
+        ensures { (context : Context) → result ≡ (rules context).class token.now };
 
     /// What an act says of the token behind it.
     fn mark_of(act: u8) -> Mark
-        ensures { result ≡ rules.mark act };
+        ensures { (context : Context) → result ≡ (rules context).mark act };
 
     /// Whether a token begins an item.
     fn begins_item(token: &<Self::Language as TokenLanguage>::Token) -> bool
-        ensures { result ≡ rules.begins (Some token.now) };
+        ensures { (context : Context) → result ≡ (rules context).begins (Some token.now) };
 
     /// Whether the end does, behind a whole item.
     fn end_begins_item() -> bool
-        ensures { result ≡ rules.begins None };
+        ensures { (context : Context) → result ≡ (rules context).begins None };
 
     /// The classes of tokens of which one may stand behind each whole item,
     /// where items begin at tokens.
     fn behind_items() -> &'static [u8]
-        ensures { result.now ≡ rules.behind };
+        ensures { (context : Context) → result.now ≡ (rules context).behind };
 
     /// Does the acts that stand in front of this token or of the end, in turn.
     ///
@@ -66,20 +69,28 @@ pub trait Syntax: Drop {
         acts: &[u8],
         next: Option<Placed<<Self::Language as TokenLanguage>::Token>>,
     ) -> Result<(), TokenFault>
-        requires { MayTake Self.Language.spells Self.Grammar.grammar rules Made
-            self.old acts.now next }
-        ensures takes { OnOk result ((steps : List (Step Self.Language.Token)) → Made steps self.old
-            → MayFollow Self.Grammar.grammar rules (events_of steps) acts.now (token_in next)
-            → GoesOn Made Whole steps acts.now next self.new) }
-        ensures free { OnOk result ((steps : List (Step Self.Language.Token)) → Made steps self.old
-            → MayFollow Self.Grammar.grammar rules (events_of steps) acts.now (token_in next)
-            → (fault : TokenFault) → rules.Bars steps acts.now next fault → ⊥) }
+        requires { (context : Context) × MayTake Self.Language.spells Self.Grammar.grammar
+            (rules context) (Made context) self.old acts.now next }
+        ensures takes { OnOk result ((context : Context) (steps : List (Step Self.Language.Token))
+            → Made context steps self.old
+            → MayFollow Self.Grammar.grammar
+            (rules context) (events_of steps) acts.now (token_in next)
+            → GoesOn (Made context) (Whole context) steps acts.now next self.new) }
+        ensures free { OnOk result ((context : Context) (steps : List (Step Self.Language.Token))
+            → Made context steps self.old
+            → MayFollow Self.Grammar.grammar
+            (rules context) (events_of steps) acts.now (token_in next)
+            → (fault : TokenFault) → (rules context).Bars steps acts.now next fault → ⊥) }
         ensures barred { IfErr result (λ fault. fault ≢ Memory
-            → (steps : List (Step Self.Language.Token)) → Made steps self.old
-            → MayFollow Self.Grammar.grammar rules (events_of steps) acts.now (token_in next)
-            → rules.Bars steps acts.now next fault) };
+            → (context : Context) (steps : List (Step Self.Language.Token))
+            → Made context steps self.old
+            → MayFollow Self.Grammar.grammar
+            (rules context) (events_of steps) acts.now (token_in next)
+            → (rules context).Bars steps acts.now next fault) };
 
-    ghost has_document: { has_rule Self.Grammar.grammar rules.document ≡ true };
+    ghost has_document: { (context : Context)
+        → has_rule Self.Grammar.grammar (rules context).document ≡ true };
 
-    ghost is_prompt: { IsPrompt Self.Language.automaton Self.Language.spells rules.long_quotes };
+    ghost is_prompt: { (context : Context)
+        → IsPrompt Self.Language.automaton Self.Language.spells (rules context).long_quotes };
 }

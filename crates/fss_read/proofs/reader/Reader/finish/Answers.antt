@@ -10,13 +10,13 @@ use Rattle.fss_read.proofs.reader.Reader.finish.Goals as goal
 pub returns-in_err-assembler-clause-refuses : goal.returns-in_err-assembler-clause-refuses
 returns-in_err-assembler-clause-refuses c = passed c.from_residual.result c.in_err-assembler.field-0.0 _ c.from_residual.ensures.1
     (λ other bytes h. first_defect_alike table_to_page
-    (c.in_err-assembler.ensures.refuses other bytes
+    (c.in_err-assembler.ensures.refuses other tt bytes
     (read_alike page_to_table (subst (λ (r : Reading _). HasRead r bytes) (sym c.self.view_is) h))))
 
 pub returns-clause-reads : goal.returns-clause-reads
 returns-clause-reads c = λ bytes h.
     let was = read_alike page_to_table (subst (λ (r : Reading _). HasRead r bytes) (sym c.self.view_is) h) in
-    let read = c.in_ok-assembler.ensures.read bytes was in
+    let read = c.in_ok-assembler.ensures.read tt bytes was in
     reads bytes c.in_ok-assembler.assembler c.finish-2.result read record {
       table = c.finish-2.ensures.prefixes;
       same = c.finish-2.ensures.same;

@@ -3,4 +3,4 @@ use Rattle.man_grammar.proofs.PageLaws.{table_to_page}
 use Rattle.man_read.proofs.reader.Reader.new.Goals as goal
 
 pub returns : goal.returns
-returns c = read_alike table_to_page c.in_ok-new.ensures
+returns c = read_alike table_to_page (c.in_ok-new.ensures tt c.in_ok-assembler.ensures)

@@ -8,8 +8,8 @@ use Rattle.owl_reader.proofs.progress.Progress.take_all.Given as goal
 -- what was made of the tokens so far, and those that are left
 abbrev pub invariant-loop-placed : goal.invariant-loop-placed
 invariant-loop-placed g l = record {
-  passes : PassesTo g.S.Grammar.Table.grammar g.S.Syntax.rules g.S.Syntax.Made l.fn.self.parser l.fn.self.syntax l.fn.self.last l.fn.tokens.items l.self.parser l.self.syntax l.self.last (into_iter_items l.placed-iterator);
-  stands : CanStand g.S.Grammar.Table.grammar g.S.Syntax.rules g.S.Syntax.Made l.self.parser l.self.syntax l.self.last;
+  passes : (context : g.S.Syntax.Context) → PassesTo g.S.Grammar.Table.grammar (g.S.Syntax.rules context) (g.S.Syntax.Made context) l.fn.self.parser l.fn.self.syntax l.fn.self.last l.fn.tokens.items l.self.parser l.self.syntax l.self.last (into_iter_items l.placed-iterator);
+  stands : (context : g.S.Syntax.Context) × CanStand g.S.Grammar.Table.grammar (g.S.Syntax.rules context) (g.S.Syntax.Made context) l.self.parser l.self.syntax l.self.last;
   len : into_iter_len l.placed-iterator ≡ length (into_iter_items l.placed-iterator);
   spelled : AreSpelled g.S.Language.TokenLanguage.spells (into_iter_items l.placed-iterator);
 }
