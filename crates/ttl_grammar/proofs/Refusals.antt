@@ -1,5 +1,5 @@
 -- Bytes with a defect are no document.
-use Rattle.std.proofs.Common.{◌≡◌, ◌≤◌, ℕ, Bool, true, false, List, [], ◌∷◌, ◌++◌, length, map, None, Result, Ok, Err, append_assoc, refl, sym, ap, ◌∙◌, subst, arith}
+use Rattle.std.proofs.Common.{◌≡◌, ◌≤◌, ℕ, Bool, true, false, List, [], ◌∷◌, ◌++◌, length, map, Option, None, Result, Ok, Err, append_assoc, refl, sym, ap, ◌∙◌, subst, arith}
 use Rattle.std.specs.Prelude.{nat_lt, if◌then◌else◌}
 use Rattle.grammar.specs.Derivations.{DerivesOf, Event}
 use Rattle.grammar.specs.Derivations.Event.{Do, Take}
@@ -93,18 +93,18 @@ events_in_parts (t ∷ before) s after more =
     ∙ sym (append_assoc (map Do t.acts) (Take t.token.token ∷ events_of (before ++ s ∷ [])) (events_of after ++ more))
 
 -- the fault of a front is that of the whole
-front_fails : (front : List (Step Token)) (more : List (Event Token)) (state : State) (f : TokenFault) → run (events_of front ++ more) start ≡ Ok state → run (events_of front) start ≡ Err f → ⊥
-front_fails front more state f h e =
-    let whole = run_steps front more (Ok start) ∙ ap (λ (r : Result State TokenFault). and_then r (λ s. run more s)) e in
+front_fails : (base : Option (List ℕ)) (front : List (Step Token)) (more : List (Event Token)) (state : State) (f : TokenFault) → run (events_of front ++ more) (start base) ≡ Ok state → run (events_of front) (start base) ≡ Err f → ⊥
+front_fails base front more state f h e =
+    let whole = run_steps front more (Ok (start base)) ∙ ap (λ (r : Result State TokenFault). and_then r (λ s. run more s)) e in
     cc
 
-module _ (steps : List (Step Token)) (acts : List ℕ) (state : State) (runs : run (events_of steps ++ map Do acts) start ≡ Ok state) where
-  none_barred : NoneBarred turtle_rules steps
+module _ (base : Option (List ℕ)) (steps : List (Step Token)) (acts : List ℕ) (state : State) (runs : run (events_of steps ++ map Do acts) (start base) ≡ Ok state) where
+  none_barred : NoneBarred (turtle_rules base) steps
   none_barred before after s f parts bars =
       let front = before ++ s ∷ [] in
       let cut = ap (λ (l : List (Step Token)). events_of l ++ map Do acts) parts ∙ events_in_parts before s after (map Do acts) in
-      front_fails front (events_of after ++ map Do acts) state f (sym (ap (λ (l : List (Event Token)). run l start) cut) ∙ runs)
-      (ap (λ (l : List (Event Token)). run l start) (events_with before s) ∙ bars)
+      front_fails base front (events_of after ++ map Do acts) state f (sym (ap (λ (l : List (Event Token)). run l (start base)) cut) ∙ runs)
+      (ap (λ (l : List (Event Token)). run l (start base)) (events_with before s) ∙ bars)
 
 -- ---- nor at the end
 
@@ -115,38 +115,38 @@ limited_by state f false few e = cc
 few_is : (m n : ℕ) → n ≤ m → nat_lt m n ≡ false
 few_is m n h = grind arith
 
-end_is_free : (events : List (Event Token)) (state : State) (f : TokenFault) → run events start ≡ Ok state → length (graph_of state.facts.triples) ≤ most_triples → and_then (run events start) limited ≡ Err f → ⊥
-end_is_free events state f runs few e =
+end_is_free : (base : Option (List ℕ)) (events : List (Event Token)) (state : State) (f : TokenFault) → run events (start base) ≡ Ok state → length (graph_of state.facts.triples) ≤ most_triples → and_then (run events (start base)) limited ≡ Err f → ⊥
+end_is_free base events state f runs few e =
     limited_by state f (nat_lt most_triples (length (graph_of state.facts.triples))) (few_is most_triples (length (graph_of state.facts.triples)) few)
     (sym (ap (λ (r : Result State TokenFault). and_then r limited) runs) ∙ e)
 
 -- ---- a document is read
 
 -- events of a document lead to a state
-abbrev LeadTo : List (Event Token) → State → Type 0
-LeadTo events state = run events start ≡ Ok state
+abbrev LeadTo : Option (List ℕ) → List (Event Token) → State → Type 0
+LeadTo base events state = run events (start base) ≡ Ok state
 
-read_is_read : (bytes : List ℕ) (p : List Prefix) (g : List Triple) (d : ReadsTurtle bytes p g) → IsRead tokens.Spells turtle turtle_rules (WholeByEvents LeadTo) bytes d.spells.state
-read_is_read bytes p g d =
+read_is_read : (base : Option (List ℕ)) (bytes : List ℕ) (p : List Prefix) (g : List Triple) (d : ReadsTurtle base bytes p g) → IsRead tokens.Spells turtle (turtle_rules base) (WholeByEvents (LeadTo base)) bytes d.spells.state
+read_is_read base bytes p g d =
     let it = stepped d.placed d.spells.events (taken d.spells.derives) in
-    let runs = sym (ap (λ (l : List (Event Token)). run l start) it.events_are) ∙ d.spells.states in
+    let runs = sym (ap (λ (l : List (Event Token)). run l (start base)) it.events_are) ∙ d.spells.states in
     let same = ap tokens_of (sym it.tokens_are) ∙ plain_tokens it.steps in
-    let derives = subst (λ (l : List Token). DerivesOf class_of turtle (Rule turtle_rules.document ∷ []) l d.spells.events) same (derives_alike page_to_table d.spells.derives) in
+    let derives = subst (λ (l : List Token). DerivesOf class_of turtle (Rule (turtle_rules base).document ∷ []) l d.spells.events) same (derives_alike page_to_table d.spells.derives) in
     record {
       steps = it.steps;
       few = d.few;
       splits = subst (λ (l : List (Placed Token)). Splits tokens.Spells bytes l None) (sym it.tokens_are) d.splits;
-      none_barred = none_barred it.steps it.acts d.spells.state runs;
+      none_barred = none_barred base it.steps it.acts d.spells.state runs;
       ends = record {
         acts = it.acts;
-        derives = subst (DerivesOf class_of turtle (Rule turtle_rules.document ∷ []) (plain it.steps)) it.events_are derives;
+        derives = subst (DerivesOf class_of turtle (Rule (turtle_rules base).document ∷ []) (plain it.steps)) it.events_are derives;
         made_by = runs;
-        free = λ f. end_is_free (events_of it.steps ++ map Do it.acts) d.spells.state f runs (subst (λ (ts : List Triple). length ts ≤ most_triples) d.spells.graph_is d.spells.few);
+        free = λ f. end_is_free base (events_of it.steps ++ map Do it.acts) d.spells.state f runs (subst (λ (ts : List Triple). length ts ≤ most_triples) d.spells.graph_is d.spells.few);
       };
     }
 
-pub defect_is_of_none : (bytes : List ℕ) (fault : ReadFault) (p : List Prefix) (g : List Triple) → IsFirstDefect bytes fault → ReadsTurtle bytes p g → ⊥
-defect_is_of_none bytes fault p g (within few defect) d =
-    read_has_no_defect is_predictive has_document splits_one_way bytes fault (read_is_read bytes p g d) (defect_alike page_to_table defect)
-defect_is_of_none bytes fault p g (beyond many defect) d = let few = d.few in omega (arith, many, few)
-defect_is_of_none bytes fault p g (too_long many is none) d = let few = d.few in omega (arith, many, few)
+pub defect_is_of_none : (base : Option (List ℕ)) (bytes : List ℕ) (fault : ReadFault) (p : List Prefix) (g : List Triple) → IsFirstDefect base bytes fault → ReadsTurtle base bytes p g → ⊥
+defect_is_of_none base bytes fault p g (within few defect) d =
+    read_has_no_defect is_predictive (has_document base) splits_one_way bytes fault (read_is_read base bytes p g d) (defect_alike page_to_table defect)
+defect_is_of_none base bytes fault p g (beyond many defect) d = let few = d.few in omega (arith, many, few)
+defect_is_of_none base bytes fault p g (too_long many is none) d = let few = d.few in omega (arith, many, few)

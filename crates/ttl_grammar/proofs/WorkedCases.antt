@@ -1,6 +1,6 @@
 -- Worked cases: what the events of some documents state, written out by hand.
 use lib.Utf8.{encode}
-use Rattle.std.specs.Prelude.{◌≡◌, ℕ, List, [], ◌∷◌, ◌++◌, codes, Option, Some, Result, Ok, Err, refl}
+use Rattle.std.specs.Prelude.{◌≡◌, ℕ, List, [], ◌∷◌, ◌++◌, codes, Option, None, Some, Result, Ok, Err, refl}
 use Rattle.std.specs.Fmt.{digits}
 use Rattle.blank_labels.specs.FreshLabels.{far_numbers, numbered_label}
 use Rattle.grammar.specs.Derivations.{Event}
@@ -58,17 +58,20 @@ at_base reference = Take (At (codes "base")) ∷ does act.DeclareBase ∷ Take (
 abbrev says : Events → Events → Events → Events
 says s v o = s ++ does act.Subject ∷ (v ++ does act.Predicate ∷ (o ++ does act.Object ∷ end))
 
--- the graph, or the first fault
+-- the graph against a base, or the first fault
+abbrev graph_against : Option (List ℕ) → Events → Result (List Triple) TokenFault
+graph_against base events = and_then (run events (start base)) (λ state. Ok (graph_of state.facts.triples))
+
 abbrev graph : Events → Result (List Triple) TokenFault
-graph events = and_then (run events start) (λ state. Ok (graph_of state.facts.triples))
+graph events = graph_against None events
 
 -- the triples in the order in which they are stated
 abbrev states : Events → Result (List Triple) TokenFault
-states events = and_then (run events start) (λ state. Ok (named_triples state.facts.triples))
+states events = and_then (run events (start None)) (λ state. Ok (named_triples state.facts.triples))
 
--- the IRI that is declared for a prefix
-abbrev declares : List ℕ → Events → Result (Option (List ℕ)) TokenFault
-declares p events = and_then (run events start) (λ state. Ok (namespace_in state.names.namespaces p))
+-- the IRI that is declared for a prefix, against a base
+abbrev declares : Option (List ℕ) → List ℕ → Events → Result (Option (List ℕ)) TokenFault
+declares base p events = and_then (run events (start base)) (λ state. Ok (namespace_in state.names.namespaces p))
 
 abbrev triple : Term → List ℕ → Term → Triple
 triple s p o = record { subject = s; predicate = p; object = o }
@@ -194,16 +197,41 @@ base_against_base : graph (at_base (codes "http://e/x/") ++ at_base (codes "y/")
 unfolding parts_of recomposed resolved resolved_without_scheme target without_dot_segments graph_of
 base_against_base = refl
 
+-- ---- references against a base that is given
+
+-- <z> a </a> .
+abbrev relative : Events
+relative = says (iri (codes "z")) (does act.RdfType ∷ Take (Symbol symbol.A) ∷ []) (iri (codes "/a"))
+
+against_given : graph_against (Some (codes "http://e/x/y")) relative ≡ Ok (triple (term.Iri (codes "http://e/x/z")) (rdf (codes "type")) a ∷ [])
+unfolding parts_of recomposed resolved resolved_without_scheme target without_dot_segments graph_of
+against_given = refl
+
+-- @base <y/> . goes against it,
+declared_against_given : graph_against (Some (codes "http://e/x/")) (at_base (codes "y/") ++ relative) ≡ Ok (triple (term.Iri (codes "http://e/x/y/z")) (rdf (codes "type")) a ∷ [])
+unfolding parts_of recomposed resolved resolved_without_scheme target without_dot_segments graph_of
+declared_against_given = refl
+
+-- and @base <http://e/x/> . takes its place.
+declared_for_given : graph_against (Some (codes "http://f/")) (at_base (codes "http://e/x/") ++ relative) ≡ Ok (triple (term.Iri (codes "http://e/x/z")) (rdf (codes "type")) a ∷ [])
+unfolding parts_of recomposed resolved resolved_without_scheme target without_dot_segments graph_of
+declared_for_given = refl
+
+-- @prefix p: <y/> .
+prefix_against_given : declares (Some (codes "http://e/x/")) (codes "p") (at_prefix (codes "p") (codes "y/")) ≡ Ok (Some (codes "http://e/x/y/"))
+unfolding parts_of recomposed resolved resolved_without_scheme target without_dot_segments
+prefix_against_given = refl
+
 -- ---- prefixes
 
 -- @prefix p: <http://e/> . @prefix p: <http://f/> .
 abbrev twice : Events
 twice = at_prefix (codes "p") (codes "http://e/") ++ at_prefix (codes "p") (codes "http://f/")
 
-last_one_declared : declares (codes "p") twice ≡ Ok (Some (codes "http://f/"))
+last_one_declared : declares None (codes "p") twice ≡ Ok (Some (codes "http://f/"))
 last_one_declared = refl
 
-unknown_prefix : declares (codes "p") (twice ++ name (codes "a")) ≡ Err (Defect UnknownPrefix)
+unknown_prefix : declares None (codes "p") (twice ++ name (codes "a")) ≡ Err (Defect UnknownPrefix)
 unknown_prefix = refl
 
 -- ---- literals

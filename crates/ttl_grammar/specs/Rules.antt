@@ -19,17 +19,17 @@ use Rattle.ttl_grammar.specs.declared.act.Act.TheVariants.{EndStatement}
 abbrev pub mark_of : ℕ → Mark
 mark_of a = if a == act_number EndStatement then Last else Within
 
--- behind these events, these acts in front of this token or of the end fail so
-abbrev pub Bars : List (Event Token) → List ℕ → Option Token → TokenFault → Type 0
-Bars events acts next fault = answer events acts next ≡ Err fault
+-- against a base, behind these events, these acts in front of this token or of the end fail so
+abbrev pub Bars : Option (List ℕ) → List (Event Token) → List ℕ → Option Token → TokenFault → Type 0
+Bars base events acts next fault = answer base events acts next ≡ Err fault
 
-abbrev pub turtle_rules : Rules Token
-turtle_rules = record {
+abbrev pub turtle_rules : Option (List ℕ) → Rules Token
+turtle_rules base = record {
   class = class_of;
   document = rule_number document;
   mark = mark_of;
   begins = λ next. false;
   behind = [];
-  Bars = BarsByEvents Bars;
+  Bars = BarsByEvents (Bars base);
   long_quotes = long_quotes;
 }

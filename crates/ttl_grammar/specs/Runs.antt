@@ -37,10 +37,10 @@ run (Do a ∷ es) state = and_then (done (act_numbered a) (coming es) state) (λ
 abbrev pub limited : State → Result State TokenFault
 limited state = if nat_lt most_triples (length (graph_of state.facts.triples)) then Err TooMany else Ok state
 
--- Behind these events, these acts in front of this token or of the end.
-abbrev pub answer : List (Event Token) → List ℕ → Option Token → Result State TokenFault
-answer events acts (Some x) = run (events ++ (map Do acts ++ Take x ∷ [])) start
-answer events acts None = and_then (run (events ++ map Do acts) start) limited
+-- Against a base, behind these events, these acts in front of this token or of the end.
+abbrev pub answer : Option (List ℕ) → List (Event Token) → List ℕ → Option Token → Result State TokenFault
+answer base events acts (Some x) = run (events ++ (map Do acts ++ Take x ∷ [])) (start base)
+answer base events acts None = and_then (run (events ++ map Do acts) (start base)) limited
 
 -- one act more
 abbrev pub done_next : Option Token → Result State TokenFault → ℕ → Result State TokenFault

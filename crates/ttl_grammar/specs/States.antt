@@ -30,7 +30,7 @@ pub record Namespace : Type 0 where
   pub prefix : List ℕ
   pub iri : List ℕ
 
--- The base IRI, if one was declared; the namespaces, the last one first; and the prefix that is being declared.
+-- The base IRI, if there is one; the namespaces, the last one first; and the prefix that is being declared.
 pub record Names : Type 0 where
   pub base : Option (List ℕ)
   pub namespaces : List Namespace
@@ -142,6 +142,9 @@ pub record Facts : Type 0 where
 abbrev pub no_nest : Nest
 no_nest = record { whole = None; subject = None; predicate = None }
 
+abbrev pub no_facts : Facts
+no_facts = record { term = None; nest = no_nest; outer = []; unlabelled = 0; triples = [] }
+
 abbrev pub first_iri : List ℕ
 first_iri = rdf (codes "first")
 
@@ -240,11 +243,13 @@ pub record State : Type 0 where
   pub form : List ℕ
   pub facts : Facts
 
-abbrev pub start : State
-start = record {
-  names = record { base = None; namespaces = []; declaring = [] };
+-- Before a document with this base IRI, if it has one: an IRI with a scheme, which holds until the document declares a base of
+-- its own (section 6.3; RFC 3986, section 5.1).
+abbrev pub start : Option (List ℕ) → State
+start base = record {
+  names = record { base = base; namespaces = []; declaring = [] };
   form = [];
-  facts = record { term = None; nest = no_nest; outer = []; unlabelled = 0; triples = [] };
+  facts = no_facts;
 }
 
 abbrev pub naming : State → Result Names TokenFault → Result State TokenFault

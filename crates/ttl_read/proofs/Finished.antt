@@ -1,5 +1,5 @@
 -- What was made of a whole document is what its bytes say.
-use Rattle.std.proofs.Common.{◌≡◌, ◌≤◌, ℕ, List, [], ◌∷◌, length, refl, sym, ap, subst}
+use Rattle.std.proofs.Common.{◌≡◌, ◌≤◌, ℕ, List, [], ◌∷◌, Option, length, refl, sym, ap, subst}
 use Rattle.owl_atom.specs.declared.prefixes.Prefix.{Prefix}
 use Rattle.grammar.proofs.AlikeLaws.{derives_alike}
 use Rattle.owl_reader.specs.Events.{WholeByEvents}
@@ -21,10 +21,10 @@ plain_tokens : (steps : List (Step Token)) → plain steps ≡ tokens_of (tokens
 plain_tokens [] = refl
 plain_tokens (s ∷ steps) = ap (λ (l : List Token). s.token.token ∷ l) (plain_tokens steps)
 
-pub reads : (bytes : List ℕ) (a : Assembler) → IsRead tokens.Spells turtle turtle_rules (WholeByEvents Whole) bytes a → (prefixes : List Prefix) → prefixes ≡ a.names.prefixes → ReadsTurtle bytes prefixes a.graph
-reads bytes a r prefixes e =
+pub reads : (base : Option (List ℕ)) (bytes : List ℕ) (a : Assembler) → IsRead tokens.Spells turtle (turtle_rules base) (WholeByEvents (Whole base)) bytes a → (prefixes : List Prefix) → prefixes ≡ a.names.prefixes → ReadsTurtle base bytes prefixes a.graph
+reads base bytes a r prefixes e =
     let it = r.ends.made_by in
-    let spells : SpellsTurtle prefixes a.graph (plain r.steps) = record {
+    let spells : SpellsTurtle base prefixes a.graph (plain r.steps) = record {
       events = _;
       state = it.state;
       derives = derives_alike table_to_page r.ends.derives;
@@ -37,8 +37,8 @@ reads bytes a r prefixes e =
       placed = tokens_in r.steps;
       few = r.few;
       splits = r.splits;
-      spells = subst (λ (l : List Token). SpellsTurtle prefixes a.graph l) (plain_tokens r.steps) spells;
+      spells = subst (λ (l : List Token). SpellsTurtle base prefixes a.graph l) (plain_tokens r.steps) spells;
     }
 
-pub plain_prefixes : (bytes : List ℕ) (a : Assembler) → IsRead tokens.Spells turtle turtle_rules (WholeByEvents Whole) bytes a → (prefixes : List Prefix) → prefixes ≡ a.names.prefixes → ArePlain prefixes
-plain_prefixes bytes a r prefixes e = subst ArePlain (sym e) r.ends.made_by.holds.names.plain
+pub plain_prefixes : (base : Option (List ℕ)) (bytes : List ℕ) (a : Assembler) → IsRead tokens.Spells turtle (turtle_rules base) (WholeByEvents (Whole base)) bytes a → (prefixes : List Prefix) → prefixes ≡ a.names.prefixes → ArePlain prefixes
+plain_prefixes base bytes a r prefixes e = subst ArePlain (sym e) r.ends.made_by.holds.names.plain

@@ -1,5 +1,5 @@
 -- How a reader of Turtle stands to the bytes that it was fed.
-use Rattle.std.specs.Prelude.{ℕ, List}
+use Rattle.std.specs.Prelude.{ℕ, List, Option}
 use Rattle.owl_reader.specs.Early as early
 use Rattle.owl_reader.specs.Events.{MadeByEvents}
 use Rattle.owl_reader.specs.Readings as readings
@@ -10,14 +10,14 @@ use Rattle.ttl_grammar.specs.Rules.{turtle_rules}
 use Rattle.ttl_read.specs.Showing.{Made}
 use Rattle.ttl_read.specs.declared.assembler.Assembler.{Assembler}
 
--- whatever follows these bytes, it is the first defect
-abbrev pub Refuses : List ℕ → ReadFault → Type 0
-Refuses bytes fault = readings.Refuses Spells turtle_page turtle_rules bytes fault
+-- against a base, if there is one, and whatever follows these bytes, it is the first defect
+abbrev pub Refuses : Option (List ℕ) → List ℕ → ReadFault → Type 0
+Refuses base bytes fault = readings.Refuses Spells turtle_page (turtle_rules base) bytes fault
 
--- the reader was fed these bytes
-abbrev pub HasRead : readings.Reading Assembler → List ℕ → Type 0
-HasRead r bytes = readings.HasRead Spells turtle_page turtle_rules (MadeByEvents Made) r bytes
+-- the reader was begun with this base, or with none, and was fed these bytes
+abbrev pub HasRead : Option (List ℕ) → readings.Reading Assembler → List ℕ → Type 0
+HasRead base r bytes = readings.HasRead Spells turtle_page (turtle_rules base) (MadeByEvents (Made base)) r bytes
 
 -- No defect before white space is left among them, where they hold neither `"""` nor `'''`.
-abbrev pub TellsEarly : readings.Reading Assembler → Type 0
-TellsEarly r = early.TellsEarly Spells turtle_page turtle_rules (MadeByEvents Made) r
+abbrev pub TellsEarly : Option (List ℕ) → readings.Reading Assembler → Type 0
+TellsEarly base r = early.TellsEarly Spells turtle_page (turtle_rules base) (MadeByEvents (Made base)) r

@@ -19,10 +19,10 @@ pub record Shows (assembler : Assembler) (state : State) : Type 0 where
   pub counted : length state.facts.triples ≤ assembler.stated
   pub few : assembler.stated ≤ most_nodes
 
--- These events lead to what is shown, whatever follows them.
-pub record Made (events : List (Event Token)) (assembler : Assembler) : Type 0 where
+-- Against a base these events lead to what is shown, whatever follows them.
+pub record Made (base : Option (List ℕ)) (events : List (Event Token)) (assembler : Assembler) : Type 0 where
   pub state : State
-  pub leads : (more : List (Event Token)) → run (events ++ more) start ≡ run more state
+  pub leads : (more : List (Event Token)) → run (events ++ more) (start base) ≡ run more state
   pub shows : Shows assembler state
 
 -- the document has ended: this is the graph that it says
@@ -32,9 +32,9 @@ pub record Holds (assembler : Assembler) (state : State) : Type 0 where
   pub few : length (graph_of state.facts.triples) ≤ most_triples
 
 -- These are all events, and what is held is what they state.
-pub record Whole (events : List (Event Token)) (assembler : Assembler) : Type 0 where
+pub record Whole (base : Option (List ℕ)) (events : List (Event Token)) (assembler : Assembler) : Type 0 where
   pub state : State
-  pub ends : run events start ≡ Ok state
+  pub ends : run events (start base) ≡ Ok state
   pub holds : Holds assembler state
 
 -- behind acts in front of a token, or in front of the end

@@ -21,6 +21,7 @@ use crate::refusals::of_graph;
 use crate::terms::{
     form_in, iri_term, label_term, plain_term, shorthand_term, tagged_term, type_term, typed_term,
 };
+use iri_references::Base;
 use owl_characters::Text;
 use owl_reader::{Reason, TokenFault};
 use rdf_graph::{Graph, MOST_TRIPLES};
@@ -47,13 +48,14 @@ pub struct Assembler {
 }
 
 impl Assembler {
-    /// Nothing was read. Takes no memory.
-    pub fn new(alloc: Global) -> Assembler
-        ensures { Made [] result }
+    /// Nothing was read, of a document with this base IRI, if it has one. Takes no
+    /// memory.
+    pub fn new(alloc: Global, base: Option<Base>) -> Assembler
+        ensures { Made base [] result }
     {
         Assembler {
             alloc,
-            names: Names::new(alloc),
+            names: Names::new(alloc, base),
             form: Text::new(alloc),
             facts: Facts::new(alloc),
             stated: 0,

@@ -2,7 +2,7 @@
 
 ghost use Rattle.std.specs.Prelude.{◌≡◌, ◌↔◌, ◌+◌, ◌-◌, ◌∷◌, ◌++◌, [], length, take, None, Ok, Some, IfErr, IfOk, IsTrue, OnOk};
 ghost use Rattle.ttl_grammar.specs.States as stated;
-ghost use Rattle.ttl_grammar.specs.States.{bracket_opened, cell_added, closed, collection_closed, collection_opened, element_added, iri_in, last_nest, no_nest, node_in, node_term, opened, start, with_object, with_predicate, with_subject, with_triple};
+ghost use Rattle.ttl_grammar.specs.States.{bracket_opened, cell_added, closed, collection_closed, collection_opened, element_added, iri_in, last_nest, no_facts, no_nest, node_in, node_term, opened, with_object, with_predicate, with_subject, with_triple};
 ghost use Rattle.owl_reader.specs.Computing.{Turns, TurnsTo};
 ghost use Rattle.ttl_read.specs.Keeping.{AreKept, AreSame, IsNear, IsNearNode};
 
@@ -58,7 +58,7 @@ impl Model for Facts {
 impl Facts {
     /// Nothing was read. Takes no memory.
     pub fn new(alloc: Global) -> Facts
-        ensures { result ≡ start.facts }
+        ensures { result ≡ no_facts }
     {
         Facts {
             alloc,

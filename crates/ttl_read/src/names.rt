@@ -41,12 +41,12 @@ impl Model for Names {
 }
 
 impl Names {
-    /// No base IRI and no prefixes. Takes no memory.
-    pub fn new(alloc: Global) -> Names
-        ensures { AreNames result start.names }
+    /// This base IRI, if there is one, and no prefixes. Takes no memory.
+    pub fn new(alloc: Global, base: Option<Base>) -> Names
+        ensures { AreNames result (start base).names }
     {
         Names {
-            base: None,
+            base,
             prefixes: Prefixes::empty(alloc),
             declaring: Text::new(alloc),
         }

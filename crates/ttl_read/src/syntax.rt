@@ -1,6 +1,6 @@
 //! Turtle as a syntax of readers.
 
-ghost use Rattle.std.specs.Prelude.{◌≡◌, ◌≢◌, List, IfErr, OnOk};
+ghost use Rattle.std.specs.Prelude.{◌≡◌, ◌≢◌, ℕ, List, Option, IfErr, OnOk};
 ghost use Rattle.owl_reader.specs.Events.{BarsByEvents, MadeByEvents, WholeByEvents};
 ghost use Rattle.owl_reader.specs.Following.{GoesOn, MayFollow, MayTake};
 ghost use Rattle.owl_reader.specs.Steps.{Step, events_of, token_in};
@@ -26,11 +26,13 @@ impl Syntax for Assembler {
 
     type Grammar = ttl_grammar::Turtle;
 
+    ghost Context = { Option (List ℕ) };
+
     ghost rules = { turtle_rules };
 
-    ghost Made = { MadeByEvents Made };
+    ghost Made = { λ base. MadeByEvents (Made base) };
 
-    ghost Whole = { WholeByEvents Whole };
+    ghost Whole = { λ base. WholeByEvents (Whole base) };
 
     fn document() -> u16 {
         0
@@ -60,24 +62,28 @@ impl Syntax for Assembler {
     }
 
     fn take(&mut self, acts: &[u8], next: Option<Placed<Token>>) -> Result<(), TokenFault>
-        requires { MayTake Spells turtle turtle_rules (MadeByEvents Made) self.old acts.now next }
-        ensures takes { OnOk result ((steps : List (Step lexeme.Token))
-            → MadeByEvents Made steps self.old
-            → MayFollow turtle turtle_rules (events_of steps) acts.now (token_in next)
-            → GoesOn (MadeByEvents Made) (WholeByEvents Whole) steps acts.now next self.new) }
-        ensures free { OnOk result ((steps : List (Step lexeme.Token))
-            → MadeByEvents Made steps self.old
-            → MayFollow turtle turtle_rules (events_of steps) acts.now (token_in next)
-            → (fault : token.TokenFault) → BarsByEvents Bars steps acts.now next fault → ⊥) }
+        requires { (base : Option (List ℕ)) × MayTake Spells turtle (turtle_rules base)
+            (MadeByEvents (Made base)) self.old acts.now next }
+        ensures takes { OnOk result ((base : Option (List ℕ)) (steps : List (Step lexeme.Token))
+            → MadeByEvents (Made base) steps self.old
+            → MayFollow turtle (turtle_rules base) (events_of steps) acts.now (token_in next)
+            → GoesOn (MadeByEvents (Made base)) (WholeByEvents (Whole base))
+            steps acts.now next self.new) }
+        ensures free { OnOk result ((base : Option (List ℕ)) (steps : List (Step lexeme.Token))
+            → MadeByEvents (Made base) steps self.old
+            → MayFollow turtle (turtle_rules base) (events_of steps) acts.now (token_in next)
+            → (fault : token.TokenFault)
+            → BarsByEvents (Bars base) steps acts.now next fault → ⊥) }
         ensures barred { IfErr result (λ fault. fault ≢ token.TokenFault.Memory
-            → (steps : List (Step lexeme.Token)) → MadeByEvents Made steps self.old
-            → MayFollow turtle turtle_rules (events_of steps) acts.now (token_in next)
-            → BarsByEvents Bars steps acts.now next fault) }
+            → (base : Option (List ℕ)) (steps : List (Step lexeme.Token))
+            → MadeByEvents (Made base) steps self.old
+            → MayFollow turtle (turtle_rules base) (events_of steps) acts.now (token_in next)
+            → BarsByEvents (Bars base) steps acts.now next fault) }
     {
         self.take_next(acts, next.map(|placed| placed.token))
     }
 
     ghost has_document = { has_document };
 
-    ghost is_prompt = { turtle_is_prompt };
+    ghost is_prompt = { λ _. turtle_is_prompt };
 }

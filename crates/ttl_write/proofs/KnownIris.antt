@@ -1,5 +1,5 @@
 -- An IRI is a reference that stands for itself.
-use Rattle.std.proofs.Common.{◌≡◌, ℕ, ◌+◌, Bool, true, cond, not, None, Some, Ok, Err, List, [], ◌∷◌, ◌++◌, length, take, refl, sym, ap, ◌∙◌, subst, one-add}
+use Rattle.std.proofs.Common.{◌≡◌, ℕ, ◌+◌, Bool, true, cond, not, Option, None, Some, Ok, Err, List, [], ◌∷◌, ◌++◌, length, take, refl, sym, ap, ◌∙◌, subst, one-add}
 use Rattle.std.specs.Prelude.{◌==◌, if◌then◌else◌}
 use Rattle.std.specs.Char.{is_ascii_alphabetic}
 use Rattle.std.specs.List.{list_all, list_any, position_or_len}
@@ -10,6 +10,7 @@ use Rattle.owl_characters.proofs.AllAreLaws.{all_are}
 use Rattle.owl_characters.specs.Iri.{AllAre, IsIri, IsScheme, is_iri_character, is_scheme_character}
 use Rattle.owl_characters.proofs.IriLaws.{iri_characters, scheme_characters}
 use Rattle.iri_references.specs.References.{before, colon, has_scheme, is_scheme}
+use Rattle.iri_references.specs.Resolution.{resolved, resolved_without_scheme}
 use Rattle.owl_reader.specs.declared.fault.Reason.TheVariants.{BadIri}
 use Rattle.owl_reader.specs.declared.fault.TokenFault.TheVariants.{Defect}
 use Rattle.owl_tokens.specs.CharacterLaws.{differs}
@@ -40,8 +41,13 @@ scheme_stands scheme rest h =
 iri_has_scheme : (iri : List ℕ) → IsIri iri → has_scheme iri ≡ true
 iri_has_scheme iri h = ap has_scheme h.parts ∙ scheme_stands h.scheme h.rest h.named
 
--- without a base
-pub iri_is_known : (iri : List ℕ) → IsIri iri → known_iri None iri ≡ Ok iri
-iri_is_known iri h =
-    ap (λ (b : Bool). if b then against None iri else Err (Defect BadIri)) ((all_are is_iri_character iri).1 (iri_characters iri h))
-    ∙ ap (λ (b : Bool). alone (if b then Some iri else None)) (iri_has_scheme iri h)
+-- with and without a base
+against_any : (base : Option (List ℕ)) (iri : List ℕ) → IsIri iri → against base iri ≡ Ok iri
+unfolding resolved
+against_any None iri h = ap (λ (b : Bool). alone (if b then Some iri else None)) (iri_has_scheme iri h)
+against_any (Some base) iri h = ap (λ (b : Bool). Ok (if b then iri else resolved_without_scheme base iri)) (iri_has_scheme iri h)
+
+pub iri_is_known : (base : Option (List ℕ)) (iri : List ℕ) → IsIri iri → known_iri base iri ≡ Ok iri
+iri_is_known base iri h =
+    ap (λ (b : Bool). if b then against base iri else Err (Defect BadIri)) ((all_are is_iri_character iri).1 (iri_characters iri h))
+    ∙ against_any base iri h

@@ -1,5 +1,5 @@
 -- What is written of prefixes and triples is read as them.
-use Rattle.std.proofs.Common.{◌≡◌, ℕ, None, Some, List, [], ◌∷◌, ◌++◌, codes, refl, sym, ap, ◌∙◌, subst, Result}
+use Rattle.std.proofs.Common.{◌≡◌, ℕ, Option, None, Some, List, [], ◌∷◌, ◌++◌, codes, refl, sym, ap, ◌∙◌, subst, Result}
 use Rattle.std.specs.Prelude.{flat_map}
 use Rattle.std.specs.List.{AllByRecursion}
 use Rattle.std.proofs.lemmas.List.{append_assoc, append-nil}
@@ -75,9 +75,9 @@ module _ (wanted : State → Type 0) where
 
   -- prefixes
 
-  module _ (form : List ℕ) (nest : Nest) (triples : List NodeTriple) where
+  module _ (base : Option (List ℕ)) (form : List ℕ) (nest : Nest) (triples : List NodeTriple) where
     abbrev at_names : List Namespace → List ℕ → State
-    at_names namespaces declaring = state_at (names_at namespaces declaring) form None nest triples
+    at_names namespaces declaring = state_at (names_at base namespaces declaring) form None nest triples
 
     prefix_parts : (prefix : Prefix) (rest : List ℕ) → prefix_line prefix ++ rest ≡ codes "@prefix" ++ (32 ∷ ((prefix.name ++ codes ":") ++ (32 ∷ (full_iri prefix.iri ++ (32 ∷ 46 ∷ 10 ∷ rest)))))
     prefix_parts prefix rest =
@@ -96,7 +96,7 @@ module _ (wanted : State → Type 0) where
         let iri_spelled = spells_iri prefix.iri iri in
         let iri_cs = full_iri prefix.iri ++ (32 ∷ 46 ∷ 10 ∷ rest) in
         let iri_read = goes_token wanted (Iri (Some prefix.iri)) (full_iri prefix.iri) (32 ∷ 46 ∷ 10 ∷ rest) 0 (Act 20 ∷ Need 16 ∷ Rule 0 ∷ []) after ended.0 iri_spelled (longest_before_stop (Iri (Some prefix.iri)) (full_iri prefix.iri) 32 (46 ∷ 10 ∷ rest) iri_spelled refl) (iri_class prefix.iri) ended.1 in
-        let declared = goes_act wanted 18 (Need 0 ∷ Act 20 ∷ Need 16 ∷ Rule 0 ∷ []) between after (Some (Iri (Some prefix.iri))) iri_cs (ap (λ (r : Result (List ℕ) TokenFault). naming between (with_namespace between.names r)) (iri_is_known prefix.iri iri)) iri_read in
+        let declared = goes_act wanted 18 (Need 0 ∷ Act 20 ∷ Need 16 ∷ Rule 0 ∷ []) between after (Some (Iri (Some prefix.iri))) iri_cs (ap (λ (r : Result (List ℕ) TokenFault). naming between (with_namespace between.names r)) (iri_is_known base prefix.iri iri)) iri_read in
         let name_spelled = spells_namespace prefix.name named in
         let name_ss = Act 18 ∷ Need 0 ∷ Act 20 ∷ Need 16 ∷ Rule 0 ∷ [] in
         let spaced = starts_space wanted 32 iri_cs name_ss between refl (Some (Iri (Some prefix.iri)), declared) in
@@ -119,7 +119,7 @@ module _ (wanted : State → Type 0) where
 
   -- triples
 
-  module _ (written : List Prefix) (namespaces : List Namespace) (table : IsTable written) (agree : AreNamespaces written namespaces) (declaring : List ℕ) where
+  module _ (base : Option (List ℕ)) (written : List Prefix) (namespaces : List Namespace) (table : IsTable written) (agree : AreNamespaces written namespaces) (declaring : List ℕ) where
     triple_parts : (t : Triple) (rest : List ℕ) → triple_line written t ++ rest ≡ term_text written t.subject ++ 32 ∷ (iri_text written t.predicate ++ 32 ∷ (term_text written t.object ++ 32 ∷ 46 ∷ 10 ∷ rest))
     triple_parts t rest =
         append_assoc (term_text written t.subject) (32 ∷ (iri_text written t.predicate ++ 32 ∷ (term_text written t.object ++ codes " .\n"))) rest
@@ -128,7 +128,7 @@ module _ (wanted : State → Type 0) where
         ∙ ap (λ (cs : List ℕ). iri_text written t.predicate ++ 32 ∷ cs) (append_assoc (term_text written t.object) (codes " .\n") rest))
 
     abbrev between : List ℕ → Nest → List NodeTriple → State
-    between form nest triples = state_at (names_at namespaces declaring) form None nest triples
+    between form nest triples = state_at (names_at base namespaces declaring) form None nest triples
 
     starts_triple : (t : Triple) (form : List ℕ) (nest : Nest) (triples : List NodeTriple) (rest : List ℕ) → IsSubject t.subject → IsFormedTriple t
         → ((form : List ℕ) (nest : Nest) → Starts wanted (Rule 0 ∷ []) (between form nest (triples ++ stated_of t)) rest) → Starts wanted (Rule 0 ∷ []) (between form nest triples) (triple_line written t ++ rest)
@@ -142,21 +142,21 @@ module _ (wanted : State → Type 0) where
         let dot = starts_act wanted 20 (Need 16 ∷ Rule 0 ∷ []) after after end_cs (λ next. refl) (starts_dot rest (Rule 0 ∷ []) after (k new on_predicate)) in
         let verbs = starts_rule wanted 7 [] tail after end_cs verbs_end dot in
         let objects = starts_rule wanted 11 [] (Rule 7 ∷ tail) after end_cs objects_end verbs in
-        starts_act wanted 5 (Rule 11 ∷ Rule 7 ∷ tail) (read written namespaces table agree wanted declaring on_predicate triples new (Some (object_of t.object))) after end_cs (λ next. refl) objects in
+        starts_act wanted 5 (Rule 11 ∷ Rule 7 ∷ tail) (read base written namespaces table agree wanted declaring on_predicate triples new (Some (object_of t.object))) after end_cs (λ next. refl) objects in
         let object_cs = term_text written t.object ++ 32 ∷ end_cs in
         let object_ss = Act 5 ∷ Rule 11 ∷ Rule 7 ∷ tail in
-        let object_read = starts_object written namespaces table agree wanted declaring on_predicate triples t.object end_cs form object_ss h.object ended in
+        let object_read = starts_object base written namespaces table agree wanted declaring on_predicate triples t.object end_cs form object_ss h.object ended in
         let objects = starts_rule wanted 10 (Rule 12 ∷ Act 5 ∷ Rule 11 ∷ []) (Rule 7 ∷ tail) (between form on_predicate triples) object_cs objects_row object_read in
         let predicate_ss = Act 4 ∷ Rule 10 ∷ Rule 7 ∷ tail in
         let predicate_term = Some (object.Node (node.Iri t.predicate)) in
-        let predicate_known = starts_act wanted 4 (Rule 10 ∷ Rule 7 ∷ tail) (state_at (names_at namespaces declaring) form predicate_term on_subject triples) (between form on_predicate triples) object_cs (λ next. refl) objects in
+        let predicate_known = starts_act wanted 4 (Rule 10 ∷ Rule 7 ∷ tail) (state_at (names_at base namespaces declaring) form predicate_term on_subject triples) (between form on_predicate triples) object_cs (λ next. refl) objects in
         let predicate_cs = iri_text written t.predicate ++ 32 ∷ object_cs in
-        let predicate_read = starts_iri written namespaces table agree wanted declaring on_subject triples t.predicate object_cs form predicate_ss h.predicate predicate_known in
+        let predicate_read = starts_iri base written namespaces table agree wanted declaring on_subject triples t.predicate object_cs form predicate_ss h.predicate predicate_known in
         let verb = starts_rule wanted 9 (Rule 19 ∷ []) predicate_ss (between form on_subject triples) predicate_cs verb_iri predicate_read in
         let predicates = starts_rule wanted 6 (Rule 9 ∷ Act 4 ∷ Rule 10 ∷ Rule 7 ∷ []) tail (between form on_subject triples) predicate_cs predicates_row verb in
-        let subject_known = starts_act wanted 3 (Rule 6 ∷ tail) (state_at (names_at namespaces declaring) form (Some (object_of t.subject)) nest triples) (between form on_subject triples) predicate_cs (λ next. refl) predicates in
+        let subject_known = starts_act wanted 3 (Rule 6 ∷ tail) (state_at (names_at base namespaces declaring) form (Some (object_of t.subject)) nest triples) (between form on_subject triples) predicate_cs (λ next. refl) predicates in
         let subject_cs = term_text written t.subject ++ 32 ∷ predicate_cs in
-        let subject_read = starts_subject written namespaces table agree wanted declaring nest triples t.subject predicate_cs form (Act 3 ∷ Rule 6 ∷ tail) is_subject h.subject subject_known in
+        let subject_read = starts_subject base written namespaces table agree wanted declaring nest triples t.subject predicate_cs form (Act 3 ∷ Rule 6 ∷ tail) is_subject h.subject subject_known in
         let whole = starts_rule wanted 2 (Rule 5 ∷ Act 3 ∷ Rule 6 ∷ []) tail (between form nest triples) subject_cs triples_subject subject_read in
         let statement = starts_rule wanted 1 (Rule 2 ∷ Act 20 ∷ Need 16 ∷ []) (Rule 0 ∷ []) (between form nest triples) subject_cs statement_triples whole in
         subst (λ (cs : List ℕ). Starts wanted (Rule 0 ∷ []) (between form nest triples) cs) (sym (triple_parts t rest)) (starts_statement (between form nest triples) subject_cs statement)

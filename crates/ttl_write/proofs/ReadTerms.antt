@@ -47,8 +47,8 @@ abbrev pub state_at : Names → List ℕ → Option Object → Nest → List Nod
 state_at names form term nest triples =
     record { names = names; form = form; facts = record { term = term; nest = nest; outer = []; unlabelled = 0; triples = triples } }
 
-abbrev pub names_at : List Namespace → List ℕ → Names
-names_at namespaces declaring = record { base = None; namespaces = namespaces; declaring = declaring }
+abbrev pub names_at : Option (List ℕ) → List Namespace → List ℕ → Names
+names_at base namespaces declaring = record { base = base; namespaces = namespaces; declaring = declaring }
 
 abbrev pub object_of : Term → Object
 object_of (term.Iri iri) = object.Node (node.Iri iri)
@@ -92,11 +92,11 @@ tag_is tag = by_tests (text_eq tag (codes "prefix")) (text_eq tag (codes "base")
     by_tests false true = refl
     by_tests false false = refl
 
-module _ (written : List Prefix) (namespaces : List Namespace) (table : IsTable written) (agree : AreNamespaces written namespaces) where
-  full_token : (declaring iri : List ℕ) → IsIri iri → IsIriToken (names_at namespaces declaring) iri (full_iri iri)
-  full_token declaring iri h = record { token = Iri (Some iri); spells = spells_iri iri h; stands = iri_is_known iri h; class = inl (iri_class (Some iri)) }
+module _ (base : Option (List ℕ)) (written : List Prefix) (namespaces : List Namespace) (table : IsTable written) (agree : AreNamespaces written namespaces) where
+  full_token : (declaring iri : List ℕ) → IsIri iri → IsIriToken (names_at base namespaces declaring) iri (full_iri iri)
+  full_token declaring iri h = record { token = Iri (Some iri); spells = spells_iri iri h; stands = iri_is_known base iri h; class = inl (iri_class (Some iri)) }
 
-  named_token : (declaring iri : List ℕ) → IsIri iri → (best : Option Prefix) → IsAnswer iri written best → IsIriToken (names_at namespaces declaring) iri (shortened_by best iri)
+  named_token : (declaring iri : List ℕ) → IsIri iri → (best : Option Prefix) → IsAnswer iri written best → IsIriToken (names_at base namespaces declaring) iri (shortened_by best iri)
   named_token declaring iri h None answer = full_token declaring iri h
   named_token declaring iri h (Some prefix) answer =
       let cut = cuts_fact iri prefix answer.cut in
@@ -109,7 +109,7 @@ module _ (written : List Prefix) (namespaces : List Namespace) (table : IsTable 
         class = inr (name_class prefix.name local cut.plain);
       }
 
-  iri_token : (declaring iri : List ℕ) → IsIri iri → IsIriToken (names_at namespaces declaring) iri (iri_text written iri)
+  iri_token : (declaring iri : List ℕ) → IsIri iri → IsIriToken (names_at base namespaces declaring) iri (iri_text written iri)
   iri_token declaring iri h = named_token declaring iri h (best_prefix iri written) (best_answer iri written table.ascending)
 
   module _ (wanted : State → Type 0) where
@@ -125,12 +125,12 @@ module _ (written : List Prefix) (namespaces : List Namespace) (table : IsTable 
 
     module _ (declaring : List ℕ) (nest : Nest) (triples : List NodeTriple) where
       abbrev pub read : List ℕ → Option Object → State
-      read form term = state_at (names_at namespaces declaring) form term nest triples
+      read form term = state_at (names_at base namespaces declaring) form term nest triples
 
       pub starts_iri : (iri rest form : List ℕ) (ss : List Sign) → IsIri iri → Starts wanted ss (read form (Some (object.Node (node.Iri iri)))) rest → Starts wanted (Rule 19 ∷ ss) (read form None) (iri_text written iri ++ 32 ∷ rest)
       starts_iri iri rest form ss h k =
           let one = iri_token declaring iri h in
-          let named = goes_name (names_at namespaces declaring) iri (iri_text written iri) rest ss (read form (Some (object.Node (node.Iri iri)))) one k in
+          let named = goes_name (names_at base namespaces declaring) iri (iri_text written iri) rest ss (read form (Some (object.Node (node.Iri iri)))) one k in
           let acted = goes_act wanted 0 (Rule 20 ∷ ss) (read form None) (read form (Some (object.Node (node.Iri iri)))) (Some one.token) (iri_text written iri ++ 32 ∷ rest) (ap (λ (r : Result (List ℕ) TokenFault). reading (read form None) (iri_term r)) one.stands) named in
           starts_rule wanted 19 (Act 0 ∷ Rule 20 ∷ []) ss (read form None) (iri_text written iri ++ 32 ∷ rest) iri_row (Some one.token, acted)
 
@@ -178,9 +178,9 @@ module _ (written : List Prefix) (namespaces : List Namespace) (table : IsTable 
           let literal = of_datatype form datatype in
           let after = read form (Some (object.Literal literal)) in
           let cs = iri_text written datatype ++ 32 ∷ rest in
-          let typed : typed_term form (iri_of (names_at namespaces declaring) (Some one.token)) ≡ Ok (object.Literal literal) =
+          let typed : typed_term form (iri_of (names_at base namespaces declaring) (Some one.token)) ≡ Ok (object.Literal literal) =
           ap (typed_term form) one.stands ∙ ap literal_term (denoted_is_found form datatype literal (inr (fits.0, fits.1, refl))) in
-          let named = goes_name (names_at namespaces declaring) datatype (iri_text written datatype) rest ss after one k in
+          let named = goes_name (names_at base namespaces declaring) datatype (iri_text written datatype) rest ss after one k in
           let acted = goes_act wanted 15 (Rule 20 ∷ ss) (read form None) after (Some one.token) cs (ap (reading (read form None)) typed) named in
           let carets = starts_token wanted (Symbol Carets) (codes "^^") cs 23 (Act 15 ∷ Rule 20 ∷ ss) (read form None) spells_carets (carets_longest cs) carets_class (Some one.token, acted) in
           starts_rule wanted 16 (Need 23 ∷ Act 15 ∷ Rule 20 ∷ []) ss (read form None) (codes "^^" ++ cs) suffix_typed carets

@@ -130,19 +130,19 @@ record IsRead (written : List Prefix) (graph : List Triple) (state : State) : Ty
   namespaces : state.names.namespaces ≡ declared_behind written []
   triples : state.facts.triples ≡ flat_map stated_of graph
 
--- a graph's text that is not too long is read as the same graph
-pub graph_reads_back : (prefixes : List Prefix) (graph : List Triple) → IsTable prefixes → HaveIris (written_prefixes prefixes) → IsGraph graph → AreFormed graph
+-- a graph's text that is not too long is read as the same graph, against any base
+pub graph_reads_back : (base : Option (List ℕ)) (prefixes : List Prefix) (graph : List Triple) → IsTable prefixes → HaveIris (written_prefixes prefixes) → IsGraph graph → AreFormed graph
     → all_scalars (turtle_text prefixes graph) ≡ true → length (encode_utf8_all (turtle_text prefixes graph)) ≤ most_bytes
-    → ReadsTurtle (encode_utf8_all (turtle_text prefixes graph)) (written_prefixes prefixes) graph
-graph_reads_back prefixes graph table iris is formed scalars few =
+    → ReadsTurtle base (encode_utf8_all (turtle_text prefixes graph)) (written_prefixes prefixes) graph
+graph_reads_back base prefixes graph table iris is formed scalars few =
     let written = written_prefixes prefixes in
     let is_table = written_table prefixes table in
     let agree = declared_agree written is_table.ascending in
     let wanted = IsRead written graph in
     let lines = flat_map (triple_line written) graph in
     let triples = λ (declaring : List ℕ).
-    starts_triples wanted written (declared_behind written []) is_table agree declaring graph [] no_nest [] is.subjects formed (λ form nest. record { namespaces = refl; triples = refl }) in
-    let cut = (starts_prefixes wanted [] no_nest [] written [] [] lines is_table.names iris triples).1 0 in
+    starts_triples wanted base written (declared_behind written []) is_table agree declaring graph [] no_nest [] is.subjects formed (λ form nest. record { namespaces = refl; triples = refl }) in
+    let cut = (starts_prefixes wanted base [] no_nest [] written [] [] lines is_table.names iris triples).1 0 in
     let reads = cut.2 in
     record {
       placed = cut.0;

@@ -1,6 +1,6 @@
 //! The texts of graphs.
 
-ghost use Rattle.std.specs.Prelude.{◌≡◌, ◌<◌, ◌≤◌, length, IfOk, IsErrOf};
+ghost use Rattle.std.specs.Prelude.{◌≡◌, ◌<◌, ◌≤◌, ℕ, List, Option, length, IfOk, IsErrOf};
 ghost use Rattle.std.specs.Str.{encode_utf8_all};
 ghost use Rattle.owl_characters.specs.Limit.{most_bytes};
 ghost use Rattle.owl_writing.specs.Tables.{written_prefixes};
@@ -20,7 +20,8 @@ use std::alloc::Global;
 /// then a line for each triple, in the order of the graph.
 ///
 /// `owl`, `rdf`, `rdfs` and `xsd` stand among the prefixes for their own IRIs, and each IRI is abbreviated where one of the
-/// prefixes leaves a plain local part. The text reads back to the same graph, under the prefixes that stand in it.
+/// prefixes leaves a plain local part. The text reads back to the same graph, under the prefixes that stand in it, whatever base
+/// IRI it is read against.
 ///
 /// `TooLong` exactly where it has more than 2^27 bytes, and `Memory` where memory runs out.
 pub fn write(alloc: Global, graph: &Graph, prefixes: &Prefixes) -> Result<Text, WriteFault>
@@ -28,8 +29,8 @@ pub fn write(alloc: Global, graph: &Graph, prefixes: &Prefixes) -> Result<Text, 
     ensures within { IfOk result (λ text. length (encode_utf8_all text) ≤ most_bytes) }
     ensures too_long { IsErrOf result WriteFault.TooLong
         → most_bytes < length (encode_utf8_all (turtle_text prefixes.now graph.now)) }
-    ensures reads_back { IfOk result (λ text.
-        ReadsTurtle (encode_utf8_all text) (written_prefixes prefixes.now) graph.now) }
+    ensures reads_back { IfOk result (λ text. (base : Option (List ℕ)) →
+        ReadsTurtle base (encode_utf8_all text) (written_prefixes prefixes.now) graph.now) }
 {
     // What is known of every graph and of every table.
     graph.len();

@@ -1,4 +1,4 @@
-use Rattle.std.proofs.Common.{◌≡◌, ◌≤◌, ◌∙◌, Err, List, ℕ, ◌++◌, ap, length, subst, sym}
+use Rattle.std.proofs.Common.{◌≡◌, ◌≤◌, ◌∙◌, Err, List, ℕ, Option, ◌++◌, ap, length, subst, sym}
 use Rattle.std.specs.Str.{all_scalars, encode_utf8_all}
 use Rattle.owl_characters.specs.Limit.{most_bytes}
 use Rattle.owl_atom.specs.declared.prefixes.Prefix.{Prefix}
@@ -31,5 +31,5 @@ returns-clause-reads_back c =
     let iris = subst HaveIris c.in_ok-prefixes.ensures c.in_ok-add_graph.ensures.iris in
     let scalars = ap all_scalars (sym text) ∙ c.as_str.ensures.scalars in
     let few = subst (λ (t : List ℕ). length (encode_utf8_all t) ≤ most_bytes) text c.into_text-text.ensures.within in
-    subst (λ (t : List ℕ). ReadsTurtle (encode_utf8_all t) (written_prefixes prefixes) graph) (sym text)
-    (graph_reads_back prefixes graph c.len-2.ensures.table iris c.len.ensures.graph c.in_ok-add_graph.ensures.formed scalars few)
+    subst (λ (t : List ℕ). (base : Option (List ℕ)) → ReadsTurtle base (encode_utf8_all t) (written_prefixes prefixes) graph) (sym text)
+    (λ base. graph_reads_back base prefixes graph c.len-2.ensures.table iris c.len.ensures.graph c.in_ok-add_graph.ensures.formed scalars few)

@@ -8,16 +8,16 @@ use Rattle.ttl_read.specs.Reading.{HasRead}
 use Rattle.ttl_read.proofs.reader.Reader.feed.Goals as goal
 
 pub returns-clause-reads : goal.returns-clause-reads
-returns-clause-reads c = λ bytes h.
+returns-clause-reads c = λ base bytes h.
     read_alike table_to_page
-    (fed c.feed.result _ _ _ bytes c.feed.ensures.reads c.feed.ensures.refuses c.feed.ensures.keeps
-    (read_alike page_to_table (subst (λ (r : Reading _). HasRead r bytes) (sym c.self.view_is) h)))
+    (fed _ _ c.feed.result _ _ _ base bytes c.feed.ensures.reads c.feed.ensures.refuses c.feed.ensures.keeps
+    (read_alike page_to_table (subst (λ (r : Reading _). HasRead base r bytes) (sym c.self.view_is) h)))
 
 pub returns-clause-refuses : goal.returns-clause-refuses
 returns-clause-refuses c = IfErr-weaker c.feed.result _ _
-    (λ e refuses other bytes h. refuses_alike _ table_to_page
-    (refuses other bytes (read_alike page_to_table (subst (λ (r : Reading _). HasRead r bytes) (sym c.self.view_is) h))))
+    (λ e refuses other base bytes h. refuses_alike _ table_to_page
+    (refuses other base bytes (read_alike page_to_table (subst (λ (r : Reading _). HasRead base r bytes) (sym c.self.view_is) h))))
     c.feed.ensures.refuses
 
 pub returns-clause-early : goal.returns-clause-early
-returns-clause-early c = on_ok_weaker c.feed.result (early_alike table_to_page) c.feed.ensures.early
+returns-clause-early c = on_ok_weaker c.feed.result (λ early base. early_alike table_to_page (early base)) c.feed.ensures.early

@@ -1,6 +1,6 @@
 use Rattle.std.proofs.Common.{◌≡◌, Option, rules, subst, sym}
 use Rattle.std.specs.Prelude.{IfSome}
-use Rattle.owl_reader.proofs.EventLaws.{steps_barred, steps_free, steps_taken}
+use Rattle.owl_reader.proofs.EventLaws.{err_in_each, ok_in_each, steps_barred, steps_free, steps_taken}
 use Rattle.owl_reader.specs.Following.{MayFollow}
 use Rattle.owl_reader.specs.Steps.{token_in}
 use Rattle.ttl_grammar.specs.Rules.{Bars, turtle_rules}
@@ -14,22 +14,22 @@ use Rattle.ttl_read.proofs.syntax.AssemblerSyntax.take.Goals as goal
 pub take_next-requires : goal.take_next-requires
 take_next-requires c =
     let same : c.map.result ≡ token_in c.args.next = search rules in
-    subst (λ (x : Option Token). IfSome x IsFormed) (sym same) (next_formed c.args.next c.requires.spelled)
+    subst (λ (x : Option Token). IfSome x IsFormed) (sym same) (next_formed c.args.next c.requires.1.spelled)
 
 pub returns-clause-takes : goal.returns-clause-takes
 returns-clause-takes c =
     let same : c.map.result ≡ token_in c.args.next = search rules in
-    steps_taken Made Whole (λ events x. MayFollow turtle turtle_rules events c.args.acts.now x) c.args.acts.now c.args.next c.map.result same _ c.take_next.new.self c.take_next.result
-    (goes_on _ c.args.acts.now c.map.result c.args.self.now c.take_next.new.self c.take_next.result c.take_next.ensures)
+    ok_in_each _ c.take_next.result (λ base. steps_taken (Made base) (Whole base) (λ events x. MayFollow turtle (turtle_rules base) events c.args.acts.now x) c.args.acts.now c.args.next c.map.result same _ c.take_next.new.self c.take_next.result
+    (goes_on base _ c.args.acts.now c.map.result c.args.self.now c.take_next.new.self c.take_next.result c.take_next.ensures))
 
 pub returns-clause-free : goal.returns-clause-free
 returns-clause-free c =
     let same : c.map.result ≡ token_in c.args.next = search rules in
-    steps_free Made Whole (λ events x. MayFollow turtle turtle_rules events c.args.acts.now x) c.args.acts.now c.args.next c.map.result same _ Bars c.take_next.result
-    (is_free _ c.args.acts.now c.map.result c.args.self.now c.take_next.new.self c.take_next.result c.take_next.ensures)
+    ok_in_each _ c.take_next.result (λ base. steps_free (Made base) (Whole base) (λ events x. MayFollow turtle (turtle_rules base) events c.args.acts.now x) c.args.acts.now c.args.next c.map.result same _ (Bars base) c.take_next.result
+    (is_free base _ c.args.acts.now c.map.result c.args.self.now c.take_next.new.self c.take_next.result c.take_next.ensures))
 
 pub returns-clause-barred : goal.returns-clause-barred
 returns-clause-barred c =
     let same : c.map.result ≡ token_in c.args.next = search rules in
-    steps_barred Made Whole (λ events x. MayFollow turtle turtle_rules events c.args.acts.now x) c.args.acts.now c.args.next c.map.result same _ Bars c.take_next.result
-    (is_barred _ c.args.acts.now c.map.result c.args.self.now c.take_next.new.self c.take_next.result c.take_next.ensures)
+    err_in_each _ c.take_next.result (λ base. steps_barred (Made base) (Whole base) (λ events x. MayFollow turtle (turtle_rules base) events c.args.acts.now x) c.args.acts.now c.args.next c.map.result same _ (Bars base) c.take_next.result
+    (is_barred base _ c.args.acts.now c.map.result c.args.self.now c.take_next.new.self c.take_next.result c.take_next.ensures))
