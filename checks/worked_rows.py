@@ -66,6 +66,10 @@ a byte that begins no character, alone | refusals: byte_alone
 each front of a document | fronts: front_of_{0-155}_bytes
 a relative reference without a base | ttl_rows/data/refusals: a_relative_subject
 a property of no kind, of another kind, and a literal as a class | manchester_kinds: a_property_that_is_nothing a_property_that_is_an_annotation_property a_literal_as_a_class
+= types of OWL 1
+types beside those of OWL 2, with a restriction that is a class | thinned: types_beside_those_of_OWL_2
+a list with its type | thinned: a_list_with_its_type
+a class of RDF Schema alone | thinned: a_class_of_RDF_Schema_alone
 = graphs that are refused
 no header, and two | graphs: no_header two_headers
 a list in a circle | graphs: a_list_in_a_circle
@@ -73,7 +77,6 @@ a list with two rests | graphs: a_cell_with_two_rests
 a class that is its own complement | graphs: its_own_complement
 a class that nothing reaches | graphs: a_class_that_nothing_reaches
 a node of two roles | graphs: a_node_of_two_roles
-a restriction that is a class too | graphs: a_restriction_that_is_a_class_too
 reifications of each other, and of nothing | graphs: reifications_of_each_other a_reification_of_nothing
 a reserved type, and a property that is not declared | graphs: a_reserved_type an_undeclared_property
 = limits and devices

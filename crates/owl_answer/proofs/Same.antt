@@ -17,6 +17,7 @@ use Rattle.rdf_normal.specs.NormalForms.{is_about, normal_form, settled, spread}
 use Rattle.rdf_reverse.specs.Reverse.{Finds, FindsFirst, IsHeaderFault, IsSaid, IsUnsaid, Step, bad_header, no_header, of_depths, of_header, of_kinds, of_names, of_nodes, of_numbers, of_parts, of_reach, of_reifications, of_statements, of_weights, steps, two_headers}
 use Rattle.rdf_reverse.proofs.ReverseLaws.{never_both, said_one_way, unsaid_one_way}
 use Rattle.rdf_reverse.specs.declared.fault.ReverseFault.{ReverseFault}
+use Rattle.rdf_thin.specs.Thinned.{thinned}
 use Rattle.rdf_reverse.specs.declared.fault.ReverseFault.TheVariants as reverse
 use Rattle.owl_messages.specs.Unsaid.{IsProperFault}
 use Rattle.owl_messages.specs.declared.unsaid.UnsaidFault.{UnsaidFault}
@@ -111,7 +112,7 @@ says_same kinds (the_frames a) (the_frames b) s said h =
     record { other = said; says = subst (λ (d : DocumentTree). SaysUnder kinds (the_frames d) said) s h; same = said_refl said }
 says_same kinds (a_graph a) (a_graph b) s said h = record {
   other = said;
-  says = (h.0 ∙ s.prefixes, subst (λ (ts : List Triple). IsSaid ts kinds said.ontology) s.triples h.1);
+  says = (h.0 ∙ s.prefixes, subst (λ (ts : List Triple). IsSaid (thinned ts) kinds said.ontology) s.triples h.1);
   same = said_refl said;
 }
 
@@ -123,7 +124,7 @@ unsaid_same kinds (a_graph a) (an_ontology b) s fault h = absurd s
 unsaid_same kinds (a_graph a) (the_frames b) s fault h = absurd s
 unsaid_same kinds (the_frames a) (an_ontology b) s fault h = absurd s
 unsaid_same kinds (the_frames a) (a_graph b) s fault h = absurd s
-unsaid_same kinds (a_graph a) (a_graph b) s (Graph fault) h = subst (λ (ts : List Triple). IsUnsaid ts kinds fault) s.triples h
+unsaid_same kinds (a_graph a) (a_graph b) s (Graph fault) h = subst (λ (ts : List Triple). IsUnsaid (thinned ts) kinds fault) s.triples h
 unsaid_same kinds (a_graph a) (a_graph b) s (Frames fault) h = absurd h
 unsaid_same kinds (a_graph a) (a_graph b) s Memory h = absurd h
 unsaid_same kinds (the_frames a) (the_frames b) s fault h = subst (λ (d : DocumentTree). IsUnsaidUnder kinds (the_frames d) fault) s h
@@ -132,13 +133,13 @@ unsaid_same kinds (the_frames a) (the_frames b) s fault h = subst (λ (d : Docum
 pub says_once : (kinds : List Entity) (parsed : Parsed) (a b : Said) → SaysUnder kinds parsed a → SaysUnder kinds parsed b → IsSame a b
 says_once kinds (an_ontology said) a b h k = subst (λ (x : Said). IsSame a x) (h ∙ sym k) (said_refl a)
 says_once kinds (a_graph read) a b h k =
-    record { prefixes = h.0 ∙ sym k.0; ontology = said_one_way read.triples kinds a.ontology b.ontology h.1 k.1 }
+    record { prefixes = h.0 ∙ sym k.0; ontology = said_one_way (thinned read.triples) kinds a.ontology b.ontology h.1 k.1 }
 says_once kinds (the_frames d) a b h k =
     record { prefixes = h.0 ∙ sym k.0; ontology = frames_laws.one_ontology d kinds a.ontology b.ontology h.1 k.1 }
 
 pub unsaid_once : (kinds : List Entity) (parsed : Parsed) (e f : UnsaidFault) → IsUnsaidUnder kinds parsed e → IsUnsaidUnder kinds parsed f → e ≡ f
 unsaid_once kinds (an_ontology said) e f h k = absurd h
-unsaid_once kinds (a_graph read) (Graph e) (Graph f) h k = ap Graph (unsaid_one_way read.triples kinds e f h k)
+unsaid_once kinds (a_graph read) (Graph e) (Graph f) h k = ap Graph (unsaid_one_way (thinned read.triples) kinds e f h k)
 unsaid_once kinds (a_graph read) (Graph e) (Frames f) h k = absurd k
 unsaid_once kinds (a_graph read) (Graph e) Memory h k = absurd k
 unsaid_once kinds (a_graph read) (Frames e) f h k = absurd h
@@ -151,7 +152,7 @@ unsaid_once kinds (the_frames d) Memory f h k = absurd h
 
 pub never_says_both : (kinds : List Entity) (parsed : Parsed) (said : Said) (fault : UnsaidFault) → SaysUnder kinds parsed said → IsUnsaidUnder kinds parsed fault → ⊥
 never_says_both kinds (an_ontology other) said fault h k = k
-never_says_both kinds (a_graph read) said (Graph fault) h k = never_both read.triples kinds said.ontology fault h.1 k
+never_says_both kinds (a_graph read) said (Graph fault) h k = never_both (thinned read.triples) kinds said.ontology fault h.1 k
 never_says_both kinds (a_graph read) said (Frames fault) h k = k
 never_says_both kinds (a_graph read) said Memory h k = k
 never_says_both kinds (the_frames d) said (Graph fault) h k = k
@@ -189,7 +190,7 @@ never_first g k (step ∷ more) (inr h) = never_first g k more h.1
 
 pub is_proper : (kinds : List Entity) (parsed : Parsed) (fault : UnsaidFault) → IsUnsaidUnder kinds parsed fault → IsProperFault fault
 is_proper kinds (an_ontology said) fault h = absurd h
-is_proper kinds (a_graph read) (Graph fault) h = λ e. never_first read.triples kinds steps (subst (λ (f : ReverseFault). IsUnsaid read.triples kinds f) e h)
+is_proper kinds (a_graph read) (Graph fault) h = λ e. never_first (thinned read.triples) kinds steps (subst (λ (f : ReverseFault). IsUnsaid (thinned read.triples) kinds f) e h)
 is_proper kinds (a_graph read) (Frames fault) h = absurd h
 is_proper kinds (a_graph read) Memory h = absurd h
 is_proper kinds (the_frames d) (Graph fault) h = absurd h

@@ -20,6 +20,8 @@ use Rattle.rdf_reverse.proofs.DeclaringLaws.{declares_stated}
 use Rattle.rdf_reverse.proofs.WithinLaws.{said_within}
 use Rattle.rdf_scans.specs.Outlines.{declarations as graph_declarations}
 use Rattle.rdf_states.proofs.NormalStatesLaws.{form_axioms_typed, form_notes_typed, form_says}
+use Rattle.rdf_states.proofs.ThinLaws.{form_is_thin}
+use Rattle.rdf_thin.specs.Thinned.{thinned}
 use Rattle.owl_doc.specs.Parts.{of_axiom}
 use Rattle.rdf_sayable.specs.Sayable.{CanSayAll}
 use Rattle.owl_answer.specs.Outcome.{IsSuccess}
@@ -103,6 +105,12 @@ form_is_said kinds main outcome is canonical told s shallow =
     let says = form_said kinds o (ap canonical_ontology canonical) its.ready.typed own its.ready.sayable its.light in
     said_within (graph_of (normal_form o)) kinds (normal_form o) says (record { is = normal_is_ontology o own; shallow = shallow; light = its.light })
 
+-- and none of its triples is redundant
+pub written_is_thin : (kinds : List Entity) (main : Said) (outcome : Outcome) → IsOntology main.ontology → canonical_ontology main.ontology ≡ main.ontology → IsTurtleTranslation kinds main outcome → IsSuccess outcome.status → thinned (graph_of (turtle_form (canonical_said main)).ontology) ≡ graph_of (turtle_form (canonical_said main)).ontology
+written_is_thin kinds main outcome is canonical told s =
+    let its = form_told kinds (canonical_said main) outcome told s in
+    form_is_thin (canonical_ontology main.ontology) (subst IsOntology (sym canonical) is) its.ready.sayable its.light
+
 -- what is read back to the graph of a normal form says it
 said_back : (kinds : List Entity) (main : Said) (outcome : Outcome) → IsOntology main.ontology → canonical_ontology main.ontology ≡ main.ontology → IsTurtleTranslation kinds main outcome → IsSuccess outcome.status → ReadsGraph outcome.text (turtle_form (canonical_said main)) → ReadsSaid kinds outcome.text (turtle_form (canonical_said main))
 said_back kinds main outcome is canonical told s reads =
@@ -116,7 +124,7 @@ said_back kinds main outcome is canonical told s reads =
       reads = reads.reads;
       declares = says_declares (graph_of (normal_form o)) kinds (normal_form o) says;
       typed = form_typed kinds o form its.ready.typed;
-      says = form_is_said kinds main outcome is canonical told s reads.shallow;
+      says = subst (λ (g : List Triple). IsSaid g kinds (normal_form o)) (sym (written_is_thin kinds main outcome is canonical told s)) (form_is_said kinds main outcome is canonical told s reads.shallow);
     }
 
 pub in_turtle : (kinds : List Entity) (main : Said) (outcome : Outcome) → IsOntology main.ontology → canonical_ontology main.ontology ≡ main.ontology → IsToldBack (IsTurtleTranslation kinds main) (turtle_form (canonical_said main)) outcome → IsInTurtle kinds main outcome

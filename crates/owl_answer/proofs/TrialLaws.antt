@@ -1,5 +1,5 @@
 -- What the texts of a trial are read back as, and what is found out.
-use Rattle.std.proofs.Common.{◌≡◌, ◌≢◌, ◌+◌, ◌↔◌, inl, ℕ, Bool, IsTrue, List, [], ◌∷◌, codes, length, map, refl, sym, ap, ◌∙◌, subst, arith}
+use Rattle.std.proofs.Common.{◌≡◌, ◌≢◌, ◌+◌, ◌↔◌, inl, ℕ, Bool, IsTrue, Option, None, List, [], ◌∷◌, codes, length, map, refl, sym, ap, ◌∙◌, subst, arith}
 use Rattle.std.proofs.lemmas.Slice.Zip.{AllZip-long}
 use Rattle.breach_lists.specs.Telling.{Tells, ontologies_of}
 use Rattle.owl_atom.specs.declared.prefixes.Prefix.{Prefix}
@@ -32,6 +32,7 @@ use Rattle.owl_profiles.specs.Profiles.{name_of}
 use Rattle.rdf_graph.specs.declared.triple.Triple.{Triple}
 use Rattle.rdf_mapping.specs.Graphs.{graph_of}
 use Rattle.rdf_reverse.specs.Reverse.{IsSaid}
+use Rattle.rdf_thin.specs.Thinned.{thinned}
 use Rattle.rdf_scans.specs.Outlines.{IsOutlineFault}
 use Rattle.ttl_grammar.proofs.DocumentLaws as ttl
 use Rattle.ttl_grammar.proofs.Refusals.{defect_is_of_none}
@@ -45,18 +46,18 @@ use Rattle.owl_answer.specs.TrialDocument.{trial_document}
 use Rattle.owl_answer.specs.TrialParts.{HasNoDefect, IsSaidBack, IsTriedAs, ReadsBack}
 use Rattle.owl_answer.specs.Trials.{AreBreachCounts, AreFindings, HasBreaches, IsTrialOutcome, alone, not_read, read, trial_name}
 use Rattle.owl_answer.specs.TurtleOutcome.{IsToldBack, IsTurtleTranslation, canonical_said, turtle_form}
-use Rattle.owl_answer.proofs.Sayings.{form_is_said}
+use Rattle.owl_answer.proofs.Sayings.{form_is_said, written_is_thin}
 use Rattle.owl_answer.proofs.TrialSizes.{document_short}
 
 -- a text in Turtle
 
-module _ (bytes : List ℕ) (p : List Prefix) (g : List Triple) (kinds : List Entity) (o : Ontology) (reads : ReadsTurtle bytes p g) (said : IsSaid g kinds o) where
+module _ (bytes : List ℕ) (p : List Prefix) (g : List Triple) (kinds : List Entity) (o : Ontology) (reads : (base : Option (List ℕ)) → ReadsTurtle base bytes p g) (said : IsSaid g kinds o) (thin : thinned g ≡ g) where
   turtle_whole : HasNoDefect Turtle bytes
   turtle_whole name _ s proper (of_functional fault t d) = absurd (cc)
-  turtle_whole name _ s proper (of_turtle fault t d) = defect_is_of_none bytes fault p g d reads
+  turtle_whole name _ s proper (of_turtle fault t d) = defect_is_of_none None bytes fault p g d (reads None)
   turtle_whole name _ s proper (of_manchester fault t d) = absurd (cc)
   turtle_whole name _ s proper (of_header fault q h t r n f) =
-      let same = (ttl.read_one_way bytes q p h g r reads).0 in
+      let same = (ttl.read_one_way None bytes q p h g r (reads None)).0 in
       let header = said.says.states in
       no_fault g fault header.header header.said header.one_header header.is_head n (subst (λ (x : List Triple). IsOutlineFault x fault) same f)
 
@@ -64,10 +65,10 @@ module _ (bytes : List ℕ) (p : List Prefix) (g : List Triple) (kinds : List En
   turtle_back (an_ontology s) r = let n = (r (codes "m.ttl") refl).0 in absurd (cc)
   turtle_back (the_frames d) r = let n = (r (codes "m.ttl") refl).0 in absurd (cc)
   turtle_back (a_graph graph) r =
-      let same : g ≡ graph.triples = (ttl.read_one_way bytes p graph.prefixes g graph.triples reads (r (codes "m.ttl") refl).1.reads).0 in
+      let same : g ≡ graph.triples = (ttl.read_one_way None bytes p graph.prefixes g graph.triples (reads None) (r (codes "m.ttl") refl).1.reads).0 in
       record {
         said = record { prefixes = graph.prefixes; ontology = o };
-        says = (refl, subst (λ (h : List Triple). IsSaid h kinds o) same said);
+        says = (refl, subst (λ (h : List Triple). IsSaid h kinds o) (sym thin ∙ ap thinned same) said);
         ontology = refl;
         counts = ap (λ (h : List Triple). length h) (sym same);
       }
@@ -81,7 +82,7 @@ turtle_again kinds main outcome is canonical told done =
     let success = subst IsSuccess (sym done) tt in
     let back = told.back success in
     turtle_reads outcome.text _ (graph_of (turtle_form (canonical_said main)).ontology) kinds (turtle_form (canonical_said main)).ontology back.reads
-    (form_is_said kinds main outcome is canonical told.is success back.shallow)
+    (form_is_said kinds main outcome is canonical told.is success back.shallow) (written_is_thin kinds main outcome is canonical told.is success)
 
 -- a text in Manchester Syntax
 

@@ -1,5 +1,5 @@
 -- The translation to Turtle, step by step.
-use Rattle.std.proofs.Common.{◌≡◌, ◌<◌, ◌≤◌, ◌∙◌, ℕ, List, ap, length, sym, subst}
+use Rattle.std.proofs.Common.{◌≡◌, ◌<◌, ◌≤◌, ◌∙◌, ℕ, List, Option, ap, length, sym, subst}
 use Rattle.std.specs.Str.{encode_utf8_all}
 use Rattle.owl_characters.specs.Limit.{most_bytes}
 use Rattle.man_write.proofs.DocumentLaws.{each_shallow}
@@ -53,17 +53,17 @@ shallow_document form arena same shared is =
     all_both (λ t. depth t ≤ deepest) (trees_at form.arena.trees form.notes) (trees_at form.arena.trees form.axioms)
     (each_shallow form.arena.trees form.notes own is.notes) (each_shallow form.arena.trees form.axioms own is.axioms)
 
-pub fits_told : (form : Document) (arena : Held) (absorbed : ℕ) (prefixes : List Prefix) (graph : List Triple) (text : List ℕ) (outcome : Outcome) → arena ≡ form.arena → AreShared arena.trees → IsDocument form → prefixes ≡ form.prefixes → graph ≡ graph_of (ontology_of form) → text ≡ turtle_text prefixes graph → length (encode_utf8_all text) ≤ most_bytes → ReadsTurtle (encode_utf8_all text) (written_prefixes prefixes) graph → outcome ≡ record { status = Done; text = encode_utf8_all text; line = done_line (axiom_count (ontology_of form)) absorbed } → IsToldBack (IsLimited (λ (wanted : Outcome). wanted ≡ graph_translation (said_of form) absorbed)) (said_of form) outcome
+pub fits_told : (form : Document) (arena : Held) (absorbed : ℕ) (prefixes : List Prefix) (graph : List Triple) (text : List ℕ) (outcome : Outcome) → arena ≡ form.arena → AreShared arena.trees → IsDocument form → prefixes ≡ form.prefixes → graph ≡ graph_of (ontology_of form) → text ≡ turtle_text prefixes graph → length (encode_utf8_all text) ≤ most_bytes → ((base : Option (List ℕ)) → ReadsTurtle base (encode_utf8_all text) (written_prefixes prefixes) graph) → outcome ≡ record { status = Done; text = encode_utf8_all text; line = done_line (axiom_count (ontology_of form)) absorbed } → IsToldBack (IsLimited (λ (wanted : Outcome). wanted ≡ graph_translation (said_of form) absorbed)) (said_of form) outcome
 fits_told form arena absorbed prefixes graph text outcome a shared is p g t l reads e =
     let line = done_line (axiom_count (ontology_of form)) absorbed in
     let whole : text ≡ turtle_text form.prefixes (graph_of (ontology_of form)) = t ∙ (λ i. turtle_text (p i) (g i)) in
-    let own_reads : ReadsTurtle (encode_utf8_all text) (written_prefixes form.prefixes) (graph_of (ontology_of form)) =
-    subst (λ (triples : List Triple). ReadsTurtle (encode_utf8_all text) (written_prefixes form.prefixes) triples) g
-    (subst (λ (ps : List Prefix). ReadsTurtle (encode_utf8_all text) (written_prefixes ps) graph) p reads) in
+    let own_reads : (base : Option (List ℕ)) → ReadsTurtle base (encode_utf8_all text) (written_prefixes form.prefixes) (graph_of (ontology_of form)) =
+    λ base. subst (λ (triples : List Triple). ReadsTurtle base (encode_utf8_all text) (written_prefixes form.prefixes) triples) g
+    (subst (λ (ps : List Prefix). ReadsTurtle base (encode_utf8_all text) (written_prefixes ps) graph) p (reads base)) in
     record {
       is = fits (e ∙ ap (λ (bytes : List ℕ). record { status = Done; text = encode_utf8_all bytes; line = line }) whole) (subst (λ (o : Outcome). length o.text ≤ most_bytes) (sym e) l);
       back = λ s. record {
-        reads = subst (λ (o : Outcome). ReadsTurtle o.text (written_prefixes form.prefixes) (graph_of (ontology_of form))) (sym e) own_reads;
+        reads = λ base. subst (λ (o : Outcome). ReadsTurtle base o.text (written_prefixes form.prefixes) (graph_of (ontology_of form))) (sym e) (own_reads base);
         shallow = shallow_document form arena a shared is;
       };
     }

@@ -1,5 +1,5 @@
 -- What becomes of a main document that is translated to Turtle, under the kinds of its imports closure.
-use Rattle.std.specs.Prelude.{◌≡◌, ◌<◌, ◌≤◌, ℕ, List, length}
+use Rattle.std.specs.Prelude.{◌≡◌, ◌<◌, ◌≤◌, ℕ, List, Option, length}
 use Rattle.std.specs.Str.{encode_utf8_all}
 use Rattle.owl_arena.specs.Shared.{heaviest}
 use Rattle.owl_kind.specs.Kinds.{Entity, HasClash, IsFirstClash}
@@ -15,6 +15,7 @@ use Rattle.rdf_sayable.specs.Sayable.{CanSayAll, IsFirstUnsayable}
 use Rattle.rdf_normal.specs.NormalForms.{absorbed_count, normal_form}
 use Rattle.rdf_mapping.specs.Graphs.{graph_of}
 use Rattle.rdf_reverse.specs.Reverse.{AreShallow, IsSaid}
+use Rattle.rdf_thin.specs.Thinned.{thinned}
 use Rattle.rdf_scans.specs.Outlines.{declarations}
 use Rattle.ttl_grammar.specs.Documents.{ReadsTurtle}
 use Rattle.ttl_write.specs.Text.{turtle_text}
@@ -41,9 +42,9 @@ graph_translation form absorbed = record {
   line = done_line (axiom_count form.ontology) absorbed;
 }
 
--- the bytes are read in Turtle to the graph of this form, of which no tree is too deep
+-- against whatever base IRI, the bytes are read in Turtle to the graph of this form, of which no tree is too deep
 pub record ReadsGraph (text : List ℕ) (form : Said) : Type 0 where
-  pub reads : ReadsTurtle text (written_prefixes form.prefixes) (graph_of form.ontology)
+  pub reads : (base : Option (List ℕ)) → ReadsTurtle base text (written_prefixes form.prefixes) (graph_of form.ontology)
   pub shallow : AreShallow form.ontology
 
 -- no IRI has two kinds that no IRI may share
@@ -55,14 +56,14 @@ pub record IsTyped (kinds : List Entity) (o : Ontology) : Type 0 where
   pub no_clash : HasNoClash kinds
   pub typed : AllAreWellTyped kinds o
 
--- The bytes are read in Turtle to a graph that says this form, and no more, under these kinds and within the limits. The form is well typed
--- under them, and the graph declares what it declares.
+-- Against whatever base IRI, the bytes are read in Turtle to a graph that says this form, and no more, under these kinds and within the
+-- limits. The form is well typed under them, and the graph declares what it declares.
 pub record ReadsSaid (kinds : List Entity) (text : List ℕ) (form : Said) : Type 0 where
   pub graph : List Triple
-  pub reads : ReadsTurtle text (written_prefixes form.prefixes) graph
+  pub reads : (base : Option (List ℕ)) → ReadsTurtle base text (written_prefixes form.prefixes) graph
   pub declares : DeclareSame (declarations graph) (declared_in form.ontology)
   pub typed : IsTyped kinds form.ontology
-  pub says : IsSaid graph kinds form.ontology
+  pub says : IsSaid (thinned graph) kinds form.ontology
 
 -- All is well typed and can be said in a graph.
 pub record IsReady (kinds : List Entity) (o : Ontology) : Type 0 where

@@ -5,21 +5,22 @@ use Rattle.owl_command.specs.Commands.{Request, compares, of_main, tries}
 use Rattle.owl_documents.specs.Documents.{Parsed, Said, a_graph, an_ontology, the_frames}
 use Rattle.owl_kind.specs.Kinds.{Entity}
 use Rattle.rdf_reverse.specs.Reverse.{IsSaid, IsUnsaid}
+use Rattle.rdf_thin.specs.Thinned.{thinned}
 use Rattle.man_resolve.specs.Resolved.{FramesMean, IsUnresolved}
 use Rattle.owl_messages.specs.declared.unsaid.UnsaidFault.{UnsaidFault}
 use Rattle.owl_messages.specs.declared.unsaid.UnsaidFault.TheVariants.{Graph, Frames}
 use Rattle.owl_answer.specs.KindsAt.{AreClosureKinds, AreOwnKinds}
 use Rattle.owl_answer.specs.Outcome.{heads_in}
 
--- what the document says under these kinds
+-- what the document says under these kinds; the redundant triples of a graph are passed over
 abbrev pub SaysUnder : List Entity → Parsed → Said → Type 0
 SaysUnder kinds (an_ontology said) other = other ≡ said
-SaysUnder kinds (a_graph read) other = (other.prefixes ≡ read.prefixes) × IsSaid read.triples kinds other.ontology
+SaysUnder kinds (a_graph read) other = (other.prefixes ≡ read.prefixes) × IsSaid (thinned read.triples) kinds other.ontology
 SaysUnder kinds (the_frames d) other = (other.prefixes ≡ d.prefixes) × FramesMean d kinds other.ontology
 
 -- why it says nothing under them
 abbrev pub IsUnsaidUnder : List Entity → Parsed → UnsaidFault → Type 0
-IsUnsaidUnder kinds (a_graph read) (Graph fault) = IsUnsaid read.triples kinds fault
+IsUnsaidUnder kinds (a_graph read) (Graph fault) = IsUnsaid (thinned read.triples) kinds fault
 IsUnsaidUnder kinds (the_frames d) (Frames fault) = IsUnresolved d kinds fault
 IsUnsaidUnder kinds parsed fault = ⊥
 

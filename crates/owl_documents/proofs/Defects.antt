@@ -1,5 +1,5 @@
 -- The bytes under a name are read in one way, or have one defect.
-use Rattle.std.proofs.Common.{◌≡◌, ◌≤◌, ℕ, List, [], ◌∷◌, length, ap, subst}
+use Rattle.std.proofs.Common.{◌≡◌, ◌≤◌, ℕ, None, List, [], ◌∷◌, length, ap, subst}
 use Rattle.owl_characters.specs.Limit.{most_bytes}
 use Rattle.owl_atom.specs.Prefixes.{iri_of}
 use Rattle.owl_atom.specs.declared.prefixes.Prefix.{Prefix}
@@ -27,9 +27,9 @@ pub record GrammarLaws : Type 0 where
   pub functional : (bytes : List ℕ) (p q : List Prefix) (o u : Ontology) → ReadsFunctional bytes p o → ReadsFunctional bytes q u → (p ≡ q) × IsSameOntology o u
   pub no_functional : (bytes : List ℕ) (fault : ReadFault) (p : List Prefix) (o : Ontology) → fss.IsFirstDefect bytes fault → ReadsFunctional bytes p o → ⊥
   pub functional_defect : (bytes : List ℕ) (fault other : ReadFault) → length bytes ≤ most_bytes → fss.IsFirstDefect bytes fault → fss.IsFirstDefect bytes other → fault ≡ other
-  pub turtle : (bytes : List ℕ) (p q : List Prefix) (g h : List Triple) → ReadsTurtle bytes p g → ReadsTurtle bytes q h → (g ≡ h) × ((name : List ℕ) → iri_of p name ≡ iri_of q name)
-  pub no_turtle : (bytes : List ℕ) (fault : ReadFault) (p : List Prefix) (g : List Triple) → ttl.IsFirstDefect bytes fault → ReadsTurtle bytes p g → ⊥
-  pub turtle_defect : (bytes : List ℕ) (fault other : ReadFault) → length bytes ≤ most_bytes → ttl.IsFirstDefect bytes fault → ttl.IsFirstDefect bytes other → fault ≡ other
+  pub turtle : (bytes : List ℕ) (p q : List Prefix) (g h : List Triple) → ReadsTurtle None bytes p g → ReadsTurtle None bytes q h → (g ≡ h) × ((name : List ℕ) → iri_of p name ≡ iri_of q name)
+  pub no_turtle : (bytes : List ℕ) (fault : ReadFault) (p : List Prefix) (g : List Triple) → ttl.IsFirstDefect None bytes fault → ReadsTurtle None bytes p g → ⊥
+  pub turtle_defect : (bytes : List ℕ) (fault other : ReadFault) → length bytes ≤ most_bytes → ttl.IsFirstDefect None bytes fault → ttl.IsFirstDefect None bytes other → fault ≡ other
   pub manchester : (bytes : List ℕ) (d e : DocumentTree) → ReadsManchester bytes d → ReadsManchester bytes e → AreSameDocuments d e
   pub no_manchester : (bytes : List ℕ) (fault : ReadFault) (d : DocumentTree) → man.IsFirstDefect bytes fault → ReadsManchester bytes d → ⊥
   pub manchester_defect : (bytes : List ℕ) (fault other : ReadFault) → length bytes ≤ most_bytes → man.IsFirstDefect bytes fault → man.IsFirstDefect bytes other → fault ≡ other

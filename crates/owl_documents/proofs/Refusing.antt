@@ -107,7 +107,7 @@ module _ {T : Type 0} (r : Result T Trouble) (fault : ReadFault) (refused : IsEr
   reader_never_failed = not_failed trouble_of r fault refused (never_failed fault)
 
 module _ {T : Type 0} (r : Result T Trouble) (fault : OutlineFault) (refused : IsErrAnd r (λ y. y ≡ trouble_of_header fault)) where
-  pub header_defect : (Fed : List ℕ → Type 0) (prefixes : List Prefix) (triples : List Triple) → ((bytes : List ℕ) → Fed bytes → ReadsTurtle bytes prefixes triples) → IsOutlineFault triples fault → IfErr r (λ trouble. (bytes : List ℕ) → Fed bytes → IsDefectUnder Turtle bytes trouble)
+  pub header_defect : (Fed : List ℕ → Type 0) (prefixes : List Prefix) (triples : List Triple) → ((bytes : List ℕ) → Fed bytes → ReadsTurtle None bytes prefixes triples) → IsOutlineFault triples fault → IfErr r (λ trouble. (bytes : List ℕ) → Fed bytes → IsDefectUnder Turtle bytes trouble)
   header_defect Fed prefixes triples reads f = by_fault trouble_of_header r fault refused (λ trouble. (bytes : List ℕ) → Fed bytes → IsDefectUnder Turtle bytes trouble) (λ bytes fed refusal is name t.
       let told = header_refusal_of fault refusal is in
       subst (IsDefect name bytes) (sym told.0) (of_header fault prefixes triples t (reads bytes fed) told.1 f))

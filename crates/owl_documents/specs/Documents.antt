@@ -1,5 +1,5 @@
 -- Documents as they stand under their names, and what they say.
-use Rattle.std.specs.Prelude.{◌≡◌, ◌≢◌, ◌<◌, ◌≤◌, ◌+◌, ◌^◌, ◌⊎◌, ℕ, nat_eq, Option, Some, List, [], ◌∷◌, codes, length, if◌then◌else◌}
+use Rattle.std.specs.Prelude.{◌≡◌, ◌≢◌, ◌<◌, ◌≤◌, ◌+◌, ◌^◌, ◌⊎◌, ℕ, nat_eq, Option, None, Some, List, [], ◌∷◌, codes, length, if◌then◌else◌}
 use Rattle.std.specs.List.{ends_with}
 use Rattle.owl_characters.specs.Limit.{most_bytes}
 use Rattle.owl_atom.specs.Prefixes.{AreAscending}
@@ -81,7 +81,7 @@ syntax_of name =
 
 -- The bytes are a document in Turtle with this graph and these prefixes, whose header gives this head.
 pub record ReadsGraph (bytes : List ℕ) (read : GraphRead) : Type 0 where
-  pub reads : ReadsTurtle bytes read.prefixes read.triples
+  pub reads : ReadsTurtle None bytes read.prefixes read.triples
   pub ascending : AreAscending read.prefixes
   pub plain : ArePlain read.prefixes
   pub header : Term
@@ -102,9 +102,9 @@ Reads name bytes (the_frames d) = (syntax_of name ≡ Manchester) × ReadsFrames
 -- What is wrong with the bytes under this name: the first defect by the grammar of their syntax, or what is wrong with the header of the graph.
 pub data IsDefect (name bytes : List ℕ) : Refusal → Type 0 where
   of_functional : (fault : ReadFault) → syntax_of name ≡ Functional → fss.IsFirstDefect bytes fault → IsDefect name bytes (Unreadable fault)
-  of_turtle : (fault : ReadFault) → syntax_of name ≡ Turtle → ttl.IsFirstDefect bytes fault → IsDefect name bytes (Unreadable fault)
+  of_turtle : (fault : ReadFault) → syntax_of name ≡ Turtle → ttl.IsFirstDefect None bytes fault → IsDefect name bytes (Unreadable fault)
   of_manchester : (fault : ReadFault) → syntax_of name ≡ Manchester → man.IsFirstDefect bytes fault → IsDefect name bytes (Unreadable fault)
-  of_header : (fault : OutlineFault) (prefixes : List Prefix) (triples : List Triple) → syntax_of name ≡ Turtle → ReadsTurtle bytes prefixes triples →
+  of_header : (fault : OutlineFault) (prefixes : List Prefix) (triples : List Triple) → syntax_of name ≡ Turtle → ReadsTurtle None bytes prefixes triples →
       fault ≢ outline.Memory → IsOutlineFault triples fault → IsDefect name bytes (Headless fault)
 
 -- the most bytes of all documents together

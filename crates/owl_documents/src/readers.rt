@@ -1,6 +1,6 @@
 //! The readers of all syntaxes, as readers of documents.
 
-ghost use Rattle.std.specs.Prelude.{◌≡◌, ◌≢◌, ◌++◌, ℕ, List, [], Err, IfOk, IfErr};
+ghost use Rattle.std.specs.Prelude.{◌≡◌, ◌≢◌, ◌++◌, ℕ, List, [], None, Err, IfOk, IfErr};
 ghost use Rattle.fss_read.specs.Reading as fss;
 ghost use Rattle.man_read.specs.Reading as man;
 ghost use Rattle.man_grammar.specs.Documents.{ReadsManchester};
@@ -68,7 +68,7 @@ impl DocumentReader for fss_read::Reader {
 impl DocumentReader for ttl_read::Reader {
     ghost syntax = { Syntax.Turtle };
 
-    ghost Fed = { ttl.HasRead };
+    ghost Fed = { ttl.HasRead None };
 
     fn begin(alloc: Global) -> Result<ttl_read::Reader, NoMemory> {
         ttl_read::Reader::new(alloc)
@@ -126,7 +126,8 @@ fn with_table(doc: RawDoc) -> RawDoc
 
 /// The graph with the head of the ontology that its header gives.
 fn with_head(alloc: Global, doc: TtlDoc) -> Result<GraphDocument, OutlineFault>
-    ensures head { IfOk result (λ document. (bytes : List ℕ) → ReadsTurtle bytes doc.prefixes doc.graph
+    ensures head { IfOk result (λ document. (bytes : List ℕ)
+        → ReadsTurtle None bytes doc.prefixes doc.graph
         → ArePlain doc.prefixes → ReadsGraph bytes (graph_read_of document)) }
     ensures fault { IfErr result (IsOutlineFault doc.graph) }
 {

@@ -120,7 +120,7 @@ kind_word word.AnnotationProperty d e = (tag.AnnotationProperty, refl)
 kind_word word.NamedIndividual d e = (tag.NamedIndividual, refl)
 kind_word w d e = cc
 
-kind_is_type : (w : Word) (declared : Kind) → kind_declared w ≡ Some declared → is_type w ≡ true
+pub kind_is_type : (w : Word) (declared : Kind) → kind_declared w ≡ Some declared → is_type w ≡ true
 unfolding is_type
 kind_is_type word.Class d e = refl
 kind_is_type word.Datatype d e = refl
@@ -130,7 +130,7 @@ kind_is_type word.AnnotationProperty d e = refl
 kind_is_type word.NamedIndividual d e = refl
 kind_is_type w d e = cc
 
-site_kind : (s : Site) (declared : Kind) → kind_at s ≡ Some declared → (w : Word) × (s ≡ TypedBy w) × (kind_declared w ≡ Some declared)
+pub site_kind : (s : Site) (declared : Kind) → kind_at s ≡ Some declared → (w : Word) × (s ≡ TypedBy w) × (kind_declared w ≡ Some declared)
 site_kind (TypedBy w) d e = (w, refl, e)
 site_kind (Node r) d e = cc
 site_kind OtherType d e = cc
@@ -146,14 +146,14 @@ told_site OtherLink u e = cc
 
 -- the entity of a declaration
 
-record Declares (x : Term) (o : Option Kind) (e : Entity) : Type 0 where
-  iri : List ℕ
-  kind : Kind
-  subject : x ≡ Iri iri
-  told : o ≡ Some kind
-  entity : ◌≡◌ {A = Entity} (record { kind = kind; iri = iri }) e
+pub record Declares (x : Term) (o : Option Kind) (e : Entity) : Type 0 where
+  pub iri : List ℕ
+  pub kind : Kind
+  pub subject : x ≡ Iri iri
+  pub told : o ≡ Some kind
+  pub entity : ◌≡◌ {A = Entity} (record { kind = kind; iri = iri }) e
 
-entity_told : (x : Term) (o : Option Kind) (e : Entity) → entity_of x o ≡ Some e → Declares x o e
+pub entity_told : (x : Term) (o : Option Kind) (e : Entity) → entity_of x o ≡ Some e → Declares x o e
 entity_told (Iri iri) (Some kind) e n = record { iri = iri; kind = kind; subject = refl; told = refl; entity = same_Some _ e n }
 entity_told (Iri iri) None e n = absurd (none-some e n)
 entity_told (Blank label) o e n = absurd (none-some e n)
@@ -200,7 +200,7 @@ typed_is true (v ∷ ts) us w e = (refl, subst (Contains (v ∷ ts)) (same_words
 typed_is false ts [] w e = cc
 typed_is false ts (v ∷ us) w e = cc
 
-site_says : (t : Triple) (w : Word) → site_of t ≡ TypedBy w → (bytes_eq t.predicate type_iri ≡ true) × (says_type (word_iri w) t ≡ true)
+pub site_says : (t : Triple) (w : Word) → site_of t ≡ TypedBy w → (bytes_eq t.predicate type_iri ≡ true) × (says_type (word_iri w) t ≡ true)
 unfolding site_of
 site_says t w e =
     let is = typed_is (bytes_eq t.predicate type_iri) (filter (λ v. says_type (word_iri v) t) axiom_types) _ w e in
@@ -210,7 +210,7 @@ where_true : (b c d : Bool) → b ≡ true → c ≡ true → cond b c d ≡ tru
 where_true true c d e h = h
 where_true false c d e h = cc
 
-carried : (w : Word) (t : Triple) → is_type w ≡ true → says_type (word_iri w) t ≡ true → carries w t ≡ true
+pub carried : (w : Word) (t : Triple) → is_type w ≡ true → says_type (word_iri w) t ≡ true → carries w t ≡ true
 unfolding carries
 carried w t e h = where_true (is_type w) (says_type (word_iri w) t) _ e h
 

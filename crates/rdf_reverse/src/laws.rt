@@ -4,7 +4,9 @@ ghost use Rattle.std.specs.Prelude.{◌≡◌, List};
 ghost use Rattle.owl_kind.specs.Kinds.{Entity};
 ghost use Rattle.owl_tree.specs.Ontologies.{IsSameOntology, Ontology};
 ghost use Rattle.rdf_graph.specs.declared.triple.Triple.{Triple};
-ghost use Rattle.rdf_meaning.specs.Statements.{Says};
+ghost use Rattle.rdf_meaning.specs.Statements.{Says, headers};
+ghost use Rattle.rdf_scans.specs.Outlines.{declarations};
+ghost use Rattle.rdf_thin.specs.Thinned.{thinned};
 ghost use Rattle.rdf_reverse.specs.Reverse.{IsLimitFault, IsSaid, IsUnsaid, IsWithin};
 ghost use Rattle.rdf_reverse.specs.declared.fault.ReverseFault.{ReverseFault};
 
@@ -28,4 +30,11 @@ pub fn graphs_are_read_one_way()
 pub fn limits_are_those_of_ontologies()
     ensures { (g : List Triple) (k : List Entity) (o : Ontology) → Says g k o → IsWithin o
         → IsSaid g k o }
+{}
+
+/// Laws: what names the ontology of a graph, and what the graph declares, it names and
+/// declares without its redundant triples too.
+pub fn redundant_triples_name_and_declare_nothing()
+    ensures headers { (g : List Triple) → headers (thinned g) ≡ headers g }
+    ensures declarations { (g : List Triple) → declarations (thinned g) ≡ declarations g }
 {}

@@ -9,7 +9,10 @@ mod scans;
 mod trees;
 
 pub use fault::ReverseFault;
-pub use laws::{graphs_are_read_one_way, limits_are_those_of_ontologies};
+pub use laws::{
+    graphs_are_read_one_way, limits_are_those_of_ontologies,
+    redundant_triples_name_and_declare_nothing,
+};
 pub use mapping::reverse;
 pub use rdf_nodes::{DenoteFault, NodeFault, Nodes, Role, Roles, denote};
 pub use rdf_scans::{OutlineFault, outline};

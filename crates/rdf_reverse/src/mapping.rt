@@ -5,6 +5,7 @@ ghost use Rattle.owl_doc.specs.Documents.{ontology_of};
 ghost use Rattle.rdf_scans.specs.Outlines.{IsHeadAt};
 ghost use Rattle.rdf_reverse.specs.Clear.{IsClear};
 ghost use Rattle.rdf_reverse.specs.Reverse.{IsFoundBy, IsReverseFault, IsSaid, limits};
+ghost use Rattle.rdf_thin.specs.Thinned.{thinned};
 
 use crate::fault::ReverseFault;
 use crate::scans::{check_kinds, check_reading};
@@ -16,6 +17,7 @@ use owl_doc::{Doc, Head};
 use owl_kind::Kinds;
 use rdf_asked::lists_of;
 use rdf_graph::Graph;
+use rdf_nodes::{is_thin, thin};
 use rdf_roles::Roles;
 use rdf_scans::{Reading, head_of, only_header};
 use std::alloc::Global;
@@ -47,19 +49,8 @@ fn read_clear(
     )?)
 }
 
-/// The ontology that the graph says under these kinds, with these prefixes
-/// (Mapping to RDF Graphs, section 3).
-///
-/// In this order, each with the first such IRI, node or triple: `TwoKinds` where an
-/// IRI has kinds that no IRI may share; `NoHeader`, `TwoHeaders`, `BadHeader`;
-/// `Mixed`, `BadList`, `Cycle`, `BadNode`; `MainMissing` where a reification is of
-/// nothing; `Reserved` where a triple takes a reserved IRI for what it isn't;
-/// `Orphan` where no axiom reaches a node; `Untyped` where a triple names what it may
-/// not, those of nodes before the others; `NumberTooLarge` where a cardinality is
-/// 2^64 or more; `TooDeep` where an expression, an annotation or an axiom is more
-/// than 128 levels deep; `TooHeavy` where one has more than 2^24 nodes and leaves,
-/// or the ontology has.
-pub fn reverse(
+/// The ontology that the graph says as it is, with these prefixes.
+fn reverse_whole(
     alloc: Global,
     graph: &Graph,
     prefixes: Prefixes,
@@ -83,4 +74,36 @@ pub fn reverse(
     };
     check_reading(alloc, &reading)?;
     read_clear(alloc, &reading, prefixes, head)
+}
+
+/// The ontology that the graph says under these kinds, with these prefixes
+/// (Mapping to RDF Graphs, section 3). Its redundant triples, types that tools of
+/// OWL 1 write, are passed over, and all that follows is of the graph without them.
+///
+/// In this order, each with the first such IRI, node or triple: `TwoKinds` where an
+/// IRI has kinds that no IRI may share; `NoHeader`, `TwoHeaders`, `BadHeader`;
+/// `Mixed`, `BadList`, `Cycle`, `BadNode`; `MainMissing` where a reification is of
+/// nothing; `Reserved` where a triple takes a reserved IRI for what it isn't;
+/// `Orphan` where no axiom reaches a node; `Untyped` where a triple names what it may
+/// not, those of nodes before the others; `NumberTooLarge` where a cardinality is
+/// 2^64 or more; `TooDeep` where an expression, an annotation or an axiom is more
+/// than 128 levels deep; `TooHeavy` where one has more than 2^24 nodes and leaves,
+/// or the ontology has.
+pub fn reverse(
+    alloc: Global,
+    graph: &Graph,
+    prefixes: Prefixes,
+    kinds: &Kinds,
+) -> Result<Doc, ReverseFault>
+    ensures said { IfOk result (λ doc.
+        IsSaid (thinned graph.now) kinds.now (ontology_of doc)) }
+    ensures prefixes { IfOk result (λ doc. doc.prefixes ≡ prefixes) }
+    ensures fault { IfErr result (IsReverseFault (thinned graph.now) kinds.now) }
+{
+    if is_thin(graph) {
+        // Most graphs are, and a copy would double what a large one takes.
+        return reverse_whole(alloc, graph, prefixes, kinds);
+    }
+    let thinned = thin(alloc, graph)?;
+    reverse_whole(alloc, &thinned, prefixes, kinds)
 }

@@ -1,3 +1,4 @@
+use Rattle.std.specs.Prelude.{None}
 use Rattle.owl_documents.proofs.OneWay.{never_both, read_same, refused_once}
 use Rattle.owl_documents.proofs.laws.documents_are_read_one_way.Goals as goal
 
@@ -7,9 +8,9 @@ returns-clause-read c = λ contents names documents others r s.
       functional = c.documents_are_read_one_way.ensures.one_way;
       no_functional = c.defects_are_of_no_document.ensures;
       functional_defect = c.one_first_defect.ensures;
-      turtle = c.documents_are_read_one_way-2.ensures;
-      no_turtle = c.defects_are_of_no_document-2.ensures;
-      turtle_defect = c.one_first_defect-2.ensures;
+      turtle = c.documents_are_read_one_way-2.ensures None;
+      no_turtle = c.defects_are_of_no_document-2.ensures None;
+      turtle_defect = c.one_first_defect-2.ensures None;
       manchester = c.documents_are_read_one_way-3.ensures;
       no_manchester = c.defects_are_of_no_document-3.ensures;
       manchester_defect = c.one_first_defect-3.ensures;
@@ -21,9 +22,9 @@ returns-clause-refused c = λ contents names name other refusal another r s.
       functional = c.documents_are_read_one_way.ensures.one_way;
       no_functional = c.defects_are_of_no_document.ensures;
       functional_defect = c.one_first_defect.ensures;
-      turtle = c.documents_are_read_one_way-2.ensures;
-      no_turtle = c.defects_are_of_no_document-2.ensures;
-      turtle_defect = c.one_first_defect-2.ensures;
+      turtle = c.documents_are_read_one_way-2.ensures None;
+      no_turtle = c.defects_are_of_no_document-2.ensures None;
+      turtle_defect = c.one_first_defect-2.ensures None;
       manchester = c.documents_are_read_one_way-3.ensures;
       no_manchester = c.defects_are_of_no_document-3.ensures;
       manchester_defect = c.one_first_defect-3.ensures;
@@ -35,9 +36,9 @@ returns-clause-apart c = λ contents names documents name refusal r s.
       functional = c.documents_are_read_one_way.ensures.one_way;
       no_functional = c.defects_are_of_no_document.ensures;
       functional_defect = c.one_first_defect.ensures;
-      turtle = c.documents_are_read_one_way-2.ensures;
-      no_turtle = c.defects_are_of_no_document-2.ensures;
-      turtle_defect = c.one_first_defect-2.ensures;
+      turtle = c.documents_are_read_one_way-2.ensures None;
+      no_turtle = c.defects_are_of_no_document-2.ensures None;
+      turtle_defect = c.one_first_defect-2.ensures None;
       manchester = c.documents_are_read_one_way-3.ensures;
       no_manchester = c.defects_are_of_no_document-3.ensures;
       manchester_defect = c.one_first_defect-3.ensures;

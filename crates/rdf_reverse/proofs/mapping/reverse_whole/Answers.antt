@@ -4,7 +4,7 @@ use Rattle.rdf_meaning.specs.Statements.{headers}
 use Rattle.rdf_reverse.specs.Reverse.{IsReverseFault}
 use Rattle.rdf_scans.specs.Outlines.{IsOutlineFault}
 use Rattle.rdf_reverse.proofs.Finding.{err_more, given_by, good_header, header_refused, limit_refused, node_refused, scan_refused}
-use Rattle.rdf_reverse.proofs.mapping.reverse.Goals as goal
+use Rattle.rdf_reverse.proofs.mapping.reverse_whole.Goals as goal
 
 pub returns-in_err-header-clause-fault : goal.returns-in_err-header-clause-fault
 returns-in_err-header-clause-fault c =
