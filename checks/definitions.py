@@ -43,8 +43,8 @@ STEPS = [
     (
         "What a graph says",
         "What each term of a graph denotes under some kinds, by the rows of the W3C's mapping; which head, annotations"
-        " and axioms the graph states; and that nothing of it is passed over.",
-        ["rdf_meaning.specs.Statements.Says"],
+        " and axioms the graph states; and that nothing of it is passed over but redundant types of OWL 1.",
+        ["rdf_meaning.specs.Statements.Says", "rdf_thin.specs.Thinned.thinned"],
     ),
     (
         "Manchester Syntax",
