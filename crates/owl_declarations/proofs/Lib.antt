@@ -1,0 +1,2 @@
+pub mod DeclaringLaws
+pub mod DocumentLaws
