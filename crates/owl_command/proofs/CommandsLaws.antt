@@ -1,11 +1,15 @@
 -- Words ask for one thing.
-use Rattle.std.proofs.Common.{◌≡◌, ℕ, arith, Bool, false, true, List, [], ◌∷◌, ◌++◌, codes, nat_eq, if◌then◌else◌, refl, ap, sym, ◌∙◌, subst}
+use Rattle.std.proofs.Common.{◌≡◌, ◌≢◌, ℕ, arith, Bool, false, true, Option, None, Some, IfSome, List, [], ◌∷◌, ◌++◌, codes, nat_eq, if◌then◌else◌, refl, ap, sym, ◌∙◌, subst}
 use Rattle.std.specs.Fmt.{decimal}
 use Rattle.std.specs.List.{AllByRecursion}
+use Rattle.std.specs.Str.{chars, encode_utf8_all}
 use Rattle.std.proofs.lemmas.Fmt.{decimal_injective}
-use Rattle.owl_command.specs.Commands.{AreDistinct, Asks, IsAllowed, IsName, IsTrialSize, Request, action_words, compares, flag_words, names_of, of_main, profile_word, target_word, tries, words_of}
+use Rattle.std.proofs.lemmas.List.{append_assoc}
+use Rattle.std.proofs.lemmas.Str.{chars-encodes}
+use Rattle.owl_command.specs.Commands.{AreDistinct, AreDocuments, Asks, IsAbsolute, IsAllowed, IsName, IsTrialSize, Request, action_words, base_words, compares, flag_word, flag_words, names_of, of_main, profile_word, target_word, tries, words_of}
 use Rattle.owl_command.specs.declared.command.Action.{Action}
 use Rattle.owl_command.specs.declared.command.Action.TheVariants.{Translate, Check, Show}
+use Rattle.owl_command.specs.declared.command.Options.{Options}
 use Rattle.owl_command.specs.declared.command.Profile.{Profile}
 use Rattle.owl_command.specs.declared.command.Profile.TheVariants.{Dl, El, Ql, Rl}
 use Rattle.owl_command.specs.declared.command.Target.{Target}
@@ -24,16 +28,59 @@ is_show (c ∷ d ∷ cs) = nat_eq d 104
 pub show_is_not_same : codes "show" ≡ codes "same" → ⊥
 show_is_not_same e = let h : true ≡ false = ap is_show e in absurd (cc)
 
--- the flag is no name
-pub flag_is_no_name : (others : List (List ℕ)) → AllByRecursion IsName (codes "--partial" ∷ others) → ⊥
-flag_is_no_name others named = named.0.no_flag (codes "-partial") refl
+-- a word that begins with `-` is no name
+pub option_is_no_name : (word : List ℕ) (others : List (List ℕ)) → AllByRecursion IsName ((codes "-" ++ word) ∷ others) → ⊥
+option_is_no_name word others named = named.0.no_flag word refl
 
--- so it stands in front of names in one way
-pub flags_once : (one other : Bool) (names others : List (List ℕ)) → AllByRecursion IsName names → AllByRecursion IsName others → flag_words one ++ names ≡ flag_words other ++ others → (one ≡ other) × (names ≡ others)
-flags_once true true names others h k e = (refl, cc)
-flags_once true false names others h k e = absurd (flag_is_no_name names (subst (AllByRecursion IsName) (sym e) k))
-flags_once false true names others h k e = absurd (flag_is_no_name others (subst (AllByRecursion IsName) e h))
-flags_once false false names others h k e = (refl, e)
+no_option : (word : List ℕ) (names others : List (List ℕ)) → AllByRecursion IsName names → names ≢ (codes "-" ++ word) ∷ others
+no_option word names others named e = option_is_no_name word others (subst (AllByRecursion IsName) e named)
+
+-- a word that is there or not stands in one way in front of what doesn't begin with it
+pub flag_once : (word : List ℕ) (one other : Bool) (rest more : List (List ℕ)) → ((behind : List (List ℕ)) → rest ≢ word ∷ behind) → ((behind : List (List ℕ)) → more ≢ word ∷ behind) → flag_word word one ++ rest ≡ flag_word word other ++ more → (one ≡ other) × (rest ≡ more)
+flag_once word true true rest more h k e = (refl, cc)
+flag_once word true false rest more h k e = absurd (k rest (sym e))
+flag_once word false true rest more h k e = absurd (h more e)
+flag_once word false false rest more h k e = (refl, e)
+
+-- a base IRI stands in front of names
+module _ (names : List (List ℕ)) (named : AllByRecursion IsName names) where
+  pub no_guess : (base : Option (List ℕ)) (behind : List (List ℕ)) → base_words base ++ names ≢ codes "--guess" ∷ behind
+  no_guess None behind e = no_option (codes "-guess") names behind named e
+  no_guess (Some iri) behind e = cc
+
+  pub no_partial : (guess : Bool) (base : Option (List ℕ)) (behind : List (List ℕ)) → flag_word (codes "--guess") guess ++ (base_words base ++ names) ≢ codes "--partial" ∷ behind
+  no_partial true base behind e = cc
+  no_partial false None behind e = no_option (codes "-partial") names behind named e
+  no_partial false (Some iri) behind e = cc
+
+-- an IRI is told by its bytes
+same_iri : (one other : List ℕ) → IsAbsolute one → IsAbsolute other → encode_utf8_all one ≡ encode_utf8_all other → one ≡ other
+same_iri one other a b e = sym (chars-encodes one a.scalars) ∙ (ap chars e ∙ chars-encodes other b.scalars)
+
+pub base_once : (one other : Option (List ℕ)) (names others : List (List ℕ)) → IfSome one IsAbsolute → IfSome other IsAbsolute → AllByRecursion IsName names → AllByRecursion IsName others → base_words one ++ names ≡ base_words other ++ others → (one ≡ other) × (names ≡ others)
+base_once None None names others a b h k e = (refl, e)
+base_once None (Some iri) names others a b h k e = absurd (no_option (codes "-base") names (encode_utf8_all iri ∷ others) h e)
+base_once (Some iri) None names others a b h k e = absurd (no_option (codes "-base") others (encode_utf8_all iri ∷ names) k (sym e))
+base_once (Some one) (Some other) names others a b h k e =
+    let bytes : encode_utf8_all one ≡ encode_utf8_all other = cc in
+    (ap Some (same_iri one other a b bytes), cc)
+
+-- one option in front of the others
+pub flags_front : (options : Options) (names : List (List ℕ)) → flag_words options ++ names ≡ flag_word (codes "--partial") options.partial ++ (flag_word (codes "--guess") options.guess ++ (base_words options.base ++ names))
+flags_front options names =
+    append_assoc (flag_word (codes "--partial") options.partial) (flag_word (codes "--guess") options.guess ++ base_words options.base) names
+    ∙ ap (λ ws. flag_word (codes "--partial") options.partial ++ ws) (append_assoc (flag_word (codes "--guess") options.guess) (base_words options.base) names)
+
+pub same_options : (one other : Options) → one.partial ≡ other.partial → one.guess ≡ other.guess → one.base ≡ other.base → one ≡ other
+same_options one other p g b = λ i. record { partial = p i; guess = g i; base = b i }
+
+-- so options stand in front of names in one way
+pub flags_once : (one other : Options) (names others : List (List ℕ)) → AreDocuments one names → AreDocuments other others → flag_words one ++ names ≡ flag_words other ++ others → (one ≡ other) × (names ≡ others)
+flags_once one other names others h k e =
+    let partial = flag_once (codes "--partial") one.partial other.partial (flag_word (codes "--guess") one.guess ++ (base_words one.base ++ names)) (flag_word (codes "--guess") other.guess ++ (base_words other.base ++ others)) (no_partial names h.named.named one.guess one.base) (no_partial others k.named.named other.guess other.base) (sym (flags_front one names) ∙ (e ∙ flags_front other others)) in
+    let guess = flag_once (codes "--guess") one.guess other.guess (base_words one.base ++ names) (base_words other.base ++ others) (no_guess names h.named.named one.base) (no_guess others k.named.named other.base) partial.1 in
+    let base = base_once one.base other.base names others h.based k.based h.named.named k.named.named guess.1 in
+    (same_options one other partial.0 guess.0 base.0, base.1)
 
 -- the first letter of a word
 abbrev first_letter : List ℕ → ℕ
@@ -108,7 +155,7 @@ size_once one other h k e = decimal_injective one other (omega (arith, h.few)) (
 
 -- documents are named, and each once
 pub allowed_names : (request : Request) → IsAllowed request → AllByRecursion IsName (names_of request) × AreDistinct (names_of request)
-allowed_names (of_main action partial names) h = (h.named, h.distinct)
+allowed_names (of_main action options names) h = (h.named.named, h.named.distinct)
 allowed_names (compares first second) h = (h.named, h.distinct)
 allowed_names (tries size) h = (tt, tt)
 
@@ -118,7 +165,7 @@ asks_once words one other h k = by_words one other h.allowed k.allowed (sym h.ar
     by_words : (one other : Request) → IsAllowed one → IsAllowed other → words_of one ≡ words_of other → one ≡ other
     by_words (of_main a p names) (of_main b q others) h k e =
         let action = actions_once a b (flag_words p ++ names) (flag_words q ++ others) e in
-        let once = flags_once p q names others h.named k.named action.1 in
+        let once = flags_once p q names others h k action.1 in
         cc
     by_words (of_main a p names) (compares first second) h k e =
         absurd (action_is_not_same a (flag_words p ++ names) (first ∷ second ∷ []) e)

@@ -1,3 +1,4 @@
 pub mod Asking
 pub mod CommandsLaws
 pub mod Sizes
+pub mod SourceLaws

@@ -1,8 +1,9 @@
 -- What the words of the command line ask for.
-use Rattle.std.specs.Prelude.{◌≡◌, ◌≢◌, ◌<◌, ◌≤◌, ◌⊎◌, ℕ, Bool, false, true, List, [], ◌∷◌, ◌++◌, length, map, codes}
+use Rattle.std.specs.Prelude.{◌≡◌, ◌≢◌, ◌<◌, ◌≤◌, ◌⊎◌, ℕ, Bool, false, true, Option, None, Some, IfSome, List, [], ◌∷◌, ◌++◌, length, map, codes}
 use Rattle.std.specs.Fmt.{decimal}
 use Rattle.std.specs.List.{AllByRecursion}
-use Rattle.std.specs.Str.{encode_utf8_all}
+use Rattle.std.specs.Str.{all_scalars, encode_utf8_all}
+use Rattle.owl_characters.specs.Iri.{IsIri}
 use Rattle.owl_command.specs.declared.command.Target.{Target}
 use Rattle.owl_command.specs.declared.command.Target.TheVariants.{Fss, Ttl, Omn}
 use Rattle.owl_command.specs.declared.command.Profile.{Profile}
@@ -11,6 +12,7 @@ use Rattle.owl_command.specs.declared.command.Action.{Action}
 use Rattle.owl_command.specs.declared.command.Action.TheVariants.{Translate, Check, Show}
 use Rattle.owl_command.specs.declared.command.Command.{Command}
 use Rattle.owl_command.specs.declared.command.Command.TheVariants.{OfMain, Same, Trial}
+use Rattle.owl_command.specs.declared.command.Options.{Options}
 
 -- the name ends in the suffix, behind at least one character
 pub record EndsIn (suffix name : List ℕ) : Type 0 where
@@ -48,6 +50,16 @@ pub record AreNames (names : List (List ℕ)) : Type 0 where
   pub named : AllByRecursion IsName names
   pub distinct : AreDistinct names
 
+-- an absolute IRI, in characters: a scheme, a colon, and what an IRI may have behind it
+pub record IsAbsolute (iri : List ℕ) : Type 0 where
+  pub scalars : all_scalars iri ≡ true
+  pub is : IsIri iri
+
+-- Documents by their names, and an absolute base IRI, if any.
+pub record AreDocuments (options : Options) (names : List (List ℕ)) : Type 0 where
+  pub named : AreNames names
+  pub based : IfSome options.base IsAbsolute
+
 -- the most classes that the document of a trial has
 abbrev pub most_classes : ℕ
 most_classes = 20000
@@ -58,29 +70,55 @@ pub record IsTrialSize (size : ℕ) : Type 0 where
   pub few : size ≤ most_classes
 
 -- What words can ask for: an action, whether two documents say the same, or a trial of the program on a document of its own, with so
--- many classes. An action is of a main document, whose name is the first, and of those that it may import; imports may be missing
--- where that is said. Names are in bytes.
+-- many classes. An action is of a main document, whose name is the first, and of those that it may import. Imports may be missing,
+-- predicates may be guessed to be annotation properties, and the main document may have a base IRI, where that is said. Names are in
+-- bytes, and a base IRI in characters.
 pub data Request : Type 0 where
-  of_main : Action → Bool → List (List ℕ) → Request
+  of_main : Action → Options → List (List ℕ) → Request
   compares : List ℕ → List ℕ → Request
   tries : ℕ → Request
 
 -- the documents, in the order in which they are read
 abbrev pub names_of : Request → List (List ℕ)
-names_of (of_main action partial names) = names
+names_of (of_main action options names) = names
 names_of (compares first second) = first ∷ second ∷ []
 names_of (tries size) = []
 
--- the documents may be named so, or the trial may have this size
+-- a document that is read, by its name, with the base IRI that it is read against, if any
+pub record Source : Type 0 where
+  pub name : List ℕ
+  pub base : Option (List ℕ)
+
+abbrev pub without_base : List ℕ → Source
+without_base name = record { name = name; base = None }
+
+-- the base IRI is that of the main document, which is the first
+abbrev pub sources_against : Option (List ℕ) → List (List ℕ) → List Source
+sources_against base [] = []
+sources_against base (name ∷ names) = record { name = name; base = base } ∷ map without_base names
+
+-- the documents with their base IRIs, in the order in which they are read
+abbrev pub sources_of : Request → List Source
+sources_of (of_main action options names) = sources_against options.base names
+sources_of request = map without_base (names_of request)
+
+-- the documents may be named so, with this base IRI, or the trial may have this size
 abbrev pub IsAllowed : Request → Type 0
+IsAllowed (of_main action options names) = AreDocuments options names
+IsAllowed (compares first second) = AreNames (first ∷ second ∷ [])
 IsAllowed (tries size) = IsTrialSize size
-IsAllowed request = AreNames (names_of request)
 
 -- each import has to be there
 abbrev pub AsksImports : Request → Type 0
-AsksImports (of_main action partial names) = partial ≡ false
+AsksImports (of_main action options names) = options.partial ≡ false
 AsksImports (compares first second) = ⊥
 AsksImports (tries size) = ⊥
+
+-- predicates are guessed to be annotation properties
+abbrev pub Guesses : Request → Type 0
+Guesses (of_main action options names) = options.guess ≡ true
+Guesses (compares first second) = ⊥
+Guesses (tries size) = ⊥
 
 -- the word of a target
 abbrev pub target_word : Target → List ℕ
@@ -101,14 +139,23 @@ action_words (Translate target) = codes "translate" ∷ codes "--to" ∷ target_
 action_words (Check profile) = codes "check" ∷ codes "--profile" ∷ profile_word profile ∷ []
 action_words Show = codes "show" ∷ []
 
--- the word by which imports may be missing
-abbrev pub flag_words : Bool → List (List ℕ)
-flag_words false = []
-flag_words true = codes "--partial" ∷ []
+-- a word that is there or not
+abbrev pub flag_word : List ℕ → Bool → List (List ℕ)
+flag_word word false = []
+flag_word word true = word ∷ []
+
+-- the words of a base IRI, if there is one
+abbrev pub base_words : Option (List ℕ) → List (List ℕ)
+base_words None = []
+base_words (Some iri) = codes "--base" ∷ encode_utf8_all iri ∷ []
+
+-- the words of the options, in this order
+abbrev pub flag_words : Options → List (List ℕ)
+flag_words options = flag_word (codes "--partial") options.partial ++ (flag_word (codes "--guess") options.guess ++ base_words options.base)
 
 -- the words, in bytes
 abbrev pub words_of : Request → List (List ℕ)
-words_of (of_main action partial names) = action_words action ++ (flag_words partial ++ names)
+words_of (of_main action options names) = action_words action ++ (flag_words options ++ names)
 words_of (compares first second) = codes "same" ∷ first ∷ second ∷ []
 words_of (tries size) = codes "trial" ∷ decimal size ∷ []
 
@@ -129,7 +176,7 @@ pub record Name (words : List (List ℕ)) (name : List ℕ) : Type 0 where
 
 -- what a command asks for
 abbrev pub request_of : Command → Request
-request_of (OfMain action partial names) = of_main action partial (map encode_utf8_all names.items)
+request_of (OfMain action options names) = of_main action options (map encode_utf8_all names.items)
 request_of (Same first second) = compares (encode_utf8_all first) (encode_utf8_all second)
 request_of (Trial size) = tries size
 

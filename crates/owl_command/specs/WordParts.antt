@@ -1,22 +1,37 @@
 -- What the first words of the command line leave to those behind them.
-use Rattle.std.specs.Prelude.{◌≡◌, ◌≢◌, ◌==◌, ◌&&◌, ℕ, Bool, false, get_or, not, List, [], ◌∷◌, ◌++◌, codes}
+use Rattle.std.specs.Prelude.{◌≡◌, ◌≢◌, ◌==◌, ◌&&◌, ℕ, Bool, false, get_or, not, Option, IfSome, List, [], ◌∷◌, ◌++◌}
 use Rattle.std.specs.Fmt.{decimal}
 use Rattle.std.specs.Str.{all_ascii_digits}
-use Rattle.owl_command.specs.Commands.{AreNames, IsTrialSize, flag_words}
+use Rattle.owl_command.specs.Commands.{AreDocuments, AreNames, IsAbsolute, IsTrialSize, base_words, flag_word, flag_words}
+use Rattle.owl_command.specs.declared.command.Options.{Options}
+use Rattle.owl_command.specs.declared.command.WordsFault.{WordsFault}
+use Rattle.owl_command.specs.declared.command.WordsFault.TheVariants.{Words, Memory}
+use Rattle.rdf_terms.specs.declared.fault.IriFault.{IriFault}
+use Rattle.rdf_terms.specs.declared.fault.IriFault.TheVariants.{BadIri, Memory as IriMemory}
 
--- imports may be missing where the first word says so
-pub record IsStripped (words : List (List ℕ)) (partial : Bool) (others : List (List ℕ)) : Type 0 where
-  pub are : words ≡ flag_words partial ++ others
-  pub whole : partial ≡ false → (rest : List (List ℕ)) → words ≢ codes "--partial" ∷ rest
+-- whether this word stands first, and what is left behind it
+pub record IsStripped (word : List ℕ) (words : List (List ℕ)) (flag : Bool) (others : List (List ℕ)) : Type 0 where
+  pub are : words ≡ flag_word word flag ++ others
+  pub whole : flag ≡ false → (rest : List (List ℕ)) → words ≢ word ∷ rest
 
--- these names, and whether imports may be missing
-pub record NameWith (words : List (List ℕ)) (partial : Bool) (names : List (List ℕ)) : Type 0 where
+-- these names, behind the words of this base IRI, if any
+pub record NameAgainst (words : List (List ℕ)) (base : Option (List ℕ)) (names : List (List ℕ)) : Type 0 where
   pub right : AreNames names
-  pub are : words ≡ flag_words partial ++ names
+  pub absolute : IfSome base IsAbsolute
+  pub are : words ≡ base_words base ++ names
+
+-- no names of documents, nor behind a base IRI
+abbrev pub NameNoneAgainst : List (List ℕ) → Type 0
+NameNoneAgainst words = (base : Option (List ℕ)) (names : List (List ℕ)) → NameAgainst words base names → ⊥
+
+-- these names, behind the words of these options
+pub record NameWith (words : List (List ℕ)) (options : Options) (names : List (List ℕ)) : Type 0 where
+  pub right : AreDocuments options names
+  pub are : words ≡ flag_words options ++ names
 
 -- no names of documents
 abbrev pub NameNone : List (List ℕ) → Type 0
-NameNone words = (partial : Bool) (names : List (List ℕ)) → NameWith words partial names → ⊥
+NameNone words = (options : Options) (names : List (List ℕ)) → NameWith words options names → ⊥
 
 -- two names of documents
 pub record AreTwoNames (words : List (List ℕ)) : Type 0 where
@@ -44,3 +59,8 @@ pub record IsOneSize (words : List (List ℕ)) : Type 0 where
   pub word : List ℕ
   pub are : words ≡ word ∷ []
   pub is : IsSizeWord word size
+
+-- what comes of words whose base is no IRI
+abbrev pub fault_of_iri : IriFault → WordsFault
+fault_of_iri BadIri = Words
+fault_of_iri IriMemory = Memory

@@ -1,12 +1,15 @@
 //! The words of the command line.
 
 ghost use Rattle.std.specs.Prelude.{◌≡◌, ◌≢◌, ◌∷◌, ◌++◌, ◌<◌, ◌↔◌, List, ℕ, Some, length, map, slice_get, string_bytes, IsTrue, IfOk, IfSome, IfNone, IsErrOf, codes};
-ghost use Rattle.owl_command.specs.Commands.{AsksImports, HasNoCommand, IsCommand, action_words, names_of, profile_word, request_of, target_word};
-ghost use Rattle.owl_command.specs.WordParts.{AreTwoNames, IsOneSize, IsStripped, NameNone, NameWith};
+ghost use Rattle.std.specs.Option.{option_copied, option_map};
+ghost use Rattle.std.specs.Str.{encode_utf8_all};
+ghost use Rattle.owl_command.specs.Commands.{AsksImports, Guesses, HasNoCommand, IsCommand, action_words, names_of, profile_word, request_of, sources_of, target_word};
+ghost use Rattle.owl_command.specs.WordParts.{AreTwoNames, IsOneSize, IsStripped, NameAgainst, NameNone, NameNoneAgainst};
 
 use crate::names::{are_names, is_word, texts_of};
 use crate::size::trial_size;
 use owl_characters::{NoMemory, Text};
+use rdf_terms::{Iri, IriFault};
 use std::alloc::Global;
 use thiserror::Error;
 
@@ -59,15 +62,25 @@ pub enum Action {
     Show,
 }
 
+/// How the documents of an action are read.
+#[derive(Debug, Drop)]
+pub struct Options {
+    /// Imports may be missing.
+    pub partial: bool,
+    /// Predicates that nothing declares are guessed to be annotation properties.
+    pub guess: bool,
+    /// The base IRI of the main document, where one is given.
+    pub base: Option<Iri>,
+}
+
 /// What the words ask for. The first of several names is that of the main
-/// document, and the others are those of documents that it may import. Where it
-/// is `partial`, imports may be missing.
+/// document, and the others are those of documents that it may import.
 #[derive(Debug, Drop)]
 pub enum Command {
-    /// `ACTION [--partial] MAIN {IMPORT}`
+    /// `ACTION [--partial] [--guess] [--base IRI] MAIN {IMPORT}`
     OfMain {
         action: Action,
-        partial: bool,
+        options: Options,
         names: Vec<Text>,
     },
     /// `same FIRST SECOND`
@@ -117,8 +130,38 @@ impl Command {
         ensures { IsTrue result ↔ AsksImports (request_of self.now) }
     {
         match self {
-            Command::OfMain { partial, .. } => !*partial,
+            Command::OfMain { options, .. } => !options.partial,
             Command::Same { .. } | Command::Trial { .. } => false,
+        }
+    }
+
+    /// Whether predicates that nothing declares are guessed to be annotation
+    /// properties.
+    pub fn guesses(&self) -> bool
+        ensures { IsTrue result ↔ Guesses (request_of self.now) }
+    {
+        match self {
+            Command::OfMain { options, .. } => options.guess,
+            Command::Same { .. } | Command::Trial { .. } => false,
+        }
+    }
+
+    /// The base IRI of the document at this place: that of the main document, the
+    /// first, where one is given.
+    pub fn base(&self, place: usize) -> Option<&Iri>
+        requires { place < length (names_of (request_of self.now)) }
+        ensures { option_map (λ s. s.base) (slice_get (sources_of (request_of self.now)) place)
+            ≡ Some (option_copied result) }
+    {
+        match self {
+            Command::OfMain { options, .. } => {
+                if place == 0 {
+                    options.base.as_ref()
+                } else {
+                    None
+                }
+            }
+            Command::Same { .. } | Command::Trial { .. } => None,
         }
     }
 }
@@ -141,6 +184,19 @@ impl From<NoMemory> for WordsFault {
 
     fn from(_e: NoMemory) -> WordsFault {
         WordsFault::Memory
+    }
+}
+
+impl From<IriFault> for WordsFault {
+    ghost use Rattle.owl_command.specs.WordParts.{fault_of_iri};
+
+    ghost from_gives = { λ fault e. e ≡ fault_of_iri fault };
+
+    fn from(fault: IriFault) -> WordsFault {
+        match fault {
+            IriFault::BadIri => WordsFault::Words,
+            IriFault::Memory => WordsFault::Memory,
+        }
     }
 }
 
@@ -261,27 +317,65 @@ fn strip_action(words: &[String]) -> Option<(Action, &[String])>
     Some((Action::Show, others))
 }
 
-/// Whether imports may be missing, and the words behind that.
-fn strip_flag(words: &[String]) -> (bool, &[String])
-    ensures { IsStripped (map string_bytes words.now) result.0 (map string_bytes result.1.now) }
+/// Whether this word stands first, and the words behind it.
+fn strip_flag<'a>(words: &'a [String], word: &str) -> (bool, &'a [String])
+    ensures { IsStripped word.now (map string_bytes words.now)
+        result.0 (map string_bytes result.1.now) }
 {
-    match strip(words, "--partial") {
+    match strip(words, word) {
         Some(others) => (true, others),
         None => (false, words),
     }
 }
 
-/// Whether imports may be missing, and the names.
-fn documents(words: &[String]) -> Option<(bool, &[String])>
-    ensures some { IfSome result (λ found. NameWith (map string_bytes words.now) found.0 (map string_bytes found.1.now)) }
-    ensures none { IfNone result (NameNone (map string_bytes words.now)) }
+/// The word behind `--base`, and what stands behind it.
+fn strip_base(words: &[String]) -> Option<(&str, &[String])>
+    ensures some { IfSome result (λ found.
+        map string_bytes words.now ≡ codes "--base" ∷ found.0.now ∷ map string_bytes found.1.now) }
+    ensures none { IfNone result ((iri : List ℕ) (others : List (List ℕ)) →
+        map string_bytes words.now ≢ codes "--base" ∷ iri ∷ others) }
 {
-    let (partial, names) = strip_flag(words);
-    if are_names(names) {
-        Some((partial, names))
-    } else {
-        None
+    match strip(words, "--base")? {
+        [iri, others @ ..] => Some((iri.as_str(), others)),
+        [] => None,
     }
+}
+
+/// The names of documents, of which the first has this base IRI.
+fn based(alloc: Global, iri: &str, names: &[String]) -> Result<(Option<Iri>, Vec<Text>), WordsFault>
+    ensures names { IfOk result (λ found.
+        NameAgainst (codes "--base" ∷ iri.now ∷ map string_bytes names.now)
+        found.0 (map encode_utf8_all found.1.items)) }
+    ensures none { IsErrOf result WordsFault.Words
+        → NameNoneAgainst (codes "--base" ∷ iri.now ∷ map string_bytes names.now) }
+    ensures refused { NameNoneAgainst (codes "--base" ∷ iri.now ∷ map string_bytes names.now)
+        → IsErrOf result WordsFault.Words }
+{
+    if !are_names(names) {
+        return Err(WordsFault::Words);
+    }
+    let base = Iri::of(alloc, iri)?;
+    // Its characters are those of an IRI.
+    base.text();
+    Ok((Some(base), texts_of(alloc, names)?))
+}
+
+/// The base IRI, where one is given, and the names of documents.
+fn documents(alloc: Global, words: &[String]) -> Result<(Option<Iri>, Vec<Text>), WordsFault>
+    ensures names { IfOk result (λ found. NameAgainst (map string_bytes words.now)
+        found.0 (map encode_utf8_all found.1.items)) }
+    ensures none { IsErrOf result WordsFault.Words
+        → NameNoneAgainst (map string_bytes words.now) }
+    ensures refused { NameNoneAgainst (map string_bytes words.now)
+        → IsErrOf result WordsFault.Words }
+{
+    if let Some((iri, names)) = strip_base(words) {
+        return based(alloc, iri, names);
+    }
+    if !are_names(words) {
+        return Err(WordsFault::Words);
+    }
+    Ok((None, texts_of(alloc, words)?))
 }
 
 /// What the words behind those of an action ask for.
@@ -291,11 +385,18 @@ fn of_main(alloc: Global, action: Action, words: &[String]) -> Result<Command, W
     ensures none { IsErrOf result WordsFault.Words → NameNone (map string_bytes words.now) }
     ensures refused { NameNone (map string_bytes words.now) → IsErrOf result WordsFault.Words }
 {
-    let (partial, names) = documents(words).ok_or(WordsFault::Words)?;
+    let (partial, words) = strip_flag(words, "--partial");
+    let (guess, words) = strip_flag(words, "--guess");
+    let (base, names) = documents(alloc, words)?;
+    let options = Options {
+        partial,
+        guess,
+        base,
+    };
     Ok(Command::OfMain {
         action,
-        partial,
-        names: texts_of(alloc, names)?,
+        options,
+        names,
     })
 }
 
