@@ -1,5 +1,5 @@
 -- The bytes under a name are read in one way, or have one defect.
-use Rattle.std.proofs.Common.{◌≡◌, ◌≤◌, ℕ, None, List, [], ◌∷◌, length, ap, subst}
+use Rattle.std.proofs.Common.{◌≡◌, ◌≤◌, ℕ, Option, List, [], ◌∷◌, length, ap, sym, ◌∙◌, subst}
 use Rattle.owl_characters.specs.Limit.{most_bytes}
 use Rattle.owl_atom.specs.Prefixes.{iri_of}
 use Rattle.owl_atom.specs.declared.prefixes.Prefix.{Prefix}
@@ -27,9 +27,9 @@ pub record GrammarLaws : Type 0 where
   pub functional : (bytes : List ℕ) (p q : List Prefix) (o u : Ontology) → ReadsFunctional bytes p o → ReadsFunctional bytes q u → (p ≡ q) × IsSameOntology o u
   pub no_functional : (bytes : List ℕ) (fault : ReadFault) (p : List Prefix) (o : Ontology) → fss.IsFirstDefect bytes fault → ReadsFunctional bytes p o → ⊥
   pub functional_defect : (bytes : List ℕ) (fault other : ReadFault) → length bytes ≤ most_bytes → fss.IsFirstDefect bytes fault → fss.IsFirstDefect bytes other → fault ≡ other
-  pub turtle : (bytes : List ℕ) (p q : List Prefix) (g h : List Triple) → ReadsTurtle None bytes p g → ReadsTurtle None bytes q h → (g ≡ h) × ((name : List ℕ) → iri_of p name ≡ iri_of q name)
-  pub no_turtle : (bytes : List ℕ) (fault : ReadFault) (p : List Prefix) (g : List Triple) → ttl.IsFirstDefect None bytes fault → ReadsTurtle None bytes p g → ⊥
-  pub turtle_defect : (bytes : List ℕ) (fault other : ReadFault) → length bytes ≤ most_bytes → ttl.IsFirstDefect None bytes fault → ttl.IsFirstDefect None bytes other → fault ≡ other
+  pub turtle : (base : Option (List ℕ)) (bytes : List ℕ) (p q : List Prefix) (g h : List Triple) → ReadsTurtle base bytes p g → ReadsTurtle base bytes q h → (g ≡ h) × ((name : List ℕ) → iri_of p name ≡ iri_of q name)
+  pub no_turtle : (base : Option (List ℕ)) (bytes : List ℕ) (fault : ReadFault) (p : List Prefix) (g : List Triple) → ttl.IsFirstDefect base bytes fault → ReadsTurtle base bytes p g → ⊥
+  pub turtle_defect : (base : Option (List ℕ)) (bytes : List ℕ) (fault other : ReadFault) → length bytes ≤ most_bytes → ttl.IsFirstDefect base bytes fault → ttl.IsFirstDefect base bytes other → fault ≡ other
   pub manchester : (bytes : List ℕ) (d e : DocumentTree) → ReadsManchester bytes d → ReadsManchester bytes e → AreSameDocuments d e
   pub no_manchester : (bytes : List ℕ) (fault : ReadFault) (d : DocumentTree) → man.IsFirstDefect bytes fault → ReadsManchester bytes d → ⊥
   pub manchester_defect : (bytes : List ℕ) (fault other : ReadFault) → length bytes ≤ most_bytes → man.IsFirstDefect bytes fault → man.IsFirstDefect bytes other → fault ≡ other
@@ -41,60 +41,61 @@ module _ (laws : GrammarLaws) where
       let prefixes = tables_are_told_by_names d.prefixes e.prefixes r.ascending s.ascending one.prefixes in
       λ i. record { head = one.head i; prefixes = prefixes i; notes = one.notes i; items = one.items i }
 
-  same_graph : (bytes : List ℕ) (a b : GraphRead) → ReadsGraph bytes a → ReadsGraph bytes b → IsSameGraph a b
-  same_graph bytes a b r s =
-      let one = laws.turtle bytes a.prefixes b.prefixes a.triples b.triples r.reads s.reads in
+  same_graph : (base : Option (List ℕ)) (bytes : List ℕ) (a b : GraphRead) → ReadsGraph base bytes a → ReadsGraph base bytes b → IsSameGraph a b
+  same_graph base bytes a b r s =
+      let one = laws.turtle base bytes a.prefixes b.prefixes a.triples b.triples r.reads s.reads in
       record {
         prefixes = same_tables a.prefixes b.prefixes r.ascending s.ascending r.plain s.plain one.1;
         triples = one.0;
         head = same_head b.triples r.header s.header a.head b.head (subst (λ (g : List Triple). headers g ≡ r.header ∷ []) one.0 r.one_header) s.one_header (subst (λ (g : List Triple). IsHeadOf g r.header a.head) one.0 r.is_head) s.is_head;
+        guessed = r.none_guessed ∙ sym s.none_guessed;
       }
 
-  pub same_parsed : (name bytes : List ℕ) (parsed other : Parsed) → Reads name bytes parsed → Reads name bytes other → IsSameParsed parsed other
-  same_parsed name bytes (an_ontology a) (an_ontology b) r s =
+  pub same_parsed : (base : Option (List ℕ)) (name bytes : List ℕ) (parsed other : Parsed) → Reads base name bytes parsed → Reads base name bytes other → IsSameParsed parsed other
+  same_parsed base name bytes (an_ontology a) (an_ontology b) r s =
       let one = laws.functional bytes a.prefixes b.prefixes a.ontology b.ontology r.1 s.1 in
       record { prefixes = one.0; ontology = one.1 }
-  same_parsed name bytes (an_ontology a) (a_graph b) r s = let no = r.0 in let yes = s.0 in cc
-  same_parsed name bytes (a_graph a) (an_ontology b) r s = let yes = r.0 in let no = s.0 in cc
-  same_parsed name bytes (a_graph a) (a_graph b) r s = same_graph bytes a b r.1 s.1
-  same_parsed name bytes (the_frames a) (the_frames b) r s = same_frames bytes a b r.1 s.1
-  same_parsed name bytes (an_ontology a) (the_frames b) r s = let one = r.0 in let other = s.0 in cc
-  same_parsed name bytes (a_graph a) (the_frames b) r s = let one = r.0 in let other = s.0 in cc
-  same_parsed name bytes (the_frames a) (an_ontology b) r s = let one = r.0 in let other = s.0 in cc
-  same_parsed name bytes (the_frames a) (a_graph b) r s = let one = r.0 in let other = s.0 in cc
+  same_parsed base name bytes (an_ontology a) (a_graph b) r s = let no = r.0 in let yes = s.0 in cc
+  same_parsed base name bytes (a_graph a) (an_ontology b) r s = let yes = r.0 in let no = s.0 in cc
+  same_parsed base name bytes (a_graph a) (a_graph b) r s = same_graph base bytes a b r.1 s.1
+  same_parsed base name bytes (the_frames a) (the_frames b) r s = same_frames bytes a b r.1 s.1
+  same_parsed base name bytes (an_ontology a) (the_frames b) r s = let one = r.0 in let other = s.0 in cc
+  same_parsed base name bytes (a_graph a) (the_frames b) r s = let one = r.0 in let other = s.0 in cc
+  same_parsed base name bytes (the_frames a) (an_ontology b) r s = let one = r.0 in let other = s.0 in cc
+  same_parsed base name bytes (the_frames a) (a_graph b) r s = let one = r.0 in let other = s.0 in cc
 
-  pub no_defect : (name bytes : List ℕ) (parsed : Parsed) (refusal : Refusal) → Reads name bytes parsed → IsDefect name bytes refusal → ⊥
-  no_defect name bytes (an_ontology a) _ r (of_functional fault t d) = laws.no_functional bytes fault a.prefixes a.ontology d r.1
-  no_defect name bytes (an_ontology a) _ r (of_turtle fault t d) = let f = r.0 in cc
-  no_defect name bytes (an_ontology a) _ r (of_header fault p g t s m f) = let n = r.0 in cc
-  no_defect name bytes (an_ontology a) _ r (of_manchester fault t d) = let f = r.0 in cc
-  no_defect name bytes (a_graph a) _ r (of_functional fault t d) = let y = r.0 in cc
-  no_defect name bytes (a_graph a) _ r (of_manchester fault t d) = let y = r.0 in cc
-  no_defect name bytes (the_frames a) _ r (of_functional fault t d) = let m = r.0 in cc
-  no_defect name bytes (the_frames a) _ r (of_turtle fault t d) = let m = r.0 in cc
-  no_defect name bytes (the_frames a) _ r (of_manchester fault t d) = laws.no_manchester bytes fault a d r.1.reads
-  no_defect name bytes (the_frames a) _ r (of_header fault p g t s m f) = let n = r.0 in cc
-  no_defect name bytes (a_graph a) _ r (of_turtle fault t d) = laws.no_turtle bytes fault a.prefixes a.triples d r.1.reads
-  no_defect name bytes (a_graph a) _ r (of_header fault p g t s m f) =
-      let same = (laws.turtle bytes p a.prefixes g a.triples s r.1.reads).0 in
+  pub no_defect : (base : Option (List ℕ)) (name bytes : List ℕ) (parsed : Parsed) (refusal : Refusal) → Reads base name bytes parsed → IsDefect base name bytes refusal → ⊥
+  no_defect base name bytes (an_ontology a) _ r (of_functional fault t d) = laws.no_functional bytes fault a.prefixes a.ontology d r.1
+  no_defect base name bytes (an_ontology a) _ r (of_turtle fault t d) = let f = r.0 in cc
+  no_defect base name bytes (an_ontology a) _ r (of_header fault p g t s m f) = let n = r.0 in cc
+  no_defect base name bytes (an_ontology a) _ r (of_manchester fault t d) = let f = r.0 in cc
+  no_defect base name bytes (a_graph a) _ r (of_functional fault t d) = let y = r.0 in cc
+  no_defect base name bytes (a_graph a) _ r (of_manchester fault t d) = let y = r.0 in cc
+  no_defect base name bytes (the_frames a) _ r (of_functional fault t d) = let m = r.0 in cc
+  no_defect base name bytes (the_frames a) _ r (of_turtle fault t d) = let m = r.0 in cc
+  no_defect base name bytes (the_frames a) _ r (of_manchester fault t d) = laws.no_manchester bytes fault a d r.1.reads
+  no_defect base name bytes (the_frames a) _ r (of_header fault p g t s m f) = let n = r.0 in cc
+  no_defect base name bytes (a_graph a) _ r (of_turtle fault t d) = laws.no_turtle base bytes fault a.prefixes a.triples d r.1.reads
+  no_defect base name bytes (a_graph a) _ r (of_header fault p g t s m f) =
+      let same = (laws.turtle base bytes p a.prefixes g a.triples s r.1.reads).0 in
       no_fault a.triples fault r.1.header a.head r.1.one_header r.1.is_head m (subst (λ (h : List Triple). IsOutlineFault h fault) same f)
 
-  pub one_defect : (name bytes : List ℕ) (refusal other : Refusal) → length bytes ≤ most_bytes → IsDefect name bytes refusal → IsDefect name bytes other → refusal ≡ other
-  one_defect name bytes _ _ few (of_functional fault t d) (of_functional other u e) = ap Unreadable (laws.functional_defect bytes fault other few d e)
-  one_defect name bytes _ _ few (of_functional fault t d) (of_turtle other u e) = absurd (cc)
-  one_defect name bytes _ _ few (of_functional fault t d) (of_header other p g u s m f) = absurd (cc)
-  one_defect name bytes _ _ few (of_functional fault t d) (of_manchester other u e) = absurd (cc)
-  one_defect name bytes _ _ few (of_turtle fault t d) (of_functional other u e) = absurd (cc)
-  one_defect name bytes _ _ few (of_turtle fault t d) (of_manchester other u e) = absurd (cc)
-  one_defect name bytes _ _ few (of_manchester fault t d) (of_functional other u e) = absurd (cc)
-  one_defect name bytes _ _ few (of_manchester fault t d) (of_turtle other u e) = absurd (cc)
-  one_defect name bytes _ _ few (of_manchester fault t d) (of_manchester other u e) = ap Unreadable (laws.manchester_defect bytes fault other few d e)
-  one_defect name bytes _ _ few (of_manchester fault t d) (of_header other p g u s m f) = absurd (cc)
-  one_defect name bytes _ _ few (of_header fault p g t s m f) (of_manchester other u e) = absurd (cc)
-  one_defect name bytes _ _ few (of_turtle fault t d) (of_turtle other u e) = ap Unreadable (laws.turtle_defect bytes fault other few d e)
-  one_defect name bytes _ _ few (of_turtle fault t d) (of_header other p g u s m f) = absurd (laws.no_turtle bytes fault p g d s)
-  one_defect name bytes _ _ few (of_header fault p g t s m f) (of_functional other u e) = absurd (cc)
-  one_defect name bytes _ _ few (of_header fault p g t s m f) (of_turtle other u e) = absurd (laws.no_turtle bytes other p g e s)
-  one_defect name bytes _ _ few (of_header fault p g t s m f) (of_header other q h u r n e) =
-      let same = (laws.turtle bytes p q g h s r).0 in
+  pub one_defect : (base : Option (List ℕ)) (name bytes : List ℕ) (refusal other : Refusal) → length bytes ≤ most_bytes → IsDefect base name bytes refusal → IsDefect base name bytes other → refusal ≡ other
+  one_defect base name bytes _ _ few (of_functional fault t d) (of_functional other u e) = ap Unreadable (laws.functional_defect bytes fault other few d e)
+  one_defect base name bytes _ _ few (of_functional fault t d) (of_turtle other u e) = absurd (cc)
+  one_defect base name bytes _ _ few (of_functional fault t d) (of_header other p g u s m f) = absurd (cc)
+  one_defect base name bytes _ _ few (of_functional fault t d) (of_manchester other u e) = absurd (cc)
+  one_defect base name bytes _ _ few (of_turtle fault t d) (of_functional other u e) = absurd (cc)
+  one_defect base name bytes _ _ few (of_turtle fault t d) (of_manchester other u e) = absurd (cc)
+  one_defect base name bytes _ _ few (of_manchester fault t d) (of_functional other u e) = absurd (cc)
+  one_defect base name bytes _ _ few (of_manchester fault t d) (of_turtle other u e) = absurd (cc)
+  one_defect base name bytes _ _ few (of_manchester fault t d) (of_manchester other u e) = ap Unreadable (laws.manchester_defect bytes fault other few d e)
+  one_defect base name bytes _ _ few (of_manchester fault t d) (of_header other p g u s m f) = absurd (cc)
+  one_defect base name bytes _ _ few (of_header fault p g t s m f) (of_manchester other u e) = absurd (cc)
+  one_defect base name bytes _ _ few (of_turtle fault t d) (of_turtle other u e) = ap Unreadable (laws.turtle_defect base bytes fault other few d e)
+  one_defect base name bytes _ _ few (of_turtle fault t d) (of_header other p g u s m f) = absurd (laws.no_turtle base bytes fault p g d s)
+  one_defect base name bytes _ _ few (of_header fault p g t s m f) (of_functional other u e) = absurd (cc)
+  one_defect base name bytes _ _ few (of_header fault p g t s m f) (of_turtle other u e) = absurd (laws.no_turtle base bytes other p g e s)
+  one_defect base name bytes _ _ few (of_header fault p g t s m f) (of_header other q h u r n e) =
+      let same = (laws.turtle base bytes p q g h s r).0 in
       ap Headless (one_fault h fault other m n (subst (λ (x : List Triple). IsOutlineFault x fault) same f) e)

@@ -1,29 +1,33 @@
 -- Documents that are read one after the other.
-use Rattle.std.proofs.Common.{◌≡◌, ◌≢◌, ◌≤◌, ◌+◌, ◌⊎◌, inl, inr, ℕ, zero, suc, List, [], ◌∷◌, ◌++◌, Some, length, take, drop, slice_get, refl, ap, ◌∙◌, subst}
+use Rattle.std.proofs.Common.{◌≡◌, ◌≢◌, ◌≤◌, ◌+◌, ◌⊎◌, inl, inr, ℕ, zero, suc, List, [], ◌∷◌, ◌++◌, Some, length, map, take, drop, slice_get, refl, ap, ◌∙◌, subst}
 use Rattle.std.specs.List.{AllByRecursion}
 use Rattle.owl_characters.specs.Limit.{most_bytes}
-use Rattle.owl_command.specs.Commands.{AreDistinct, IsAmong}
+use Rattle.owl_command.specs.Commands.{AreDistinct, IsAmong, Source}
 use Rattle.owl_documents.specs.Documents.{AreReadFrom, Contents, FollowsRead, IsRead, Parsed}
+
+-- the names of documents
+abbrev pub names_in : List Source → List (List ℕ)
+names_in sources = map (λ s. s.name) sources
 
 module _ (contents : Contents) where
   -- one more is read
-  pub read_next : (before : ℕ) (front : List (List ℕ)) (documents : List Parsed) (after : ℕ) (name bytes : List ℕ) (parsed : Parsed) → AreReadFrom contents before front documents after → IsRead contents after name bytes parsed → AreReadFrom contents before (front ++ name ∷ []) (documents ++ parsed ∷ []) (after + length bytes)
-  read_next before [] [] after name bytes parsed e r =
-      (bytes, subst (λ (n : ℕ). IsRead contents n name bytes parsed) e r, ap (λ (n : ℕ). n + length bytes) e)
-  read_next before [] (d ∷ documents) after name bytes parsed e r = absurd e
-  read_next before (first ∷ front) [] after name bytes parsed e r = absurd e
-  read_next before (first ∷ front) (d ∷ documents) after name bytes parsed e r =
-      (e.0, e.1, read_next (before + length e.0) front documents after name bytes parsed e.2 r)
+  pub read_next : (before : ℕ) (front : List Source) (documents : List Parsed) (after : ℕ) (source : Source) (bytes : List ℕ) (parsed : Parsed) → AreReadFrom contents before front documents after → IsRead contents after source bytes parsed → AreReadFrom contents before (front ++ source ∷ []) (documents ++ parsed ∷ []) (after + length bytes)
+  read_next before [] [] after source bytes parsed e r =
+      (bytes, subst (λ (n : ℕ). IsRead contents n source bytes parsed) e r, ap (λ (n : ℕ). n + length bytes) e)
+  read_next before [] (d ∷ documents) after source bytes parsed e r = absurd e
+  read_next before (first ∷ front) [] after source bytes parsed e r = absurd e
+  read_next before (first ∷ front) (d ∷ documents) after source bytes parsed e r =
+      (e.0, e.1, read_next (before + length e.0) front documents after source bytes parsed e.2 r)
 
-  pub follows_read : (Holds : ℕ → Type 0) (before : ℕ) (front others : List (List ℕ)) (documents : List Parsed) (after : ℕ) (name : List ℕ) → AreReadFrom contents before front documents after → Holds after → FollowsRead contents Holds before (front ++ name ∷ others) name
-  follows_read Holds before [] others [] after name e h = inl (refl, subst Holds e h)
-  follows_read Holds before [] others (d ∷ documents) after name e h = absurd e
-  follows_read Holds before (first ∷ front) others [] after name e h = absurd e
-  follows_read Holds before (first ∷ front) others (d ∷ documents) after name e h =
-      inr (e.0, d, e.1, follows_read Holds (before + length e.0) front others documents after name e.2 h)
+  pub follows_read : (Holds : ℕ → Type 0) (before : ℕ) (front others : List Source) (documents : List Parsed) (after : ℕ) (source : Source) → AreReadFrom contents before front documents after → Holds after → FollowsRead contents Holds before (front ++ source ∷ others) source
+  follows_read Holds before [] others [] after source e h = inl (refl, subst Holds e h)
+  follows_read Holds before [] others (d ∷ documents) after source e h = absurd e
+  follows_read Holds before (first ∷ front) others [] after source e h = absurd e
+  follows_read Holds before (first ∷ front) others (d ∷ documents) after source e h =
+      inr (e.0, d, e.1, follows_read Holds (before + length e.0) front others documents after source e.2 h)
 
   -- what was read is not too long
-  pub read_bytes : (before : ℕ) (front : List (List ℕ)) (documents : List Parsed) (after : ℕ) (name : List ℕ) → AreReadFrom contents before front documents after → IsAmong front name → (bytes : List ℕ) × (contents name ≡ Some bytes) × (length bytes ≤ most_bytes)
+  pub read_bytes : (before : ℕ) (front : List Source) (documents : List Parsed) (after : ℕ) (name : List ℕ) → AreReadFrom contents before front documents after → IsAmong (names_in front) name → (bytes : List ℕ) × (contents name ≡ Some bytes) × (length bytes ≤ most_bytes)
   read_bytes before [] documents after name e among = absurd among
   read_bytes before (first ∷ front) [] after name e among = absurd e
   read_bytes before (first ∷ front) (d ∷ documents) after name e (inl f) =
@@ -32,15 +36,15 @@ module _ (contents : Contents) where
       read_bytes (before + length e.0) front documents after name e.2 among
 
 -- the names before one, it, and those behind it
-pub parts : (names : List (List ℕ)) (place : ℕ) (name : List ℕ) → slice_get names place ≡ Some name → names ≡ take place names ++ name ∷ drop (suc place) names
+pub parts : {X : Type 0} (names : List X) (place : ℕ) (name : X) → slice_get names place ≡ Some name → names ≡ take place names ++ name ∷ drop (suc place) names
 parts [] place name e = absurd (cc)
 parts (first ∷ names) zero name e = cc
-parts (first ∷ names) (suc place) name e = ap (λ (x : List (List ℕ)). first ∷ x) (parts names place name e)
+parts {X} (first ∷ names) (suc place) name e = ap (λ (x : List X). first ∷ x) (parts names place name e)
 
-pub front_and : (names : List (List ℕ)) (place : ℕ) (name : List ℕ) → slice_get names place ≡ Some name → take (suc place) names ≡ take place names ++ name ∷ []
+pub front_and : {X : Type 0} (names : List X) (place : ℕ) (name : X) → slice_get names place ≡ Some name → take (suc place) names ≡ take place names ++ name ∷ []
 front_and [] place name e = absurd (cc)
 front_and (first ∷ names) zero name e = cc
-front_and (first ∷ names) (suc place) name e = ap (λ (x : List (List ℕ)). first ∷ x) (front_and names place name e)
+front_and {X} (first ∷ names) (suc place) name e = ap (λ (x : List X). first ∷ x) (front_and names place name e)
 
 pub among_parts : (front others : List (List ℕ)) (name x : List ℕ) → IsAmong (front ++ name ∷ others) x → IsAmong front x ⊎ ((x ≡ name) ⊎ IsAmong others x)
 among_parts [] others name x among = inr among

@@ -4,6 +4,7 @@ use Rattle.std.specs.Result.{IsErrAnd}
 use Rattle.std.proofs.lemmas.List.{append_assoc, length-append, length-take-le, take-append-le}
 use Rattle.owl_atom.specs.declared.prefixes.Prefix.{Prefix}
 use Rattle.owl_port.specs.Outside.{before}
+use Rattle.owl_command.specs.Commands.{Source}
 use Rattle.owl_port.specs.declared.whole.ReadFault as port
 use Rattle.owl_port.specs.declared.whole.ReadFault.TheVariants as pf
 use Rattle.owl_reader.specs.declared.fault.ReadFault.{ReadFault}
@@ -14,7 +15,7 @@ use Rattle.rdf_scans.specs.declared.fault.OutlineFault.{OutlineFault}
 use Rattle.rdf_scans.specs.declared.fault.OutlineFault.TheVariants as outline
 use Rattle.ttl_grammar.specs.Documents.{ReadsTurtle}
 use Rattle.owl_documents.specs.Documents.{AreFew, Contents, IsDefect, IsRefused, defective, of_header, syntax_of, IsProperRefusal}
-use Rattle.owl_documents.specs.Reading.{IsDefectUnder, IsLimit, IsLonger, IsProper, IsTroubleOf, IsTroubleOfShelf, failed, no_memory, too_long, trouble_of, trouble_of_header}
+use Rattle.owl_documents.specs.Reading.{IsDefectAgainst, IsLimit, IsLonger, IsProper, IsTroubleOf, IsTroubleOfShelf, failed, no_memory, too_long, trouble_of, trouble_of_header}
 use Rattle.owl_documents.specs.declared.document.Syntax.{Syntax}
 use Rattle.owl_documents.specs.declared.document.Syntax.TheVariants.{Turtle}
 use Rattle.owl_documents.specs.declared.trouble.Refusal.{Refusal}
@@ -93,10 +94,10 @@ module _ {T Fault : Type 0} (trouble : Fault → Trouble) (r : Result T Trouble)
   not_failed n f = n (sym (subst (λ (x : Result T Trouble). IsErrAnd x (λ y. y ≡ trouble fault)) f refused))
 
 module _ {T : Type 0} (r : Result T Trouble) (fault : ReadFault) (refused : IsErrAnd r (λ y. y ≡ trouble_of fault)) where
-  pub reader_defect : (syntax : Syntax) (Fed : List ℕ → Type 0) → (fault ≢ read.Memory → (bytes : List ℕ) → Fed bytes → (name : List ℕ) → syntax_of name ≡ syntax → IsDefect name bytes (Unreadable fault)) → IfErr r (λ trouble. (bytes : List ℕ) → Fed bytes → IsDefectUnder syntax bytes trouble)
-  reader_defect syntax Fed d = by_fault trouble_of r fault refused (λ trouble. (bytes : List ℕ) → Fed bytes → IsDefectUnder syntax bytes trouble) (λ bytes fed refusal is name t.
+  pub reader_defect : (syntax : Syntax) (Fed : Option (List ℕ) → List ℕ → Type 0) → (fault ≢ read.Memory → (base : Option (List ℕ)) (bytes : List ℕ) → Fed base bytes → (name : List ℕ) → syntax_of name ≡ syntax → IsDefect base name bytes (Unreadable fault)) → IfErr r (λ trouble. (base : Option (List ℕ)) (bytes : List ℕ) → Fed base bytes → IsDefectAgainst base syntax bytes trouble)
+  reader_defect syntax Fed d = by_fault trouble_of r fault refused (λ trouble. (base : Option (List ℕ)) (bytes : List ℕ) → Fed base bytes → IsDefectAgainst base syntax bytes trouble) (λ base bytes fed refusal is name t.
       let told = refusal_of fault refusal is in
-      subst (IsDefect name bytes) (sym told.0) (d told.1 bytes fed name t))
+      subst (IsDefect base name bytes) (sym told.0) (d told.1 base bytes fed name t))
 
   pub reader_proper : IfErr r IsProper
   reader_proper = by_fault trouble_of r fault refused IsProper (λ refusal is.
@@ -107,10 +108,10 @@ module _ {T : Type 0} (r : Result T Trouble) (fault : ReadFault) (refused : IsEr
   reader_never_failed = not_failed trouble_of r fault refused (never_failed fault)
 
 module _ {T : Type 0} (r : Result T Trouble) (fault : OutlineFault) (refused : IsErrAnd r (λ y. y ≡ trouble_of_header fault)) where
-  pub header_defect : (Fed : List ℕ → Type 0) (prefixes : List Prefix) (triples : List Triple) → ((bytes : List ℕ) → Fed bytes → ReadsTurtle None bytes prefixes triples) → IsOutlineFault triples fault → IfErr r (λ trouble. (bytes : List ℕ) → Fed bytes → IsDefectUnder Turtle bytes trouble)
-  header_defect Fed prefixes triples reads f = by_fault trouble_of_header r fault refused (λ trouble. (bytes : List ℕ) → Fed bytes → IsDefectUnder Turtle bytes trouble) (λ bytes fed refusal is name t.
+  pub header_defect : (Fed : Option (List ℕ) → List ℕ → Type 0) (prefixes : List Prefix) (triples : List Triple) → ((base : Option (List ℕ)) (bytes : List ℕ) → Fed base bytes → ReadsTurtle base bytes prefixes triples) → IsOutlineFault triples fault → IfErr r (λ trouble. (base : Option (List ℕ)) (bytes : List ℕ) → Fed base bytes → IsDefectAgainst base Turtle bytes trouble)
+  header_defect Fed prefixes triples reads f = by_fault trouble_of_header r fault refused (λ trouble. (base : Option (List ℕ)) (bytes : List ℕ) → Fed base bytes → IsDefectAgainst base Turtle bytes trouble) (λ base bytes fed refusal is name t.
       let told = header_refusal_of fault refusal is in
-      subst (IsDefect name bytes) (sym told.0) (of_header fault prefixes triples t (reads bytes fed) told.1 f))
+      subst (IsDefect base name bytes) (sym told.0) (of_header fault prefixes triples t (reads base bytes fed) told.1 f))
 
   pub header_proper : IfErr r IsProper
   header_proper = by_fault trouble_of_header r fault refused IsProper (λ refusal is.
@@ -121,21 +122,21 @@ module _ {T : Type 0} (r : Result T Trouble) (fault : OutlineFault) (refused : I
   header_not_failed = not_failed trouble_of_header r fault refused (header_never_failed fault)
 
 -- the document under a name has the defect of its bytes
-pub defect_trouble : (contents : Contents) (before : ℕ) (syntax : Syntax) (name bytes : List ℕ) (trouble : Trouble) → syntax_of name ≡ syntax → contents name ≡ Some bytes → AreFew before (length bytes) → IsDefectUnder syntax bytes trouble → IsTroubleOf contents before name trouble
-defect_trouble contents before syntax name bytes trouble t there few d = λ refusal is.
-    record { bytes = bytes; there = there; refused = defective few (d refusal is name t) }
+pub defect_trouble : (contents : Contents) (before : ℕ) (syntax : Syntax) (source : Source) (bytes : List ℕ) (trouble : Trouble) → syntax_of source.name ≡ syntax → contents source.name ≡ Some bytes → AreFew before (length bytes) → IsDefectAgainst source.base syntax bytes trouble → IsTroubleOf contents before source trouble
+defect_trouble contents before syntax source bytes trouble t there few d = λ refusal is.
+    record { bytes = bytes; there = there; refused = defective few (d refusal is source.name t) }
 
 -- what a shelf refuses
 module _ (before : ℕ) (fault : port.ReadFault) (trouble : Trouble) (of : IsTroubleOfShelf before fault trouble) where
-  pub shelf_trouble : (contents : Contents) (name : List ℕ) (room : ℕ) → ((size : ℕ) → AreFew before size → size ≤ room) → (fault ≡ pf.TooLong → IsLonger (contents name) room) → IsTroubleOf contents before name trouble
-  shelf_trouble contents name room fits longer = by_cause of
+  pub shelf_trouble : (contents : Contents) (source : Source) (room : ℕ) → ((size : ℕ) → AreFew before size → size ≤ room) → (fault ≡ pf.TooLong → IsLonger (contents source.name) room) → IsTroubleOf contents before source trouble
+  shelf_trouble contents source room fits longer = by_cause of
     where
-      by_cause : IsTroubleOfShelf before fault trouble → IsTroubleOf contents before name trouble
+      by_cause : IsTroubleOfShelf before fault trouble → IsTroubleOf contents before source trouble
       by_cause (failed f e) = λ refusal is. absurd (cc)
       by_cause (too_long limit f l p e) = λ refusal is.
           let l = longer f in
           let same : limit ≡ refusal = cc in
-          record { bytes = l.bytes; there = l.are; refused = subst (λ (x : Refusal). IsRefused before name l.bytes x) same (p name l.bytes (λ few. let most = fits (length l.bytes) few in let more = l.more in absurd (omega arith))) }
+          record { bytes = l.bytes; there = l.are; refused = subst (λ (x : Refusal). IsRefused before source l.bytes x) same (p source l.bytes (λ few. let most = fits (length l.bytes) few in let more = l.more in absurd (omega arith))) }
       by_cause (no_memory e) = λ refusal is. absurd (cc)
 
   pub shelf_proper : IsProper trouble

@@ -1,11 +1,11 @@
 -- What comes of reading documents from a shelf.
-use Rattle.std.specs.Prelude.{◌≡◌, ◌<◌, ℕ, IsTrue, List, Option, Some, length, slice_get}
+use Rattle.std.specs.Prelude.{◌≡◌, ◌<◌, ℕ, IsTrue, List, Option, None, Some, length, slice_get}
 use Rattle.owl_port.specs.Outside.{SameElsewhere}
 use Rattle.owl_reader.specs.declared.fault.ReadFault.{ReadFault}
 use Rattle.owl_reader.specs.declared.fault.ReadFault.TheVariants as read
 use Rattle.rdf_scans.specs.declared.fault.OutlineFault.{OutlineFault}
 use Rattle.rdf_scans.specs.declared.fault.OutlineFault.TheVariants as outline
-use Rattle.owl_command.specs.Commands.{Request, names_of}
+use Rattle.owl_command.specs.Commands.{Request, Source, names_of, sources_of}
 use Rattle.owl_port.specs.declared.whole.ReadFault as port
 use Rattle.owl_port.specs.declared.whole.ReadFault.TheVariants as pf
 use Rattle.owl_documents.specs.Documents.{AreFew, Contents, IsDefect, IsFirstRefused, IsRead, IsRefused, IsRefusedAt, Parsed, Reads, parsed_of, syntax_of, IsProperRefusal}
@@ -64,7 +64,7 @@ IsLimit (Headless fault) = ⊥
 -- Why a document is not fed whole, behind so many bytes of others.
 pub data IsTroubleOfShelf (before : ℕ) (fault : port.ReadFault) (trouble : Trouble) : Type 0 where
   failed : fault ≡ pf.Failed → trouble ≡ ReadFailed → IsTroubleOfShelf before fault trouble
-  too_long : (refusal : Refusal) → fault ≡ pf.TooLong → IsLimit refusal → ((name bytes : List ℕ) → (AreFew before (length bytes) → ⊥) → IsRefused before name bytes refusal) → trouble ≡ Refused refusal → IsTroubleOfShelf before fault trouble
+  too_long : (refusal : Refusal) → fault ≡ pf.TooLong → IsLimit refusal → ((source : Source) (bytes : List ℕ) → (AreFew before (length bytes) → ⊥) → IsRefused before source bytes refusal) → trouble ≡ Refused refusal → IsTroubleOfShelf before fault trouble
   no_memory : trouble ≡ Memory → IsTroubleOfShelf before fault trouble
 
 -- as each refusal is that is told
@@ -72,27 +72,35 @@ abbrev pub IsProper : Trouble → Type 0
 IsProper trouble = (refusal : Refusal) → trouble ≡ Refused refusal → IsProperRefusal refusal
 
 -- what a document was read as, behind so many bytes of others
-pub record IsReadAs (contents : Contents) (before : ℕ) (name : List ℕ) (read : Read) : Type 0 where
+pub record IsReadAs (contents : Contents) (before : ℕ) (source : Source) (read : Read) : Type 0 where
   pub bytes : List ℕ
-  pub is : IsRead contents before name bytes (parsed_of read.document)
+  pub is : IsRead contents before source bytes (parsed_of read.document)
   pub size : read.size ≡ length bytes
 
--- Bytes that are refused so, under each name of this syntax, where they are refused.
-abbrev pub IsDefectUnder : Syntax → List ℕ → Trouble → Type 0
-IsDefectUnder syntax bytes trouble =
-    (refusal : Refusal) → trouble ≡ Refused refusal → (name : List ℕ) → syntax_of name ≡ syntax → IsDefect name bytes refusal
+-- Bytes that are refused so against this base IRI, if any, under each name of this syntax, where they are refused.
+abbrev pub IsDefectAgainst : Option (List ℕ) → Syntax → List ℕ → Trouble → Type 0
+IsDefectAgainst base syntax bytes trouble =
+    (refusal : Refusal) → trouble ≡ Refused refusal → (name : List ℕ) → syntax_of name ≡ syntax → IsDefect base name bytes refusal
 
--- Bytes that are read so under each name of this syntax.
+-- the same without a base IRI
+abbrev pub IsDefectUnder : Syntax → List ℕ → Trouble → Type 0
+IsDefectUnder syntax bytes trouble = IsDefectAgainst None syntax bytes trouble
+
+-- Bytes that are read so against this base IRI, if any, under each name of this syntax.
+abbrev pub AreReadAgainst : Option (List ℕ) → Syntax → List ℕ → Parsed → Type 0
+AreReadAgainst base syntax bytes parsed = (name : List ℕ) → syntax_of name ≡ syntax → Reads base name bytes parsed
+
+-- the same without a base IRI
 abbrev pub AreReadUnder : Syntax → List ℕ → Parsed → Type 0
-AreReadUnder syntax bytes parsed = (name : List ℕ) → syntax_of name ≡ syntax → Reads name bytes parsed
+AreReadUnder syntax bytes parsed = AreReadAgainst None syntax bytes parsed
 
 -- a refusal is the document's
-abbrev pub IsTroubleOf : Contents → ℕ → List ℕ → Trouble → Type 0
-IsTroubleOf contents before name trouble =
-    (refusal : Refusal) → trouble ≡ Refused refusal → IsRefusedAt contents name refusal before
+abbrev pub IsTroubleOf : Contents → ℕ → Source → Trouble → Type 0
+IsTroubleOf contents before source trouble =
+    (refusal : Refusal) → trouble ≡ Refused refusal → IsRefusedAt contents source refusal before
 
 -- Why reading stops: the first of the documents that is refused or could not be read, or want of memory.
 pub data IsStop (request : Request) (s : Shelves) (stop : Stop) : Type 0 where
-  of_refusal : (name : List ℕ) → slice_get (names_of request) stop.document ≡ Some name → (refusal : Refusal) → stop.trouble ≡ Refused refusal → IsProperRefusal refusal → (IsTrue s.tells → IsFirstRefused s.old (names_of request) name refusal) → IsStop request s stop
-  of_failure : (name : List ℕ) → slice_get (names_of request) stop.document ≡ Some name → stop.trouble ≡ ReadFailed → IsFaulty (Rises s) request name → (IsTrue s.tells → IsFirstFaulty s.old (Rises s) request name) → IsStop request s stop
+  of_refusal : (source : Source) → slice_get (sources_of request) stop.document ≡ Some source → (refusal : Refusal) → stop.trouble ≡ Refused refusal → IsProperRefusal refusal → (IsTrue s.tells → IsFirstRefused s.old (sources_of request) source refusal) → IsStop request s stop
+  of_failure : (source : Source) → slice_get (sources_of request) stop.document ≡ Some source → stop.trouble ≡ ReadFailed → IsFaulty (Rises s) request source.name → (IsTrue s.tells → IsFirstFaulty s.old (Rises s) request source) → IsStop request s stop
   of_no_memory : stop.document < length (names_of request) → stop.trouble ≡ Memory → IsStop request s stop

@@ -2,7 +2,7 @@
 use Rattle.std.specs.Prelude.{◌≡◌, ◌≤◌, ◌+◌, ℕ, Bool, List, Option, length}
 use Rattle.owl_characters.specs.Limit.{most_bytes}
 use Rattle.owl_port.specs.Outside.{Rose, before}
-use Rattle.owl_command.specs.Commands.{IsAmong, Request, names_of}
+use Rattle.owl_command.specs.Commands.{IsAmong, Request, Source, names_of, sources_of}
 use Rattle.owl_documents.specs.Documents.{Contents, FollowsRead}
 
 -- whether it tells at all, the bytes under each name, and the counts of faults
@@ -31,5 +31,5 @@ abbrev pub IsFaulty : (List ℕ → Type 0) → Request → List ℕ → Type 0
 IsFaulty Rise request name = IsAmong (names_of request) name × Rise name
 
 -- the same, where each document before it is read
-abbrev pub IsFirstFaulty : Contents → (List ℕ → Type 0) → Request → List ℕ → Type 0
-IsFirstFaulty contents Rise request name = FollowsRead contents (λ _. Rise name) 0 (names_of request) name
+abbrev pub IsFirstFaulty : Contents → (List ℕ → Type 0) → Request → Source → Type 0
+IsFirstFaulty contents Rise request source = FollowsRead contents (λ _. Rise source.name) 0 (sources_of request) source

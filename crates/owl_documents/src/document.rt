@@ -1,7 +1,7 @@
 //! Documents that were read.
 
 use man_raw::RawDoc;
-use owl_atom::Prefixes;
+use owl_atom::{Iri, Prefixes};
 use owl_doc::{Doc, Head};
 use rdf_graph::Graph;
 
@@ -31,4 +31,6 @@ pub struct GraphDocument {
     pub graph: Graph,
     pub prefixes: Prefixes,
     pub head: Head,
+    /// The annotation properties that are guessed, none before kinds are known.
+    pub guessed: Vec<Iri>,
 }

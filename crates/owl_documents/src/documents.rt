@@ -2,7 +2,7 @@
 
 ghost use Rattle.std.specs.Prelude.{◌≡◌, ◌∷◌, ◌++◌, [], Some, length, map, IsTrue, IfOk, IfErr, OnOk};
 ghost use Rattle.std.specs.List.{AllByRecursion};
-ghost use Rattle.owl_command.specs.Commands.{AreDistinct, names_of, request_of};
+ghost use Rattle.owl_command.specs.Commands.{AreDistinct, names_of, request_of, sources_of};
 ghost use Rattle.owl_documents.specs.Documents.{AreRead, parsed_of};
 ghost use Rattle.owl_documents.specs.Reading.{IsStop};
 ghost use Rattle.owl_documents.specs.Shelves.{IsTaken};
@@ -15,7 +15,8 @@ use owl_port::Shelf;
 use std::alloc::Global;
 
 /// The documents that a command names, each read to its end, in the order of
-/// their names. The first that can't be read stops it.
+/// their names, and the first against the base IRI that the command gives, if any.
+/// The first that can't be read stops it.
 pub fn read_documents<S: Shelf>(
     alloc: Global,
     command: &Command,
@@ -23,7 +24,8 @@ pub fn read_documents<S: Shelf>(
 ) -> Result<Vec<Document>, Stop>
     requires { AreDistinct (names_of (request_of command.now)) }
     ensures read { IsTrue (S.tells shelf.old) → IfOk result (λ docs.
-        AreRead (S.left shelf.old) (names_of (request_of command.now)) (map parsed_of docs.items)) }
+        AreRead (S.left shelf.old) (sources_of (request_of command.now))
+        (map parsed_of docs.items)) }
     ensures count { IfOk result (λ docs. length docs.items ≡ length (names_of (request_of command.now))) }
     ensures stop { IfErr result (IsStop (request_of command.now)
         (record { tells = S.tells shelf.old; old = S.left shelf.old; new = S.left shelf.new; faults = S.faults shelf.old; later = S.faults shelf.new })) }
@@ -34,14 +36,15 @@ pub fn read_documents<S: Shelf>(
     let mut docs = Vec::new(alloc);
     let mut size = 0;
     while docs.len() < command.count() {
-        match read_document(alloc, command.name(docs.len()), size, shelf) {
+        let place = docs.len();
+        match read_document(alloc, command.name(place), command.base(place), size, shelf) {
             Ok(read) => {
                 size += read.size;
                 keep(&mut docs, read.document)?;
             }
             Err(trouble) => {
                 return Err(Stop {
-                    document: docs.len(),
+                    document: place,
                     trouble,
                 });
             }

@@ -1,6 +1,7 @@
 //! How many bytes documents may have.
 
 ghost use Rattle.std.specs.Prelude.{◌≤◌, ◌↔◌, ℕ, List, length};
+ghost use Rattle.owl_command.specs.Commands.{Source};
 ghost use Rattle.owl_documents.specs.Documents.{AreFew, IsRefused, most_bytes_of_all};
 ghost use Rattle.owl_documents.specs.Reading.{IsLimit};
 
@@ -21,7 +22,8 @@ pub fn room_behind(before: u64) -> u64
 /// The limit that a document passes which has more.
 pub fn limit_behind(before: u64) -> Refusal
     requires { before ≤ most_bytes_of_all }
-    ensures passed { (name bytes : List ℕ) → (AreFew before (length bytes) → ⊥) → IsRefused before name bytes result }
+    ensures passed { (source : Source) (bytes : List ℕ)
+        → (AreFew before (length bytes) → ⊥) → IsRefused before source bytes result }
     ensures limit { IsLimit result }
 {
     if MOST_BYTES <= MOST_BYTES_OF_ALL - before {

@@ -1,6 +1,7 @@
 //! Reads one document.
 
-ghost use Rattle.std.specs.Prelude.{◌≡◌, ◌≢◌, ◌≤◌, ◌+◌, Some, Err, [], IsTrue, IfOk, IfErr, OnOk};
+ghost use Rattle.std.specs.Prelude.{◌≡◌, ◌≢◌, ◌≤◌, ◌+◌, ℕ, List, Option, Some, Err, [], IsTrue, IfOk, IfErr, OnOk};
+ghost use Rattle.std.specs.Option.{option_copied};
 ghost use Rattle.owl_port.specs.Outside.{Rose};
 ghost use Rattle.owl_documents.specs.Documents.{most_bytes_of_all, parsed_of, syntax_of};
 ghost use Rattle.owl_documents.specs.Reading.{AreReadUnder, IsDefectUnder, IsFed, IsLonger, IsProper, IsReadAs, IsTakenAlone, IsTroubleOf, IsTroubleOfShelf};
@@ -10,6 +11,7 @@ use crate::document::{Document, Syntax};
 use crate::limits::{limit_behind, room_behind};
 use crate::readers::DocumentReader;
 use crate::trouble::Trouble;
+use owl_atom::Iri;
 use owl_port::{ReadFault, Shelf};
 use std::alloc::Global;
 
@@ -23,9 +25,9 @@ pub struct Read {
     pub size: u64,
 }
 
-/// Feeds a reader that was fed nothing with all the bytes under the name, piece
-/// by piece; returns how many they are. A reader that refuses drops what comes
-/// behind, and answers its refusal when it is finished.
+/// Feeds a reader with all the bytes under the name, piece by piece; returns how many
+/// they are. A reader that refuses drops what comes behind, and answers its refusal
+/// when it is finished.
 ///
 /// `TooLong` where there are more than `room` bytes, once `room + 1` of them were
 /// taken.
@@ -35,10 +37,10 @@ fn feed_document<R: DocumentReader, S: Shelf>(
     room: u64,
     shelf: &mut S,
 ) -> Result<u64, ReadFault>
-    requires empty { R.Fed reader.old [] }
-    requires room { room ≤ most_bytes }
+    requires { room ≤ most_bytes }
     ensures told { S.tells shelf.new ≡ S.tells shelf.old }
-    ensures fed { IsTrue (S.tells shelf.old) → IfOk result (IsFed (R.Fed reader.new) (S.left shelf.old name.now)) }
+    ensures fed { (base : Option (List ℕ)) → R.Fed base reader.old [] → IsTrue (S.tells shelf.old)
+        → IfOk result (IsFed (R.Fed base reader.new) (S.left shelf.old name.now)) }
     ensures within { IfOk result (λ size. size ≤ room) }
     ensures ended { IsTrue (S.tells shelf.old) → OnOk result (S.left shelf.new name.now ≡ Some []) }
     ensures longer { IsTrue (S.tells shelf.old) → result ≡ Err ReadFault.TooLong → IsLonger (S.left shelf.old name.now) room }
@@ -73,27 +75,30 @@ fn trouble_of_shelf(fault: ReadFault, before: u64) -> Trouble
     }
 }
 
-/// Reads the document under this name, in the reader's syntax, to its end, behind
-/// so many bytes of other documents.
+/// Reads the document under this name, in the reader's syntax, to its end, against
+/// this base IRI, if any, and behind so many bytes of other documents.
 fn read_in<R: DocumentReader, S: Shelf>(
     alloc: Global,
     name: &str,
+    base: Option<&Iri>,
     before: u64,
     shelf: &mut S,
 ) -> Result<Read, Trouble>
     requires syntax { syntax_of name.now ≡ R.syntax }
     requires before { before ≤ most_bytes_of_all }
     ensures told { S.tells shelf.new ≡ S.tells shelf.old }
-    ensures read { IsTrue (S.tells shelf.old) → IfOk result (IsReadAs (S.left shelf.old) before name.now) }
+    ensures read { IsTrue (S.tells shelf.old) → IfOk result (IsReadAs (S.left shelf.old) before
+        (record { name = name.now; base = option_copied base.entry })) }
     ensures within { IfOk result (λ read. before + read.size ≤ most_bytes_of_all) }
     ensures ended { IsTrue (S.tells shelf.old) → OnOk result (S.left shelf.new name.now ≡ Some []) }
-    ensures trouble { IsTrue (S.tells shelf.old) → IfErr result (IsTroubleOf (S.left shelf.old) before name.now) }
+    ensures trouble { IsTrue (S.tells shelf.old) → IfErr result (IsTroubleOf (S.left shelf.old)
+        before (record { name = name.now; base = option_copied base.entry })) }
     ensures proper { IfErr result IsProper }
     ensures alone { IsTakenAlone name.now
         (record { tells = S.tells shelf.old; old = S.left shelf.old; new = S.left shelf.new; faults = S.faults shelf.old; later = S.faults shelf.new }) }
     ensures failed { result ≡ Err Trouble.ReadFailed → Rose (S.faults shelf.old name.now) (S.faults shelf.new name.now) }
 {
-    let Ok(mut reader) = R::begin(alloc) else {
+    let Ok(mut reader) = R::begin(alloc, base) else {
         return Err(Trouble::Memory);
     };
     let fed = feed_document(&mut reader, name, room_behind(before), shelf);
@@ -121,28 +126,31 @@ fn syntax_of(name: &str) -> Syntax
 }
 
 /// Reads the document under this name to its end, in the syntax that its suffix
-/// tells, behind so many bytes of other documents.
+/// tells, against this base IRI, if any, and behind so many bytes of other documents.
 pub fn read_document<S: Shelf>(
     alloc: Global,
     name: &str,
+    base: Option<&Iri>,
     before: u64,
     shelf: &mut S,
 ) -> Result<Read, Trouble>
     requires { before ≤ most_bytes_of_all }
     ensures told { S.tells shelf.new ≡ S.tells shelf.old }
-    ensures read { IsTrue (S.tells shelf.old) → IfOk result (IsReadAs (S.left shelf.old) before name.now) }
+    ensures read { IsTrue (S.tells shelf.old) → IfOk result (IsReadAs (S.left shelf.old) before
+        (record { name = name.now; base = option_copied base.entry })) }
     ensures within { IfOk result (λ read. before + read.size ≤ most_bytes_of_all) }
     ensures ended { IsTrue (S.tells shelf.old) → OnOk result (S.left shelf.new name.now ≡ Some []) }
-    ensures trouble { IsTrue (S.tells shelf.old) → IfErr result (IsTroubleOf (S.left shelf.old) before name.now) }
+    ensures trouble { IsTrue (S.tells shelf.old) → IfErr result (IsTroubleOf (S.left shelf.old)
+        before (record { name = name.now; base = option_copied base.entry })) }
     ensures proper { IfErr result IsProper }
     ensures alone { IsTakenAlone name.now
         (record { tells = S.tells shelf.old; old = S.left shelf.old; new = S.left shelf.new; faults = S.faults shelf.old; later = S.faults shelf.new }) }
     ensures failed { result ≡ Err Trouble.ReadFailed → Rose (S.faults shelf.old name.now) (S.faults shelf.new name.now) }
 {
     match syntax_of(name) {
-        Syntax::Functional => read_in::<fss_read::Reader, S>(alloc, name, before, shelf),
-        Syntax::Turtle => read_in::<ttl_read::Reader, S>(alloc, name, before, shelf),
-        Syntax::Manchester => read_in::<man_read::Reader, S>(alloc, name, before, shelf),
+        Syntax::Functional => read_in::<fss_read::Reader, S>(alloc, name, base, before, shelf),
+        Syntax::Turtle => read_in::<ttl_read::Reader, S>(alloc, name, base, before, shelf),
+        Syntax::Manchester => read_in::<man_read::Reader, S>(alloc, name, base, before, shelf),
     }
 }
 
@@ -154,7 +162,7 @@ fn read_pieces<R: DocumentReader>(alloc: Global, bytes: &[u8]) -> Result<Documen
     ensures proper { IfErr result IsProper }
     ensures read { result ≢ Err Trouble.ReadFailed }
 {
-    let Ok(mut reader) = R::begin(alloc) else {
+    let Ok(mut reader) = R::begin(alloc, None) else {
         return Err(Trouble::Memory);
     };
     let mut rest = bytes;
@@ -168,7 +176,7 @@ fn read_pieces<R: DocumentReader>(alloc: Global, bytes: &[u8]) -> Result<Documen
 
 /// The document that these bytes are in this syntax, or why they are none: the first
 /// defect by its grammar, or what is wrong with the header of a graph. They are read
-/// as a document on a shelf is, in pieces of at most 4,096 bytes.
+/// as a document on a shelf without a base IRI is, in pieces of at most 4,096 bytes.
 pub fn read_text(alloc: Global, syntax: Syntax, bytes: &[u8]) -> Result<Document, Trouble>
     ensures reads { IfOk result (λ document. AreReadUnder syntax bytes.now (parsed_of document)) }
     ensures refuses { IfErr result (IsDefectUnder syntax bytes.now) }

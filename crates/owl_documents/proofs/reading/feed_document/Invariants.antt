@@ -1,4 +1,4 @@
-use Rattle.std.proofs.Common.{◌≡◌, ◌≤◌, ◌+◌, ◌-◌, ℕ, None, List, [], length, IsTrue}
+use Rattle.std.proofs.Common.{◌≡◌, ◌≤◌, ◌+◌, ◌-◌, ℕ, Option, None, List, [], length, IsTrue}
 use Rattle.owl_port.specs.Outside.{SameElsewhere, before}
 use Rattle.owl_documents.proofs.reading.feed_document.Given as goal
 
@@ -9,7 +9,7 @@ invariant-loop-size g l = record {
   within : l.size ≤ l.most;
   fed : List ℕ;
   counted : l.size ≡ length fed;
-  read : g.R.DocumentReader.Fed l.reader fed;
+  read : (base : Option (List ℕ)) → g.R.DocumentReader.Fed base l.fn.reader [] → g.R.DocumentReader.Fed base l.reader fed;
   told : g.S.Shelf.tells l.shelf ≡ g.S.Shelf.tells l.fn.shelf;
   taken : IsTrue (g.S.Shelf.tells l.fn.shelf) → g.S.Shelf.left l.fn.shelf l.name ≡ before fed (g.S.Shelf.left l.shelf l.name);
   lacks : IsTrue (g.S.Shelf.tells l.fn.shelf) → g.S.Shelf.left l.shelf l.name ≡ None → fed ≡ [];

@@ -6,5 +6,5 @@ use Rattle.owl_documents.proofs.readers.Fss_readReaderDocumentReader.document.Go
 
 pub returns-in_err-finish-clause-refuses : goal.returns-in_err-finish-clause-refuses
 returns-in_err-finish-clause-refuses c =
-    reader_defect c.from_residual.result c.in_err-finish.field-0.0 c.from_residual.ensures.1 Functional (HasRead c.args.self)
-    (λ proper bytes fed name t. of_functional c.in_err-finish.field-0.0 t (c.in_err-finish.ensures.refuses proper bytes fed))
+    reader_defect c.from_residual.result c.in_err-finish.field-0.0 c.from_residual.ensures.1 Functional (λ _. HasRead c.args.self)
+    (λ proper _ bytes fed name t. of_functional c.in_err-finish.field-0.0 t (c.in_err-finish.ensures.refuses proper bytes fed))

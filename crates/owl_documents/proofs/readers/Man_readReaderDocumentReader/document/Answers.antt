@@ -6,8 +6,8 @@ use Rattle.owl_documents.proofs.readers.Man_readReaderDocumentReader.document.Go
 
 pub returns-in_err-doc-clause-refuses : goal.returns-in_err-doc-clause-refuses
 returns-in_err-doc-clause-refuses c =
-    reader_defect c.from_residual.result c.in_err-doc.field-0.0 c.from_residual.ensures.1 Manchester (HasRead c.args.self)
-    (λ proper bytes fed name t. of_manchester c.in_err-doc.field-0.0 t (c.in_err-doc.ensures.refuses proper bytes fed))
+    reader_defect c.from_residual.result c.in_err-doc.field-0.0 c.from_residual.ensures.1 Manchester (λ _. HasRead c.args.self)
+    (λ proper _ bytes fed name t. of_manchester c.in_err-doc.field-0.0 t (c.in_err-doc.ensures.refuses proper bytes fed))
 
 pub returns-clause-reads : goal.returns-clause-reads
-returns-clause-reads c = λ bytes fed name t. (t, c.with_table.ensures.reads bytes (c.in_ok-doc.ensures.reads bytes fed))
+returns-clause-reads c = λ _ bytes fed name t. (t, c.with_table.ensures.reads bytes (c.in_ok-doc.ensures.reads bytes fed))
