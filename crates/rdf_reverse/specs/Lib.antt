@@ -1,4 +1,5 @@
 pub mod Reverse
+pub mod Guesses
 pub mod Faults
 pub mod Clear
 pub mod Limits
