@@ -4,6 +4,7 @@ use Rattle.std.proofs.lemmas.Option.{same_Some, slice_get_within}
 use Rattle.owl_close.specs.Imports.{IsFirstMissing, MissesNone, Reaches}
 use Rattle.owl_close.specs.Imports as imports
 use Rattle.owl_close.proofs.ImportsLaws.{missing_once}
+use Rattle.owl_command.specs.declared.command.Options.{Options}
 use Rattle.owl_command.specs.Commands.{Request, compares, names_of, of_main, tries}
 use Rattle.owl_command.specs.declared.command.Action.{Action}
 use Rattle.owl_command.specs.declared.command.Action.TheVariants.{Translate, Check, Show}
@@ -16,12 +17,14 @@ use Rattle.owl_kind.specs.Kinds.{Entity}
 use Rattle.owl_tree.proofs.OntologyLaws.{same_ontology_sym, same_ontology_trans}
 use Rattle.owl_messages.specs.declared.unsaid.UnsaidFault.{UnsaidFault}
 use Rattle.owl_answer.specs.Checks.{IsChecked}
+use Rattle.owl_answer.specs.Guessing.{AreGuessed}
 use Rattle.owl_answer.specs.KindsAt.{AreClosureKinds}
 use Rattle.owl_answer.specs.Outcome.{IsComparison, agree, differ, heads_in}
-use Rattle.owl_answer.specs.Runs.{AnswersWith, Concludes, IsActionOutcome, IsTranslation, all_say, misses_import, says_nothing}
+use Rattle.owl_answer.specs.Runs.{AnswersBy, AnswersWith, Concludes, IsActionOutcome, IsTranslation, all_say, misses_import, misses_none, says_nothing}
 use Rattle.owl_answer.specs.UnderKinds.{AllSay, HasKinds, HoldsOfMain, HoldsOfTwo, IsFirstUnsaid, IsReadUnder, IsUnsaidAt, IsUnsaidUnder, SaysAt, SaysUnder}
 use Rattle.owl_answer.proofs.Checks.{checked_once, checked_there, form_at, reached_stands}
 use Rattle.owl_answer.proofs.Closures.{closure_once, own_once}
+use Rattle.owl_answer.proofs.GuessedDocuments.{guessed_once}
 use Rattle.owl_answer.proofs.ManchesterOnce.{manchester_alike, manchester_once}
 use Rattle.owl_answer.proofs.Same.{never_says_both, parsed_back, parsed_refl, says_once, says_same, unsaid_once, unsaid_same}
 use Rattle.owl_answer.proofs.TrialOnce.{trial_once}
@@ -36,10 +39,8 @@ pub record IsReadAlike (request : Request) (others : List Parsed) (place : ℕ) 
   pub read : IsReadUnder request others place other kinds
   pub same : IsSameParsed parsed other
 
--- the others miss what these miss, and what is read of these is read of them
+-- what is read of these is read of them
 pub record Agree (request : Request) (ds es : List Parsed) : Type 0 where
-  pub missing : (place : ℕ) (iri : List ℕ) → IsFirstMissing (heads_in ds) place iri → IsFirstMissing (heads_in es) place iri
-  pub none : MissesNone (heads_in ds) → MissesNone (heads_in es)
   pub read : (place : ℕ) (parsed : Parsed) (kinds : List Entity) → IsReadUnder request ds place parsed kinds → IsReadAlike request es place parsed kinds
 
 -- what is told of the same is the same
@@ -124,8 +125,8 @@ module _ (request : Request) (ds es : List Parsed) (there : Agree request ds es)
       }
 
 -- what a check tells of documents it tells of others that agree
-module _ (action : Action) (partial : Bool) (names : List (List ℕ)) (ds es : List Parsed) (there : Agree (of_main action partial names) ds es) where
-  reads_there : (kinds : List Entity) → AreClosureKinds ds kinds → (place : ℕ) (p : Parsed) → Reaches (heads_in ds) place → slice_get ds place ≡ Some p → IsReadAlike (of_main action partial names) es place p kinds
+module _ (action : Action) (options : Options) (names : List (List ℕ)) (ds es : List Parsed) (there : Agree (of_main action options names) ds es) where
+  reads_there : (kinds : List Entity) → AreClosureKinds ds kinds → (place : ℕ) (p : Parsed) → Reaches (heads_in ds) place → slice_get ds place ≡ Some p → IsReadAlike (of_main action options names) es place p kinds
   reads_there kinds declared place p r e = there.read place p kinds (record { there = e; under = (r, declared) })
 
   reaches_there : (kinds : List Entity) → AreClosureKinds ds kinds → 0 < length ds → (place : ℕ) → Reaches (heads_in ds) place → Reaches (heads_in es) place
@@ -133,25 +134,25 @@ module _ (action : Action) (partial : Bool) (names : List (List ℕ)) (ds es : L
       let stands = reached_stands ds some place r in
       (reads_there kinds declared place stands.0 r stands.1).read.under.0
 
-module _ (action : Action) (partial : Bool) (names : List (List ℕ)) (ds es : List Parsed) (there : Agree (of_main action partial names) ds es) (back : Agree (of_main action partial names) es ds) where
+module _ (action : Action) (options : Options) (names : List (List ℕ)) (ds es : List Parsed) (there : Agree (of_main action options names) ds es) (back : Agree (of_main action options names) es ds) where
   checks_there : (outcome : Outcome) (profile : Profile) → IsChecked profile ds outcome → IsChecked profile es outcome
   checks_there outcome profile h =
       let kinds = h.closure.kinds in
       let form = form_at ds kinds h.places h.closure.all h.is.say 0 ((h.is.reached.reached 0).1 imports.main) in
-      let first = reads_there action partial names ds es there kinds h.is.declared 0 form.1.parsed imports.main form.1.there in
+      let first = reads_there action options names ds es there kinds h.is.declared 0 form.1.parsed imports.main form.1.there in
       let declared : AreClosureKinds es kinds = first.read.under.1 in
       checked_there profile ds es outcome h (record {
         declared = declared;
-        there = reaches_there action partial names ds es there kinds h.is.declared (slice_get_within ds 0 form.1.parsed form.1.there);
-        back = reaches_there action partial names es ds back kinds declared (slice_get_within es 0 first.other first.read.there);
+        there = reaches_there action options names ds es there kinds h.is.declared (slice_get_within ds 0 form.1.parsed form.1.there);
+        back = reaches_there action options names es ds back kinds declared (slice_get_within es 0 first.other first.read.there);
         found = λ place p r e.
-            let alike = reads_there action partial names ds es there kinds h.is.declared place p r e in
+            let alike = reads_there action options names ds es there kinds h.is.declared place p r e in
             record { other = alike.other; there = alike.read.there; same = alike.same };
       })
 
 answers_there : (request : Request) (ds es : List Parsed) → Agree request ds es → Agree request es ds → (outcome : Outcome) → AnswersWith request ds outcome → AnswersWith request es outcome
-answers_there (of_main action partial names) ds es there back outcome h =
-    main_there (of_main action partial names) ds es there _ _ (acted_same ds es outcome (checks_there action partial names ds es there back outcome) action) h
+answers_there (of_main action options names) ds es there back outcome h =
+    main_there (of_main action options names) ds es there _ _ (acted_same ds es outcome (checks_there action options names ds es there back outcome) action) h
 answers_there (compares first second) ds es there back outcome h =
     two_there (compares first second) ds es there _ (λ a b c d s t w. limited_more _ _ (λ o k. comparison_same a b c d s t o k) outcome w) h
 answers_there (tries size) ds es there back outcome h = h
@@ -170,18 +171,36 @@ module _ (request : Request) (ds es : List Parsed) (there : Agree request ds es)
       let own = says_same kinds alike.other parsed (parsed_back parsed alike.other alike.same) said.0 said.1 in
       (own.other, own.says)
 
+  answered_there : (outcome : Outcome) → AnswersBy request ds outcome → AnswersBy request es outcome
+  answered_there outcome (says_nothing place fault name u at e) = says_nothing place fault name (first_there place fault u) at e
+  answered_there outcome (all_say all w) = all_say (all_there all) (answers_there request ds es there back outcome w)
+
+-- so it is with guesses, where others miss the imports that these miss
+
+-- documents that agree with these are guessed of the others
+pub record AgreeGuessed (request : Request) (guessed es : List Parsed) : Type 0 where
+  pub others : List Parsed
+  pub are : AreGuessed request es others
+  pub there : Agree request guessed others
+  pub back : Agree request others guessed
+
+pub record AgreeAsRead (request : Request) (ds es : List Parsed) : Type 0 where
+  pub missing : (place : ℕ) (iri : List ℕ) → IsFirstMissing (heads_in ds) place iri → IsFirstMissing (heads_in es) place iri
+  pub none : MissesNone (heads_in ds) → MissesNone (heads_in es)
+  pub guessed : (guessed : List Parsed) → AreGuessed request ds guessed → AgreeGuessed request guessed es
+
+module _ (request : Request) (ds es : List Parsed) (agree : AgreeAsRead request ds es) where
   pub concludes_there : (outcome : Outcome) → Concludes request ds outcome → Concludes request es outcome
   concludes_there outcome (misses_import asked place iri name m at e) =
-      misses_import asked place iri name (there.missing place iri m) at e
-  concludes_there outcome (says_nothing imports place fault name u at e) =
-      says_nothing (λ asked. there.none (imports asked)) place fault name (first_there place fault u) at e
-  concludes_there outcome (all_say imports all w) =
-      all_say (λ asked. there.none (imports asked)) (all_there all) (answers_there request ds es there back outcome w)
+      misses_import asked place iri name (agree.missing place iri m) at e
+  concludes_there outcome (misses_none imports guessed are answer) =
+      let more = agree.guessed guessed are in
+      misses_none (λ asked. agree.none (imports asked)) more.others more.are (answered_there request guessed more.others more.there more.back outcome answer)
 
 -- what is concluded of documents is one
 
 kinds_once : (request : Request) (documents : List Parsed) (place : ℕ) (parsed : Parsed) (k l : List Entity) → HasKinds request documents place parsed k → HasKinds request documents place parsed l → k ≡ l
-kinds_once (of_main action partial names) documents place parsed k l h i = closure_once documents k l h.1 i.1
+kinds_once (of_main action options names) documents place parsed k l h i = closure_once documents k l h.1 i.1
 kinds_once (compares first second) documents place parsed k l h i = own_once parsed k l h i
 kinds_once (tries size) documents place parsed k l h i = absurd h
 
@@ -238,8 +257,8 @@ module _ (request : Request) (documents : List Parsed) where
       once h.first h.second k.first k.second (said_at_once 0 h.first k.first h.says_first k.says_first) (said_at_once 1 h.second k.second h.says_second k.says_second) h.holds k.holds
 
 answers_once : ReadOneWay → RefusedOneWay → NeverBoth → (request : Request) (documents : List Parsed) (a b : Outcome) → AnswersWith request documents a → AnswersWith request documents b → a ≡ b
-answers_once read_way refused_way never (of_main action partial names) documents a b v w =
-    main_once (of_main action partial names) documents _ _ a b (λ p kinds s t same h k. acted_once documents action p kinds t a b (acted_same documents documents a (λ profile c. c) action p p kinds s t (parsed_refl p) same h) k) v w
+answers_once read_way refused_way never (of_main action options names) documents a b v w =
+    main_once (of_main action options names) documents _ _ a b (λ p kinds s t same h k. acted_once documents action p kinds t a b (acted_same documents documents a (λ profile c. c) action p p kinds s t (parsed_refl p) same h) k) v w
 answers_once read_way refused_way never (compares first second) documents a b v w =
     two_once (compares first second) documents _ _ a b (λ s t u x e f h k. limited_once (IsComparison s t) (IsComparison u x) (λ y z i j. comparison_once u x y z (comparison_same s t u x e f y i) j) a b h k) v w
 answers_once read_way refused_way never (tries size) documents a b v w = trial_once read_way refused_way never size a b v w
@@ -247,21 +266,24 @@ answers_once read_way refused_way never (tries size) documents a b v w = trial_o
 named : (names : List (List ℕ)) (p q : ℕ) (x y : List ℕ) → p ≡ q → slice_get names p ≡ Some x → slice_get names q ≡ Some y → x ≡ y
 named names p q x y e f g = cc
 
-pub concludes_once : ReadOneWay → RefusedOneWay → NeverBoth → (request : Request) (documents : List Parsed) (a b : Outcome) → Concludes request documents a → Concludes request documents b → a ≡ b
-concludes_once read_way refused_way never request documents a b (misses_import asked place iri name m at e) (misses_import again other theirs name2 n at2 f) =
-    let one = missing_once (heads_in documents) place other iri theirs m n in
-    let same : name ≡ name2 = named (names_of request) place other name name2 one.0 at at2 in
-    e ∙ ap (λ (x : List ℕ). missing_import x iri) same ∙ ap (missing_import name2) one.1 ∙ sym f
-concludes_once read_way refused_way never request documents a b (misses_import asked place iri name m at e) (says_nothing h other fault name2 u at2 f) =
-    absurd (h asked place iri m.missing)
-concludes_once read_way refused_way never request documents a b (misses_import asked place iri name m at e) (all_say h all w) = absurd (h asked place iri m.missing)
-concludes_once read_way refused_way never request documents a b (says_nothing h place fault name u at e) (misses_import asked other iri name2 m at2 f) =
-    absurd (h asked other iri m.missing)
-concludes_once read_way refused_way never request documents a b (says_nothing h place fault name u at e) (says_nothing k other another name2 v at2 f) =
-    let one = first_once request documents place other fault another u v in
-    let same : name ≡ name2 = named (names_of request) place other name name2 one at at2 in
-    e ∙ ap (λ (x : List ℕ). unsaid_outcome x fault) same ∙ ap (unsaid_outcome name2) (fault_at_once request documents place other fault another one u.unsaid v.unsaid) ∙ sym f
-concludes_once read_way refused_way never request documents a b (says_nothing h place fault name u at e) (all_say k all w) = absurd (all_or_not request documents all place fault u.unsaid)
-concludes_once read_way refused_way never request documents a b (all_say h all v) (misses_import asked place iri name m at e) = absurd (h asked place iri m.missing)
-concludes_once read_way refused_way never request documents a b (all_say h all v) (says_nothing k place fault name u at e) = absurd (all_or_not request documents all place fault u.unsaid)
-concludes_once read_way refused_way never request documents a b (all_say h all v) (all_say k every w) = answers_once read_way refused_way never request documents a b v w
+module _ (read_way : ReadOneWay) (refused_way : RefusedOneWay) (never : NeverBoth) (request : Request) (documents : List Parsed) where
+  answer_once : (a b : Outcome) → AnswersBy request documents a → AnswersBy request documents b → a ≡ b
+  answer_once a b (says_nothing place fault name u at e) (says_nothing other another name2 v at2 f) =
+      let one = first_once request documents place other fault another u v in
+      let same : name ≡ name2 = named (names_of request) place other name name2 one at at2 in
+      e ∙ ap (λ (x : List ℕ). unsaid_outcome x fault) same ∙ ap (unsaid_outcome name2) (fault_at_once request documents place other fault another one u.unsaid v.unsaid) ∙ sym f
+  answer_once a b (says_nothing place fault name u at e) (all_say all w) = absurd (all_or_not request documents all place fault u.unsaid)
+  answer_once a b (all_say all v) (says_nothing place fault name u at e) = absurd (all_or_not request documents all place fault u.unsaid)
+  answer_once a b (all_say all v) (all_say every w) = answers_once read_way refused_way never request documents a b v w
+
+module _ (read_way : ReadOneWay) (refused_way : RefusedOneWay) (never : NeverBoth) (request : Request) (documents : List Parsed) where
+  pub concludes_once : (a b : Outcome) → Concludes request documents a → Concludes request documents b → a ≡ b
+  concludes_once a b (misses_import asked place iri name m at e) (misses_import again other theirs name2 n at2 f) =
+      let one = missing_once (heads_in documents) place other iri theirs m n in
+      let same : name ≡ name2 = named (names_of request) place other name name2 one.0 at at2 in
+      e ∙ ap (λ (x : List ℕ). missing_import x iri) same ∙ ap (missing_import name2) one.1 ∙ sym f
+  concludes_once a b (misses_import asked place iri name m at e) (misses_none imports guessed are answer) = absurd (imports asked place iri m.missing)
+  concludes_once a b (misses_none imports guessed are answer) (misses_import asked place iri name m at e) = absurd (imports asked place iri m.missing)
+  concludes_once a b (misses_none imports guessed are answer) (misses_none h others theirs other) =
+      let same = guessed_once request documents guessed others are theirs in
+      answer_once read_way refused_way never request others a b (subst (λ (ds : List Parsed). AnswersBy request ds a) same answer) other

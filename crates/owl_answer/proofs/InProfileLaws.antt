@@ -8,6 +8,7 @@ use Rattle.owl_breaches.specs.Sites.{Ontologies, Site, sites}
 use Rattle.owl_breaches.specs.Those.{AreThose, none}
 use Rattle.owl_breaches.proofs.OneLaws.{through}
 use Rattle.owl_close.specs.Imports.{main}
+use Rattle.owl_command.specs.declared.command.Options.{Options}
 use Rattle.owl_command.specs.Commands.{Request, of_main}
 use Rattle.owl_command.specs.declared.command.Action.TheVariants.{Check}
 use Rattle.owl_command.specs.declared.command.Profile.{Profile}
@@ -23,7 +24,7 @@ use Rattle.owl_profiles.proofs.ProfileLaws.{BreaksSo, dl_none, none_of_both, own
 use Rattle.owl_answer.specs.Checks.{AreBreaches, IsChecked, IsImportClosure, IsIn, KeepsFurther, further_of, further_rules}
 use Rattle.owl_answer.specs.InProfile.{IsInProfile}
 use Rattle.owl_answer.specs.Outcome.{IsSuccess, IsTheOutcome}
-use Rattle.owl_answer.specs.Runs.{Becomes, all_read, all_say, misses_import, not_read, says_nothing}
+use Rattle.owl_answer.specs.Runs.{Becomes, all_read, all_say, misses_import, misses_none, not_read, says_nothing}
 use Rattle.owl_answer.specs.UnderKinds.{AllSay, SaysAt, SaysUnder}
 use Rattle.owl_answer.proofs.Checks.{form_at, forms_canonical}
 use Rattle.owl_answer.proofs.Closures.{closure_once}
@@ -58,56 +59,58 @@ checked_done profile documents outcome h e = of_verdict h.told
     of_verdict (fits is l) = none_found profile h.places h.breaches (sym (ap (λ (o : Outcome). o.status) is) ∙ e)
     of_verdict (passes wanted is l long) = let same = sym (ap (λ (o : Outcome). o.status) long) ∙ e in absurd (cc)
 
-module _ (contents : Contents) (profile : Profile) (partial : Bool) (names : List (List ℕ)) where
+module _ (contents : Contents) (profile : Profile) (options : Options) (names : List (List ℕ)) where
   abbrev request : Request
-  request = of_main (Check profile) partial names
+  request = of_main (Check profile) options names
 
   yes_within : (outcome : Outcome) → Becomes contents request outcome → outcome.status ≡ Done → IsInProfile contents request profile
-  yes_within outcome (not_read name refusal f e) done =
-      absurd (refused_fails name refusal (subst (λ (o : Outcome). IsSuccess o.status) e (done_succeeds outcome.status done)))
+  yes_within outcome (not_read source refusal f e) done =
+      absurd (refused_fails source.name refusal (subst (λ (o : Outcome). IsSuccess o.status) e (done_succeeds outcome.status done)))
   yes_within outcome (all_read documents read (misses_import asked place iri name m at e)) done =
       absurd (subst (λ (o : Outcome). IsSuccess o.status) e (done_succeeds outcome.status done))
-  yes_within outcome (all_read documents read (says_nothing imports place fault name u at e)) done =
+  yes_within outcome (all_read documents read (misses_none imports guessed are (says_nothing place fault name u at e))) done =
       absurd (unsaid_fails name fault (is_proper u.unsaid.kinds u.unsaid.parsed fault u.unsaid.unsaid) (subst (λ (o : Outcome). IsSuccess o.status) e (done_succeeds outcome.status done)))
-  yes_within outcome (all_read documents read (all_say imports all w)) done =
-      let none = checked_done profile documents outcome w.holds done in
+  yes_within outcome (all_read documents read (misses_none imports guessed are (all_say all w))) done =
+      let none = checked_done profile guessed outcome w.holds done in
       record {
         documents = documents;
         read = read;
         imports = imports;
+        guessed = guessed;
+        are_guessed = are;
         places = w.holds.places;
         closure = w.holds.closure;
         is = w.holds.is;
-        within = (within_or_broken profile documents w.holds.places w.holds.closure w.holds.is).1 (subst (AreBreaches profile w.holds.closure) none w.holds.are);
+        within = (within_or_broken profile guessed w.holds.places w.holds.closure w.holds.is).1 (subst (AreBreaches profile w.holds.closure) none w.holds.are);
       }
 
   module _ (h : IsInProfile contents request profile) where
     -- each document of the closure says something
-    all_said : AllSay request h.documents
+    all_said : AllSay request h.guessed
     all_said place parsed kinds r =
-        let form = form_at h.documents h.closure.kinds h.places h.closure.all h.is.say place ((h.is.reached.reached place).1 r.under.0) in
+        let form = form_at h.guessed h.closure.kinds h.places h.closure.all h.is.say place ((h.is.reached.reached place).1 r.under.0) in
         let same : form.1.parsed ≡ parsed = same_Some form.1.parsed parsed (sym form.1.there ∙ r.there) in
-        let own : h.closure.kinds ≡ kinds = closure_once h.documents h.closure.kinds kinds h.is.declared r.under.1 in
+        let own : h.closure.kinds ≡ kinds = closure_once h.guessed h.closure.kinds kinds h.is.declared r.under.1 in
         let says : SaysUnder kinds parsed form.1.said =
         subst (λ (p : Parsed). SaysUnder kinds p form.1.said) same (subst (λ (ks : List Entity). SaysUnder ks form.1.parsed form.1.said) own form.1.says) in
         (form.1.said, says)
 
-    checked_yes : IsChecked profile h.documents (verdict profile h.places [])
+    checked_yes : IsChecked profile h.guessed (verdict profile h.places [])
     checked_yes = record {
       places = h.places;
       closure = h.closure;
       is = h.is;
       breaches = [];
-      are = (within_or_broken profile h.documents h.places h.closure h.is).0 h.within;
+      are = (within_or_broken profile h.guessed h.places h.closure h.is).0 h.within;
       told = fits refl (omega arith);
     }
 
     becomes_yes : Becomes contents request (verdict profile h.places [])
     becomes_yes =
-        let form = form_at h.documents h.closure.kinds h.places h.closure.all h.is.say 0 ((h.is.reached.reached 0).1 main) in
-        let first : SaysAt request h.documents 0 form.1.said =
+        let form = form_at h.guessed h.closure.kinds h.places h.closure.all h.is.say 0 ((h.is.reached.reached 0).1 main) in
+        let first : SaysAt request h.guessed 0 form.1.said =
         record { parsed = form.1.parsed; kinds = h.closure.kinds; read = record { there = form.1.there; under = (main, h.is.declared) }; says = form.1.says } in
-        all_read h.documents h.read (all_say h.imports all_said (record { said = form.1.said; main = first; holds = checked_yes }))
+        all_read h.documents h.read (misses_none h.imports h.guessed h.are_guessed (all_say all_said (record { said = form.1.said; main = first; holds = checked_yes })))
 
   pub yes_exactly_within : (outcome : Outcome) → IsTheOutcome (Becomes contents request) outcome → (outcome.status ≡ Done) ↔ IsInProfile contents request profile
   yes_exactly_within outcome one = (

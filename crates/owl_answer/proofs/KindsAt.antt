@@ -1,13 +1,18 @@
 -- What the documents at some places declare.
-use Rattle.std.proofs.Common.{◌≡◌, ◌<◌, ◌+◌, inl, inr, ℕ, List, [], ◌∷◌, ◌++◌, None, Some, length, take, get_or, slice_get, sym, ◌∙◌, subst}
-use Rattle.std.proofs.lemmas.List.{take_more}
+use Rattle.std.proofs.Common.{◌≡◌, ◌<◌, ◌+◌, inl, inr, ℕ, List, [], ◌∷◌, ◌++◌, None, Some, length, take, get_or, slice_get, refl, ap, sym, ◌∙◌, subst}
+use Rattle.std.specs.Prelude.{◌↔◌, ◌⊎◌}
+use Rattle.std.proofs.lemmas.List.{map-append, take_more}
 use Rattle.std.proofs.lemmas.List.Elements.{Contains-append_cases, Contains-append_left, Contains-append_right}
 use Rattle.std.proofs.lemmas.Option.{same_Some}
 use Rattle.owl_kind.specs.declared.kind.Kind.{Kind}
 use Rattle.owl_kind.specs.Kinds.{Entity, IsDeclared}
 use Rattle.owl_kind.specs.Order.{AreOrdered}
 use Rattle.owl_list.proofs.AscendingLaws.{in_cases, in_head, in_none}
-use Rattle.owl_documents.specs.Documents.{DeclaresAs, Parsed}
+use Rattle.owl_doc.specs.Entities.{AddsAll}
+use Rattle.owl_documents.specs.Documents.{DeclaresAs, GraphRead, Parsed, a_graph, guessed_entities}
+use Rattle.owl_kind.specs.declared.kind.Kind.TheVariants.{AnnotationProperty}
+use Rattle.rdf_scans.proofs.Declaring.{adds_one}
+use Rattle.rdf_scans.specs.Outlines.{declarations}
 use Rattle.owl_close.specs.Imports.{AreReached}
 use Rattle.owl_answer.specs.KindsAt.{AddsAt, AddsOf, AreClosureKinds, AreDeclaredAt, AreOwnKinds, DeclaresAt}
 use Rattle.owl_answer.specs.Outcome.{heads_in}
@@ -24,6 +29,41 @@ own_from parsed old new none adds ordered = record {
   );
   ordered = ordered;
 }
+
+-- what a graph declares, and what is guessed of it
+adds_both : (a es b fs c : List Entity) → AddsAll a es b → AddsAll b fs c → AddsAll a (es ++ fs) c
+adds_both a es b fs c h k kind iri =
+    let e : Entity = record { kind = kind; iri = iri } in (
+      (λ m.
+          elim ((k kind iri).0 m) [
+            | inl n ↦ elim ((h kind iri).0 n) [ inl o ↦ inl o | inr o ↦ inr (Contains-append_left es fs e o) ]
+            | inr n ↦ inr (Contains-append_right es fs e n)
+          ]),
+      (λ s.
+          elim s [
+            | inl n ↦ (k kind iri).1 (inl ((h kind iri).1 (inl n)))
+            | inr n ↦ elim (Contains-append_cases es fs e n) [ inl o ↦ (k kind iri).1 (inl ((h kind iri).1 (inr o))) | inr o ↦ (k kind iri).1 (inr o) ]
+          ]),
+    )
+
+pub guesses_added : (read : GraphRead) (old between new : List Entity) → AddsAll old (declarations read.triples) between →
+    AddsAll between (guessed_entities read.guessed) new → AddsOf (a_graph read) old new
+guesses_added read old between new h k = adds_both old (declarations read.triples) between (guessed_entities read.guessed) new h k
+
+pub no_guesses : (kinds : List Entity) → AddsAll kinds [] kinds
+no_guesses kinds kind iri = (λ h. inl h, λ s. elim s [ inl h ↦ h | inr n ↦ absurd (in_none (record { kind = kind; iri = iri }) n) ])
+
+-- one more of them
+pub one_more_guess : (names : List (List ℕ)) (index : ℕ) (iri copy : List ℕ) (old kinds new : List Entity) → AddsAll old (guessed_entities (take index names)) kinds →
+    index < length names → iri ≡ get_or names index iri → copy ≡ iri →
+    ((k : Kind) (i : List ℕ) → IsDeclared new k i ↔ (IsDeclared kinds k i ⊎ ((k ≡ AnnotationProperty) × (i ≡ copy)))) →
+    AddsAll old (guessed_entities (take (index + 1) names)) new
+one_more_guess names index iri copy old kinds new h l e same adds =
+    let more : take (index + 1) names ≡ take index names ++ iri ∷ [] = take_more names index iri l ∙ ap (λ (y : List ℕ). take index names ++ y ∷ []) (sym e) in
+    let entities : guessed_entities (take (index + 1) names) ≡ guessed_entities (take index names) ++ guessed_entities (iri ∷ []) =
+    ap guessed_entities more ∙ map-append _ (take index names) (iri ∷ []) in
+    let one = adds_one kinds new (Some (record { kind = AnnotationProperty; iri = iri })) AnnotationProperty iri copy refl same adds in
+    subst (λ (es : List Entity). AddsAll old es new) (sym entities) (adds_both old (guessed_entities (take index names)) kinds (guessed_entities (iri ∷ [])) new h one)
 
 module _ (documents : List Parsed) where
   pub none_yet : (kinds : List Entity) → IsNothing kinds → AreDeclaredAt documents [] kinds

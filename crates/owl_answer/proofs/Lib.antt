@@ -4,6 +4,8 @@ pub mod BreachLists
 pub mod Checks
 pub mod Closures
 pub mod Concluding
+pub mod GuessedClashes
+pub mod GuessedDocuments
 pub mod Heads
 pub mod InProfileLaws
 pub mod KindsAt

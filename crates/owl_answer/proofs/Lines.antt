@@ -1,6 +1,7 @@
 -- What is concluded, and what is told of troubles, is proper, and has its line.
 use Rattle.std.proofs.Common.{◌≡◌, ℕ, Bool, zero, suc, Some, List, [], ◌∷◌, length, slice_get, inl, inr, refl, sym, subst}
 use Rattle.owl_reader.specs.declared.fault.ReadFault.TheVariants as read
+use Rattle.owl_command.specs.declared.command.Options.{Options}
 use Rattle.owl_command.specs.Commands.{IsAmong, Request, compares, names_of, of_main, tries}
 use Rattle.owl_command.specs.declared.command.Action.{Action}
 use Rattle.owl_command.specs.declared.command.Action.TheVariants.{Translate, Check, Show}
@@ -18,7 +19,7 @@ use Rattle.owl_answer.specs.Outcome.{IsComparison, IsSuccess, agree, differ}
 use Rattle.owl_answer.specs.Checks.{IsChecked}
 use Rattle.owl_messages.specs.Refusals.{two_kinds, undeclared, unsayable}
 use Rattle.owl_messages.specs.Verdicts.{verdict}
-use Rattle.owl_answer.specs.Runs.{AnswersWith, AsksOtherSyntax, AsksTranslation, Concludes, IsActionOutcome, IsIllTyped, IsTranslation, IsUnsayable, LineFor, SuccessLine, all_say, misses_import, of_bytes, of_import, of_output, of_part, of_refusal, of_saying, of_success, of_trial, of_triples, of_two_kinds, of_typing, of_undeclared, of_unsayable, of_weight, says_nothing}
+use Rattle.owl_answer.specs.Runs.{AnswersWith, AsksOtherSyntax, AsksTranslation, AnswersBy, Concludes, IsActionOutcome, IsIllTyped, IsTranslation, IsUnsayable, LineFor, SuccessLine, all_say, misses_import, misses_none, of_bytes, of_import, of_output, of_part, of_refusal, of_saying, of_success, of_trial, of_triples, of_two_kinds, of_typing, of_undeclared, of_unsayable, of_weight, says_nothing}
 use Rattle.owl_answer.specs.ManchesterOutcome.{IsToldInManchester, manchester_form, manchester_translation}
 use Rattle.owl_answer.specs.TurtleOutcome.{IsFormTold, IsGraphTold, IsTold as IsOfTurtle, IsTypingRefusal, canonical_said, clashes, few, graph_translation, heavy, ill_typed, light, many, not_typed, ready, unsaid, untyped, well_typed}
 use Rattle.owl_answer.specs.Answers.{IsProper}
@@ -70,46 +71,46 @@ limited_told request IsWanted told outcome (fits w l) = told outcome w
 limited_told request IsWanted told outcome (passes wanted w l e) = subst (IsTold request) (sym e) (too_long_told request)
 
 -- a translation that was written
-translated_told : (target : Target) (partial : Bool) (names : List (List ℕ)) (text : List ℕ) (axioms absorbed : ℕ) → IsTold (of_main (Translate target) partial names) (record { status = Done; text = text; line = done_line axioms absorbed })
-translated_told target partial names text axioms absorbed =
+translated_told : (target : Target) (options : Options) (names : List (List ℕ)) (text : List ℕ) (axioms absorbed : ℕ) → IsTold (of_main (Translate target) options names) (record { status = Done; text = text; line = done_line axioms absorbed })
+translated_told target options names text axioms absorbed =
     record { proper = record { found = tt; no_text = tt }; line = λ IsCause. of_success (axioms, absorbed, refl) }
 
-module _ (partial : Bool) (names : List (List ℕ)) where
-  form_told : (form : Said) (absorbed : ℕ) (outcome : Outcome) → IsFormTold form absorbed outcome → IsTold (of_main (Translate Ttl) partial names) outcome
+module _ (options : Options) (names : List (List ℕ)) where
+  form_told : (form : Said) (absorbed : ℕ) (outcome : Outcome) → IsFormTold form absorbed outcome → IsTold (of_main (Translate Ttl) options names) outcome
   form_told form absorbed outcome (many l e) =
-      subst (IsTold (of_main (Translate Ttl) partial names)) (sym e) (record { proper = record { found = tt; no_text = refl }; line = λ IsCause. of_triples tt refl refl })
+      subst (IsTold (of_main (Translate Ttl) options names)) (sym e) (record { proper = record { found = tt; no_text = refl }; line = λ IsCause. of_triples tt refl refl })
   form_told form absorbed outcome (few l w) =
-      limited_told (of_main (Translate Ttl) partial names) (λ o. o ≡ graph_translation form absorbed) (λ o e. subst (IsTold (of_main (Translate Ttl) partial names)) (sym e) (translated_told Ttl partial names _ _ _)) outcome w
+      limited_told (of_main (Translate Ttl) options names) (λ o. o ≡ graph_translation form absorbed) (λ o e. subst (IsTold (of_main (Translate Ttl) options names)) (sym e) (translated_told Ttl options names _ _ _)) outcome w
 
-  graph_told : (main : Said) (outcome : Outcome) → IsGraphTold main outcome → IsTold (of_main (Translate Ttl) partial names) outcome
+  graph_told : (main : Said) (outcome : Outcome) → IsGraphTold main outcome → IsTold (of_main (Translate Ttl) options names) outcome
   graph_told main outcome (heavy l e) =
-      subst (IsTold (of_main (Translate Ttl) partial names)) (sym e) (unsayable_told (of_main (Translate Ttl) partial names) tt too_heavy_output of_weight)
+      subst (IsTold (of_main (Translate Ttl) options names)) (sym e) (unsayable_told (of_main (Translate Ttl) options names) tt too_heavy_output of_weight)
   graph_told main outcome (light l w) = form_told _ _ outcome w
 
-  turtle_told : (kinds : List Entity) (main : Said) (outcome : Outcome) → IsOfTurtle kinds main outcome → IsTold (of_main (Translate Ttl) partial names) outcome
-  turtle_told kinds main outcome (not_typed h) = typing_told (of_main (Translate Ttl) partial names) tt kinds main.ontology outcome h
+  turtle_told : (kinds : List Entity) (main : Said) (outcome : Outcome) → IsOfTurtle kinds main outcome → IsTold (of_main (Translate Ttl) options names) outcome
+  turtle_told kinds main outcome (not_typed h) = typing_told (of_main (Translate Ttl) options names) tt kinds main.ontology outcome h
   turtle_told kinds main outcome (unsaid t part why h e) =
-      subst (IsTold (of_main (Translate Ttl) partial names)) (sym e) (unsayable_told (of_main (Translate Ttl) partial names) tt (unsayable part why) (of_part part why))
+      subst (IsTold (of_main (Translate Ttl) options names)) (sym e) (unsayable_told (of_main (Translate Ttl) options names) tt (unsayable part why) (of_part part why))
   turtle_told kinds main outcome (ready r w) = graph_told main outcome w
 
-  manchester_told : (kinds : List Entity) (main : Said) (outcome : Outcome) → IsToldInManchester kinds main outcome → IsTold (of_main (Translate Omn) partial names) outcome
-  manchester_told kinds main outcome (IsToldInManchester.not_typed h) = typing_told (of_main (Translate Omn) partial names) tt kinds main.ontology outcome h
+  manchester_told : (kinds : List Entity) (main : Said) (outcome : Outcome) → IsToldInManchester kinds main outcome → IsTold (of_main (Translate Omn) options names) outcome
+  manchester_told kinds main outcome (IsToldInManchester.not_typed h) = typing_told (of_main (Translate Omn) options names) tt kinds main.ontology outcome h
   manchester_told kinds main outcome (IsToldInManchester.unsaid t part why h e) =
-      subst (IsTold (of_main (Translate Omn) partial names)) (sym e) (unsayable_told (of_main (Translate Omn) partial names) tt (unsayable part why) (of_part part why))
+      subst (IsTold (of_main (Translate Omn) options names)) (sym e) (unsayable_told (of_main (Translate Omn) options names) tt (unsayable part why) (of_part part why))
   manchester_told kinds main outcome (IsToldInManchester.heavy r l e) =
-      subst (IsTold (of_main (Translate Omn) partial names)) (sym e) (unsayable_told (of_main (Translate Omn) partial names) tt too_heavy_output of_weight)
+      subst (IsTold (of_main (Translate Omn) options names)) (sym e) (unsayable_told (of_main (Translate Omn) options names) tt too_heavy_output of_weight)
   manchester_told kinds main outcome (IsToldInManchester.light r l w) =
-      limited_told (of_main (Translate Omn) partial names) (λ o. o ≡ manchester_translation kinds (manchester_form kinds main)) (λ o e. subst (IsTold (of_main (Translate Omn) partial names)) (sym e) (translated_told Omn partial names _ _ _)) outcome w
+      limited_told (of_main (Translate Omn) options names) (λ o. o ≡ manchester_translation kinds (manchester_form kinds main)) (λ o e. subst (IsTold (of_main (Translate Omn) options names)) (sym e) (translated_told Omn options names _ _ _)) outcome w
 
-  written_told : (main : Said) (outcome : Outcome) → IsLimited (λ (o : Outcome). o ≡ translation main) outcome → IsTold (of_main (Translate Fss) partial names) outcome
+  written_told : (main : Said) (outcome : Outcome) → IsLimited (λ (o : Outcome). o ≡ translation main) outcome → IsTold (of_main (Translate Fss) options names) outcome
   written_told main outcome w =
-      limited_told (of_main (Translate Fss) partial names) (λ o. o ≡ translation main) (λ o e. subst (IsTold (of_main (Translate Fss) partial names)) (sym e) (translated_told Fss partial names _ _ _)) outcome w
+      limited_told (of_main (Translate Fss) options names) (λ o. o ≡ translation main) (λ o e. subst (IsTold (of_main (Translate Fss) options names)) (sym e) (translated_told Fss options names _ _ _)) outcome w
 
-  translation_told : (target : Target) (parsed : Parsed) (kinds : List Entity) (main : Said) (outcome : Outcome) → IsTranslation target parsed kinds main outcome → IsTold (of_main (Translate target) partial names) outcome
+  translation_told : (target : Target) (parsed : Parsed) (kinds : List Entity) (main : Said) (outcome : Outcome) → IsTranslation target parsed kinds main outcome → IsTold (of_main (Translate target) options names) outcome
   translation_told Fss (an_ontology said) kinds main outcome w = written_told main outcome w
-  translation_told Fss (a_graph read) kinds main outcome (ill_typed h) = typing_told (of_main (Translate Fss) partial names) tt kinds main.ontology outcome h
+  translation_told Fss (a_graph read) kinds main outcome (ill_typed h) = typing_told (of_main (Translate Fss) options names) tt kinds main.ontology outcome h
   translation_told Fss (a_graph read) kinds main outcome (well_typed t w) = written_told main outcome w
-  translation_told Fss (the_frames read) kinds main outcome (ill_typed h) = typing_told (of_main (Translate Fss) partial names) tt kinds main.ontology outcome h
+  translation_told Fss (the_frames read) kinds main outcome (ill_typed h) = typing_told (of_main (Translate Fss) options names) tt kinds main.ontology outcome h
   translation_told Fss (the_frames read) kinds main outcome (well_typed t w) = written_told main outcome w
   translation_told Ttl parsed kinds main outcome w = turtle_told kinds (canonical_said main) outcome w
   translation_told Omn parsed kinds main outcome w = manchester_told kinds (canonical_said main) outcome w
@@ -122,25 +123,25 @@ compared_told : (first second : List ℕ) (a b : Said) (outcome : Outcome) → I
 compared_told first second a b outcome (agree h e) = done_told (compares first second) agreement (record { found = tt; no_text = tt }) refl outcome e
 compared_told first second a b outcome (differ h e) = done_told (compares first second) difference (record { found = tt; no_text = tt }) refl outcome e
 
-verdict_told : (profile : Profile) (partial : Bool) (names : List (List ℕ)) (places : List ℕ) (found : List (Site ProfileRule)) → IsTold (of_main (Check profile) partial names) (verdict profile places found)
-verdict_told profile partial names places [] = record { proper = record { found = tt; no_text = tt }; line = λ IsCause. of_success refl }
-verdict_told profile partial names places (breach ∷ more) =
+verdict_told : (profile : Profile) (options : Options) (names : List (List ℕ)) (places : List ℕ) (found : List (Site ProfileRule)) → IsTold (of_main (Check profile) options names) (verdict profile places found)
+verdict_told profile options names places [] = record { proper = record { found = tt; no_text = tt }; line = λ IsCause. of_success refl }
+verdict_told profile options names places (breach ∷ more) =
     record { proper = record { found = tt; no_text = tt }; line = λ IsCause. of_success (suc (length more), refl) }
 
-checked_told : (profile : Profile) (partial : Bool) (names : List (List ℕ)) (documents : List Parsed) (outcome : Outcome) → IsChecked profile documents outcome → IsTold (of_main (Check profile) partial names) outcome
-checked_told profile partial names documents outcome h =
-    limited_told (of_main (Check profile) partial names) (λ o. o ≡ verdict profile h.places h.breaches)
-    (λ o e. subst (IsTold (of_main (Check profile) partial names)) (sym e) (verdict_told profile partial names h.places h.breaches)) outcome h.told
+checked_told : (profile : Profile) (options : Options) (names : List (List ℕ)) (documents : List Parsed) (outcome : Outcome) → IsChecked profile documents outcome → IsTold (of_main (Check profile) options names) outcome
+checked_told profile options names documents outcome h =
+    limited_told (of_main (Check profile) options names) (λ o. o ≡ verdict profile h.places h.breaches)
+    (λ o e. subst (IsTold (of_main (Check profile) options names)) (sym e) (verdict_told profile options names h.places h.breaches)) outcome h.told
 
-acted_told : (action : Action) (partial : Bool) (names : List (List ℕ)) (documents : List Parsed) (parsed : Parsed) (kinds : List Entity) (main : Said) (outcome : Outcome) → IsActionOutcome action documents parsed kinds main outcome → IsTold (of_main action partial names) outcome
-acted_told (Translate target) partial names documents parsed kinds main outcome h = translation_told partial names target parsed kinds main outcome h
-acted_told (Check profile) partial names documents parsed kinds main outcome h = checked_told profile partial names documents outcome h
-acted_told Show partial names documents parsed kinds main outcome h =
-    limited_told (of_main Show partial names) (λ o. o ≡ shown main) (done_told (of_main Show partial names) (shown main) (record { found = tt; no_text = tt }) refl) outcome h
+acted_told : (action : Action) (options : Options) (names : List (List ℕ)) (documents : List Parsed) (parsed : Parsed) (kinds : List Entity) (main : Said) (outcome : Outcome) → IsActionOutcome action documents parsed kinds main outcome → IsTold (of_main action options names) outcome
+acted_told (Translate target) options names documents parsed kinds main outcome h = translation_told options names target parsed kinds main outcome h
+acted_told (Check profile) options names documents parsed kinds main outcome h = checked_told profile options names documents outcome h
+acted_told Show options names documents parsed kinds main outcome h =
+    limited_told (of_main Show options names) (λ o. o ≡ shown main) (done_told (of_main Show options names) (shown main) (record { found = tt; no_text = tt }) refl) outcome h
 
 answers_told : (request : Request) (documents : List Parsed) (outcome : Outcome) → AnswersWith request documents outcome → IsTold request outcome
-answers_told (of_main action partial names) documents outcome w =
-    acted_told action partial names documents w.main.parsed w.main.kinds w.said outcome w.holds
+answers_told (of_main action options names) documents outcome w =
+    acted_told action options names documents w.main.parsed w.main.kinds w.said outcome w.holds
 answers_told (compares first second) documents outcome w =
     limited_told (compares first second) (IsComparison w.first w.second) (compared_told first second w.first w.second) outcome w.holds
 answers_told (tries size) documents outcome w =
@@ -164,12 +165,15 @@ unsaid_told request name fault among n = record {
   line = λ IsCause. of_refusal name among (of_saying fault n refl refl);
 }
 
+answer_told : (request : Request) (documents : List Parsed) (outcome : Outcome) → AnswersBy request documents outcome → IsTold request outcome
+answer_told request documents outcome (says_nothing place fault name u at e) =
+    subst (IsTold request) (sym e) (unsaid_told request name fault (at_among (names_of request) place name at) (is_proper u.unsaid.kinds u.unsaid.parsed fault u.unsaid.unsaid))
+answer_told request documents outcome (all_say all w) = answers_told request documents outcome w
+
 pub concluded_told : (request : Request) (documents : List Parsed) (outcome : Outcome) → Concludes request documents outcome → IsTold request outcome
 concluded_told request documents outcome (misses_import asked place iri name m at e) =
     subst (IsTold request) (sym e) (missing_told request name iri (at_among (names_of request) place name at))
-concluded_told request documents outcome (says_nothing h place fault name u at e) =
-    subst (IsTold request) (sym e) (unsaid_told request name fault (at_among (names_of request) place name at) (is_proper u.unsaid.kinds u.unsaid.parsed fault u.unsaid.unsaid))
-concluded_told request documents outcome (all_say h all w) = answers_told request documents outcome w
+concluded_told request documents outcome (misses_none imports guessed are answer) = answer_told request guessed outcome answer
 
 -- a refusal is told as one
 pub refused_told : (request : Request) (name : List ℕ) (refusal : Refusal) → IsAmong (names_of request) name → IsProperRefusal refusal → IsTold request (refusal_outcome name refusal)

@@ -24,7 +24,7 @@ use Rattle.man_resolve.specs.Resolved.{IsResolveFault}
 use Rattle.man_resolve.specs.declared.fault.ResolveFault.{ResolveFault}
 use Rattle.man_resolve.specs.declared.fault.ResolveFault.TheVariants as resolve
 use Rattle.owl_messages.specs.Unsaid.{of_frames, of_graph}
-use Rattle.rdf_reverse.specs.Reverse.{IsReverseFault}
+use Rattle.rdf_reverse.specs.Guesses.{IsFaultWith}
 use Rattle.rdf_reverse.specs.declared.fault.ReverseFault.{ReverseFault}
 use Rattle.rdf_thin.specs.Thinned.{thinned}
 use Rattle.rdf_reverse.specs.declared.fault.ReverseFault.TheVariants as reverse
@@ -67,7 +67,7 @@ pub by_from : {T E : Type 0} (r : Result T E) (given : E) (P : E → Type 0) →
 by_from (Ok x) given P e h = tt
 by_from (Err other) given P e h = subst P (sym e) h
 
-pub unsaid_graph : (g : GraphRead) (k : List Entity) (fault : ReverseFault) → IsReverseFault (thinned g.triples) k fault → of_graph fault ≢ Memory → IsUnsaidUnder k (a_graph g) (of_graph fault)
+pub unsaid_graph : (g : GraphRead) (k : List Entity) (fault : ReverseFault) → IsFaultWith (thinned g.triples) k g.guessed fault → of_graph fault ≢ Memory → IsUnsaidUnder k (a_graph g) (of_graph fault)
 unsaid_graph g k reverse.Memory h n = absurd (n refl)
 unsaid_graph g k fault (inl e) n = absurd (n (ap of_graph e))
 unsaid_graph g k (reverse.TwoKinds iri) (inr u) n = u

@@ -1,10 +1,10 @@
 -- Documents that are read as the same have the same head, declare the same, and say the same.
-use Rattle.std.proofs.Common.{◌≡◌, ◌≢◌, ℕ, Option, List, [], ◌∷◌, inl, inr, refl, sym, ap, ◌∙◌, subst}
+use Rattle.std.proofs.Common.{◌≡◌, ◌≢◌, ℕ, Option, List, [], ◌∷◌, ◌++◌, inl, inr, refl, sym, ap, ◌∙◌, subst}
 use Rattle.std.specs.List.{filter, flat_map}
 use Rattle.std.specs.Prelude.{not}
 use Rattle.owl_doc.specs.Entities.{Declares, declarations}
 use Rattle.owl_doc.specs.Heads.{iri_in}
-use Rattle.owl_documents.specs.Documents.{DeclaresAs, IsSame, Parsed, Said, a_graph, an_ontology, head_in, the_frames}
+use Rattle.owl_documents.specs.Documents.{DeclaresAs, IsSame, Parsed, Said, a_graph, an_ontology, guessed_entities, head_in, the_frames}
 use Rattle.owl_documents.specs.OneWay.{IsSameParsed}
 use Rattle.owl_kind.specs.declared.kind.Kind.{Kind}
 use Rattle.owl_kind.specs.Kinds.{Entity, IsDeclared}
@@ -14,8 +14,9 @@ use Rattle.owl_tree.specs.Trees.{Tree}
 use Rattle.rdf_graph.specs.declared.triple.Triple.{Triple}
 use Rattle.rdf_normal.proofs.DeclaredLaws.{declares_same}
 use Rattle.rdf_normal.specs.NormalForms.{is_about, normal_form, settled, spread}
-use Rattle.rdf_reverse.specs.Reverse.{Finds, FindsFirst, IsHeaderFault, IsSaid, IsUnsaid, Step, bad_header, no_header, of_depths, of_header, of_kinds, of_names, of_nodes, of_numbers, of_parts, of_reach, of_reifications, of_statements, of_weights, steps, two_headers}
-use Rattle.rdf_reverse.proofs.ReverseLaws.{never_both, said_one_way, unsaid_one_way}
+use Rattle.rdf_reverse.specs.Reverse.{Finds, FindsFirst, IsHeaderFault, IsUnsaid, Step, bad_header, no_header, of_depths, of_header, of_kinds, of_names, of_nodes, of_numbers, of_parts, of_reach, of_reifications, of_statements, of_weights, steps, two_headers}
+use Rattle.rdf_reverse.proofs.GuessLaws.{never_both_with, said_with_once, unsaid_with_once}
+use Rattle.rdf_reverse.specs.Guesses.{IsSaidWith, IsUnsaidWith, of_graph, of_guesses}
 use Rattle.rdf_reverse.specs.declared.fault.ReverseFault.{ReverseFault}
 use Rattle.rdf_thin.specs.Thinned.{thinned}
 use Rattle.rdf_reverse.specs.declared.fault.ReverseFault.TheVariants as reverse
@@ -55,6 +56,7 @@ parsed_refl (a_graph a) = record {
   prefixes = λ i. a.prefixes;
   triples = λ i. a.triples;
   head = record { name = λ i. a.head.name; imports = λ x. (λ h. h, λ h. h) };
+  guessed = λ i. a.guessed;
 }
 
 pub parsed_back : (a b : Parsed) → IsSameParsed a b → IsSameParsed b a
@@ -67,7 +69,7 @@ parsed_back (the_frames a) (an_ontology b) s = absurd s
 parsed_back (the_frames a) (a_graph b) s = absurd s
 parsed_back (the_frames a) (the_frames b) s = sym s
 parsed_back (a_graph a) (a_graph b) s =
-    record { prefixes = sym s.prefixes; triples = sym s.triples; head = head_back a.head b.head s.head }
+    record { prefixes = sym s.prefixes; triples = sym s.triples; head = head_back a.head b.head s.head; guessed = sym s.guessed }
 
 pub same_head : (a b : Parsed) → IsSameParsed a b → IsSameHead (head_in a) (head_in b)
 same_head (an_ontology a) (an_ontology b) s = s.ontology.head
@@ -91,7 +93,8 @@ declares_same_as (the_frames a) (an_ontology b) s kind iri h = absurd s
 declares_same_as (the_frames a) (a_graph b) s kind iri h = absurd s
 declares_same_as (the_frames a) (the_frames b) s kind iri h = subst (λ (d : DocumentTree). IsDeclared (frame_entities d) kind iri) s h
 declares_same_as (a_graph a) (a_graph b) s kind iri h =
-    subst (λ (ts : List Triple). IsDeclared (declared_by ts) kind iri) s.triples h
+    subst (λ (ts : List Triple). IsDeclared (declared_by ts ++ guessed_entities b.guessed) kind iri) s.triples
+    (subst (λ (names : List (List ℕ)). IsDeclared (declared_by a.triples ++ guessed_entities names) kind iri) s.guessed h)
 
 -- what the one says the other says, up to structural equivalence
 pub record SaysSameAs (kinds : List Entity) (parsed : Parsed) (said : Said) : Type 0 where
@@ -112,7 +115,11 @@ says_same kinds (the_frames a) (the_frames b) s said h =
     record { other = said; says = subst (λ (d : DocumentTree). SaysUnder kinds (the_frames d) said) s h; same = said_refl said }
 says_same kinds (a_graph a) (a_graph b) s said h = record {
   other = said;
-  says = (h.0 ∙ s.prefixes, subst (λ (ts : List Triple). IsSaid (thinned ts) kinds said.ontology) s.triples h.1);
+  says = (
+    h.0 ∙ s.prefixes,
+    subst (λ (ts : List Triple). IsSaidWith (thinned ts) kinds b.guessed said.ontology) s.triples
+        (subst (λ (names : List (List ℕ)). IsSaidWith (thinned a.triples) kinds names said.ontology) s.guessed h.1),
+  );
   same = said_refl said;
 }
 
@@ -124,7 +131,9 @@ unsaid_same kinds (a_graph a) (an_ontology b) s fault h = absurd s
 unsaid_same kinds (a_graph a) (the_frames b) s fault h = absurd s
 unsaid_same kinds (the_frames a) (an_ontology b) s fault h = absurd s
 unsaid_same kinds (the_frames a) (a_graph b) s fault h = absurd s
-unsaid_same kinds (a_graph a) (a_graph b) s (Graph fault) h = subst (λ (ts : List Triple). IsUnsaid (thinned ts) kinds fault) s.triples h
+unsaid_same kinds (a_graph a) (a_graph b) s (Graph fault) h =
+    subst (λ (ts : List Triple). IsUnsaidWith (thinned ts) kinds b.guessed fault) s.triples
+    (subst (λ (names : List (List ℕ)). IsUnsaidWith (thinned a.triples) kinds names fault) s.guessed h)
 unsaid_same kinds (a_graph a) (a_graph b) s (Frames fault) h = absurd h
 unsaid_same kinds (a_graph a) (a_graph b) s Memory h = absurd h
 unsaid_same kinds (the_frames a) (the_frames b) s fault h = subst (λ (d : DocumentTree). IsUnsaidUnder kinds (the_frames d) fault) s h
@@ -133,13 +142,13 @@ unsaid_same kinds (the_frames a) (the_frames b) s fault h = subst (λ (d : Docum
 pub says_once : (kinds : List Entity) (parsed : Parsed) (a b : Said) → SaysUnder kinds parsed a → SaysUnder kinds parsed b → IsSame a b
 says_once kinds (an_ontology said) a b h k = subst (λ (x : Said). IsSame a x) (h ∙ sym k) (said_refl a)
 says_once kinds (a_graph read) a b h k =
-    record { prefixes = h.0 ∙ sym k.0; ontology = said_one_way (thinned read.triples) kinds a.ontology b.ontology h.1 k.1 }
+    record { prefixes = h.0 ∙ sym k.0; ontology = said_with_once (thinned read.triples) kinds read.guessed a.ontology b.ontology h.1 k.1 }
 says_once kinds (the_frames d) a b h k =
     record { prefixes = h.0 ∙ sym k.0; ontology = frames_laws.one_ontology d kinds a.ontology b.ontology h.1 k.1 }
 
 pub unsaid_once : (kinds : List Entity) (parsed : Parsed) (e f : UnsaidFault) → IsUnsaidUnder kinds parsed e → IsUnsaidUnder kinds parsed f → e ≡ f
 unsaid_once kinds (an_ontology said) e f h k = absurd h
-unsaid_once kinds (a_graph read) (Graph e) (Graph f) h k = ap Graph (unsaid_one_way (thinned read.triples) kinds e f h k)
+unsaid_once kinds (a_graph read) (Graph e) (Graph f) h k = ap Graph (unsaid_with_once (thinned read.triples) kinds read.guessed e f h k)
 unsaid_once kinds (a_graph read) (Graph e) (Frames f) h k = absurd k
 unsaid_once kinds (a_graph read) (Graph e) Memory h k = absurd k
 unsaid_once kinds (a_graph read) (Frames e) f h k = absurd h
@@ -152,7 +161,7 @@ unsaid_once kinds (the_frames d) Memory f h k = absurd h
 
 pub never_says_both : (kinds : List Entity) (parsed : Parsed) (said : Said) (fault : UnsaidFault) → SaysUnder kinds parsed said → IsUnsaidUnder kinds parsed fault → ⊥
 never_says_both kinds (an_ontology other) said fault h k = k
-never_says_both kinds (a_graph read) said (Graph fault) h k = never_both (thinned read.triples) kinds said.ontology fault h.1 k
+never_says_both kinds (a_graph read) said (Graph fault) h k = never_both_with (thinned read.triples) kinds read.guessed said.ontology fault h.1 k
 never_says_both kinds (a_graph read) said (Frames fault) h k = k
 never_says_both kinds (a_graph read) said Memory h k = k
 never_says_both kinds (the_frames d) said (Graph fault) h k = k
@@ -188,9 +197,13 @@ never_first g k [] h = h
 never_first g k (step ∷ more) (inl h) = never_found g k step h
 never_first g k (step ∷ more) (inr h) = never_first g k more h.1
 
+no_want_of_graph : (g : List Triple) (k : List Entity) (names : List (List ℕ)) (f : ReverseFault) → IsUnsaidWith g k names f → f ≡ reverse.Memory → ⊥
+no_want_of_graph g k names f (of_graph h) e = never_first g k steps (subst (λ (fault : ReverseFault). IsUnsaid g k fault) e h)
+no_want_of_graph g k names f (of_guesses bare said heavy is) e = let same = sym is ∙ e in cc
+
 pub is_proper : (kinds : List Entity) (parsed : Parsed) (fault : UnsaidFault) → IsUnsaidUnder kinds parsed fault → IsProperFault fault
 is_proper kinds (an_ontology said) fault h = absurd h
-is_proper kinds (a_graph read) (Graph fault) h = λ e. never_first (thinned read.triples) kinds steps (subst (λ (f : ReverseFault). IsUnsaid (thinned read.triples) kinds f) e h)
+is_proper kinds (a_graph read) (Graph fault) h = λ e. no_want_of_graph (thinned read.triples) kinds read.guessed fault h e
 is_proper kinds (a_graph read) (Frames fault) h = absurd h
 is_proper kinds (a_graph read) Memory h = absurd h
 is_proper kinds (the_frames d) (Graph fault) h = absurd h

@@ -31,6 +31,8 @@ use Rattle.man_resolve.specs.Resolved.{FramesMean}
 use Rattle.owl_profiles.specs.Profiles.{name_of}
 use Rattle.rdf_graph.specs.declared.triple.Triple.{Triple}
 use Rattle.rdf_mapping.specs.Graphs.{graph_of}
+use Rattle.rdf_reverse.proofs.GuessLaws.{with_none}
+use Rattle.rdf_reverse.specs.Guesses.{IsSaidWith}
 use Rattle.rdf_reverse.specs.Reverse.{IsSaid}
 use Rattle.rdf_thin.specs.Thinned.{thinned}
 use Rattle.rdf_scans.specs.Outlines.{IsOutlineFault}
@@ -68,7 +70,11 @@ module _ (bytes : List ℕ) (p : List Prefix) (g : List Triple) (kinds : List En
       let same : g ≡ graph.triples = (ttl.read_one_way None bytes p graph.prefixes g graph.triples (reads None) (r (codes "m.ttl") refl).1.reads).0 in
       record {
         said = record { prefixes = graph.prefixes; ontology = o };
-        says = (refl, subst (λ (h : List Triple). IsSaid h kinds o) (sym thin ∙ ap thinned same) said);
+        says = (
+          refl,
+          subst (λ (names : List (List ℕ)). IsSaidWith (thinned graph.triples) kinds names o) (sym (r (codes "m.ttl") refl).1.none_guessed)
+              ((with_none (thinned graph.triples) kinds o).1 (subst (λ (h : List Triple). IsSaid h kinds o) (sym thin ∙ ap thinned same) said)),
+        );
         ontology = refl;
         counts = ap (λ (h : List Triple). length h) (sym same);
       }

@@ -13,7 +13,7 @@ use Rattle.owl_messages.specs.declared.trial.BreachCounts.{BreachCounts}
 use Rattle.owl_messages.specs.declared.trial.Findings.{Findings}
 use Rattle.owl_profiles.specs.Profiles.{Breaks, ProfileRule}
 use Rattle.owl_answer.specs.Checks.{rules_of}
-use Rattle.owl_answer.specs.Trials.{AreBreachCounts, AreFindings, HasBreaches, IsTrialOutcome, IsTried, both, no_manchester, no_turtle, not_read, read, trial_contents, trial_name}
+use Rattle.owl_answer.specs.Trials.{AreBreachCounts, AreFindings, HasBreaches, IsTrialOutcome, IsTried, both, no_manchester, no_turtle, not_read, read, trial_contents, trial_name, trial_source}
 use Rattle.owl_answer.specs.TurtleOutcome.{IsTold, canonical_said}
 use Rattle.owl_answer.proofs.Closures.{own_alike, own_once}
 use Rattle.owl_answer.proofs.ManchesterOnce as manchester
@@ -73,13 +73,13 @@ module _ (kinds : List Entity) (main : Said) where
 module _ (read_way : ReadOneWay) (refused_way : RefusedOneWay) (never : NeverBoth) where
   pub trial_once : (size : ℕ) (a b : Outcome) → IsTrialOutcome size a → IsTrialOutcome size b → a ≡ b
   trial_once size a b (not_read refusal n f e) (not_read other m g d) =
-      e ∙ ap (refusal_outcome trial_name) (refused_way (trial_contents size) (trial_name ∷ []) trial_name trial_name refusal other f g).1 ∙ sym d
+      e ∙ ap (refusal_outcome trial_name) (refused_way (trial_contents size) (trial_source ∷ []) trial_source trial_source refusal other f g).1 ∙ sym d
   trial_once size a b (not_read refusal n f e) (read said r kinds own t) =
-      absurd (never (trial_contents size) (trial_name ∷ []) (an_ontology said ∷ []) trial_name refusal r f)
+      absurd (never (trial_contents size) (trial_source ∷ []) (an_ontology said ∷ []) trial_source refusal r f)
   trial_once size a b (read said r kinds own t) (not_read refusal n f e) =
-      absurd (never (trial_contents size) (trial_name ∷ []) (an_ontology said ∷ []) trial_name refusal r f)
+      absurd (never (trial_contents size) (trial_source ∷ []) (an_ontology said ∷ []) trial_source refusal r f)
   trial_once size a b (read said r kinds own t) (read other s others theirs u) =
-      let same : IsSame said other = (read_way (trial_contents size) (trial_name ∷ []) (an_ontology said ∷ []) (an_ontology other ∷ []) r s).0 in
+      let same : IsSame said other = (read_way (trial_contents size) (trial_source ∷ []) (an_ontology said ∷ []) (an_ontology other ∷ []) r s).0 in
       let declared : kinds ≡ others = own_once (an_ontology other) kinds others (own_alike (an_ontology said) (an_ontology other) kinds same own) theirs in
       let form : canonical_said said ≡ canonical_said other = same_said said other same in
       let there = subst (λ (main : Said). IsTried others main a) form (subst (λ (k : List Entity). IsTried k (canonical_said said) a) declared t) in

@@ -7,6 +7,7 @@ use Rattle.std.specs.declared.cmp.Ordering.TheVariants.{Less}
 use Rattle.std.specs.List.{AllByRecursion}
 use Rattle.std.specs.Ordering.{nat_cmp}
 use Rattle.owl_close.specs.Imports.{main}
+use Rattle.owl_command.specs.declared.command.Options.{Options}
 use Rattle.owl_command.specs.Commands.{AsksImports, IsAllowed, Request, compares, names_of, of_main, request_of, tries}
 use Rattle.owl_command.specs.declared.command.Action.{Action}
 use Rattle.owl_doc.specs.Documents.{Document}
@@ -16,12 +17,12 @@ use Rattle.owl_list.specs.Ascending.{IsAscending}
 use Rattle.owl_list.proofs.AscendingLaws.{all_in, head_below, in_cases, in_head, in_tail, tail_ascends}
 use Rattle.owl_messages.specs.declared.unsaid.UnsaidFault.{UnsaidFault}
 use Rattle.owl_messages.specs.declared.unsaid.UnsaidFault.TheVariants.{Memory}
-use Rattle.owl_answer.specs.Answers.{IsConclusion, IsToldOf}
+use Rattle.owl_answer.specs.Answers.{IsAnswerBy, IsToldOf}
 use Rattle.owl_answer.specs.Asked.{IsOfAction, IsOfTwo}
 use Rattle.owl_answer.specs.KindsAt.{AreOwnKinds, IsClosure}
 use Rattle.owl_answer.specs.Outcome.{IsComparison, IsSuccess}
 use Rattle.owl_answer.specs.Reading.{AllSayAt, IsFirstFault, IsUnsaidAlone, SaysAlone, SaysSomeAt}
-use Rattle.owl_answer.specs.Runs.{HasImports, all_say, says_nothing}
+use Rattle.owl_answer.specs.Runs.{all_say, says_nothing}
 use Rattle.owl_answer.specs.Trials.{IsTrialOutcome}
 use Rattle.owl_answer.specs.UnderKinds.{AllSay, ComparesTwo, IsFirstUnsaid, IsReadUnder, IsUnsaidAt, SaysAt, SaysSome, SaysUnder}
 use Rattle.owl_answer.specs.declared.asked.Asked.{Asked}
@@ -55,37 +56,37 @@ earlier (x ∷ before) after place other a m l =
     ]
 
 -- a document that says nothing
-pub unsaid_conclusion : (request : Request) (documents : List Parsed) (place : ℕ) (fault : UnsaidFault) (name : List ℕ) (outcome : Outcome) → HasImports request documents → IsFirstUnsaid request documents place fault → slice_get (names_of request) place ≡ Some name → outcome ≡ unsaid_outcome name fault → IsConclusion request documents outcome
-unsaid_conclusion request documents place fault name outcome imports u at e = record {
-  concludes = says_nothing imports place fault name u at e;
+unsaid_answer : (request : Request) (documents : List Parsed) (place : ℕ) (fault : UnsaidFault) (name : List ℕ) (outcome : Outcome) → IsFirstUnsaid request documents place fault → slice_get (names_of request) place ≡ Some name → outcome ≡ unsaid_outcome name fault → IsAnswerBy request documents outcome
+unsaid_answer request documents place fault name outcome u at e = record {
+  answers = says_nothing place fault name u at e;
   back = λ s. absurd (unsaid_fails name fault (is_proper u.unsaid.kinds u.unsaid.parsed fault u.unsaid.unsaid) (subst (λ (o : Outcome). IsSuccess o.status) e s));
 }
 
 -- the closure of a main document
-module _ (action : Action) (partial : Bool) (names : List (List ℕ)) (documents : List Parsed) (closure : Closure) (c : IsClosure documents closure) where
+module _ (action : Action) (options : Options) (names : List (List ℕ)) (documents : List Parsed) (closure : Closure) (c : IsClosure documents closure) where
   -- what is read is at one of its places, under its kinds
-  among : (place : ℕ) (p : Parsed) (k : List Entity) → IsReadUnder (of_main action partial names) documents place p k → Contains closure.places.items place
+  among : (place : ℕ) (p : Parsed) (k : List Entity) → IsReadUnder (of_main action options names) documents place p k → Contains closure.places.items place
   among place p k r = (c.reached.reached place).1 r.under.0
 
-  says_there : (place : ℕ) → SaysSomeAt documents closure.kinds place → (p : Parsed) (k : List Entity) → IsReadUnder (of_main action partial names) documents place p k → SaysSome k p
+  says_there : (place : ℕ) → SaysSomeAt documents closure.kinds place → (p : Parsed) (k : List Entity) → IsReadUnder (of_main action options names) documents place p k → SaysSome k p
   says_there place h p k r =
       subst (λ (l : List Entity). SaysSome l p) (closure_once documents closure.kinds k c.declared r.under.1) (h p r.there)
 
-  never_there : (place : ℕ) → SaysSomeAt documents closure.kinds place → (fault : UnsaidFault) → IsUnsaidAt (of_main action partial names) documents place fault → ⊥
+  never_there : (place : ℕ) → SaysSomeAt documents closure.kinds place → (fault : UnsaidFault) → IsUnsaidAt (of_main action options names) documents place fault → ⊥
   never_there place h fault u =
       let own = says_there place h u.parsed u.kinds u.read in
       never_says_both u.kinds u.parsed own.0 fault own.1 u.unsaid
 
-  all_said : AllByRecursion (SaysSomeAt documents closure.kinds) closure.places.items → AllSay (of_main action partial names) documents
+  all_said : AllByRecursion (SaysSomeAt documents closure.kinds) closure.places.items → AllSay (of_main action options names) documents
   all_said all place p k r =
       says_there place (all_in (SaysSomeAt documents closure.kinds) closure.places.items place all (among place p k r)) p k r
 
   -- all of it says something
-  told_conclusion : (held : List Document) → AllSayAt documents closure.kinds closure.places.items held → HasImports (of_main action partial names) documents → (outcome : Outcome) → IsToldOf action documents outcome → IsConclusion (of_main action partial names) documents outcome
-  told_conclusion held all imports outcome t =
-      let first : SaysAt (of_main action partial names) documents 0 t.main = record { parsed = t.parsed; kinds = t.kinds; read = record { there = t.there; under = (main, t.declared) }; says = t.says } in
+  told_answer : (held : List Document) → AllSayAt documents closure.kinds closure.places.items held → (outcome : Outcome) → IsToldOf action documents outcome → IsAnswerBy (of_main action options names) documents outcome
+  told_answer held all outcome t =
+      let first : SaysAt (of_main action options names) documents 0 t.main = record { parsed = t.parsed; kinds = t.kinds; read = record { there = t.there; under = (main, t.declared) }; says = t.says } in
       record {
-        concludes = all_say imports (all_said (all_some documents closure.kinds closure.places.items held all)) (record { said = t.main; main = first; holds = t.told.is });
+        answers = all_say (all_said (all_some documents closure.kinds closure.places.items held all)) (record { said = t.main; main = first; holds = t.told.is });
         back = λ s. record { said = t.main; main = first; holds = t.told.back s };
       }
 
@@ -96,14 +97,14 @@ module _ (action : Action) (partial : Bool) (names : List (List ℕ)) (documents
         subst (λ (xs : List ℕ). Contains xs unsaid.document) (sym h.split)
         (Contains-append_right h.before (unsaid.document ∷ h.after) unsaid.document (in_head unsaid.document h.after))
 
-    none_earlier : (other : ℕ) → other < unsaid.document → (fault : UnsaidFault) → IsUnsaidAt (of_main action partial names) documents other fault → ⊥
+    none_earlier : (other : ℕ) → other < unsaid.document → (fault : UnsaidFault) → IsUnsaidAt (of_main action options names) documents other fault → ⊥
     none_earlier other l fault u =
         let ascends = subst (IsAscending nat_cmp) h.split c.reached.ascending in
         let there = subst (λ (xs : List ℕ). Contains xs other) h.split (among other u.parsed u.kinds u.read) in
         let before = earlier h.before h.after unsaid.document other ascends there l in
         never_there other (all_in (SaysSomeAt documents closure.kinds) h.before other h.say before) fault u
 
-    fault_first : IsFirstUnsaid (of_main action partial names) documents unsaid.document unsaid.fault
+    fault_first : IsFirstUnsaid (of_main action options names) documents unsaid.document unsaid.fault
     fault_first = record {
       unsaid = record {
         parsed = h.fault.0;
@@ -118,40 +119,36 @@ module _ (action : Action) (partial : Bool) (names : List (List ℕ)) (documents
     }
 
 -- what is asked for is an action
-module _ (request : Request) (action : Action) (partial : Bool) (names : List (List ℕ)) (asks : request ≡ of_main action partial names) (documents : List Parsed) (imports : HasImports request documents) (closure : Closure) (c : IsClosure documents closure) where
-  own_imports : HasImports (of_main action partial names) documents
-  own_imports = subst (λ (r : Request). HasImports r documents) asks imports
-
-  pub action_told : (held : List Document) → AllSayAt documents closure.kinds closure.places.items held → (outcome : Outcome) → IsToldOf action documents outcome → IsConclusion request documents outcome
+module _ (request : Request) (action : Action) (options : Options) (names : List (List ℕ)) (asks : request ≡ of_main action options names) (documents : List Parsed) (closure : Closure) (c : IsClosure documents closure) where
+  pub action_told : (held : List Document) → AllSayAt documents closure.kinds closure.places.items held → (outcome : Outcome) → IsToldOf action documents outcome → IsAnswerBy request documents outcome
   action_told held all outcome told =
-      subst (λ (r : Request). IsConclusion r documents outcome) (sym asks)
-      (told_conclusion action partial names documents closure c held all own_imports outcome told)
+      subst (λ (r : Request). IsAnswerBy r documents outcome) (sym asks) (told_answer action options names documents closure c held all outcome told)
 
-  pub action_unsaid : (unsaid : Unsaid) → IsFirstFault documents closure.kinds closure.places.items unsaid → unsaid.fault ≢ Memory → (name : List ℕ) → slice_get (names_of request) unsaid.document ≡ Some name → (outcome : Outcome) → outcome ≡ unsaid_outcome name unsaid.fault → IsConclusion request documents outcome
+  pub action_unsaid : (unsaid : Unsaid) → IsFirstFault documents closure.kinds closure.places.items unsaid → unsaid.fault ≢ Memory → (name : List ℕ) → slice_get (names_of request) unsaid.document ≡ Some name → (outcome : Outcome) → outcome ≡ unsaid_outcome name unsaid.fault → IsAnswerBy request documents outcome
   action_unsaid unsaid h n name at outcome e =
-      let first = subst (λ (r : Request). IsFirstUnsaid r documents unsaid.document unsaid.fault) (sym asks) (fault_first action partial names documents closure c unsaid h n) in
-      unsaid_conclusion request documents unsaid.document unsaid.fault name outcome imports first at e
+      let first = subst (λ (r : Request). IsFirstUnsaid r documents unsaid.document unsaid.fault) (sym asks) (fault_first action options names documents closure c unsaid h n) in
+      unsaid_answer request documents unsaid.document unsaid.fault name outcome first at e
 
 -- documents that are asked for are there
 
-main_named : (request : Request) (action : Action) (partial : Bool) (names : List (List ℕ)) → IsAllowed request → request ≡ of_main action partial names → 0 < length (names_of request)
-main_named (of_main a p ns) action partial names h e = h.some
-main_named (compares one other) action partial names h e = h.some
-main_named (tries size) action partial names h e = absurd (cc)
+main_named : (request : Request) (action : Action) (options : Options) (names : List (List ℕ)) → IsAllowed request → request ≡ of_main action options names → 0 < length (names_of request)
+main_named (of_main a o ns) action options names h e = h.named.some
+main_named (compares one other) action options names h e = h.some
+main_named (tries size) action options names h e = absurd (cc)
 
 pub imports_named : (request : Request) → IsAllowed request → AsksImports request → 0 < length (names_of request)
-imports_named (of_main a p ns) h asked = h.some
+imports_named (of_main a o ns) h asked = h.named.some
 imports_named (compares one other) h asked = h.some
 imports_named (tries size) h asked = absurd asked
 
 pub some_of_main : (asked : Asked) (action : Action) → IsOfAction asked action → 0 < length asked.docs.items
 some_of_main asked action t =
-    let named = main_named (request_of asked.command.now) action t.partial t.names t.asked_for.allowed t.asks in
+    let named = main_named (request_of asked.command.now) action t.options t.names t.asked_for.allowed t.asks in
     subst (λ (n : ℕ). 0 < n) (sym t.asked_for.each) named
 
 -- two documents
 two_names : (request : Request) → ComparesTwo request → length (names_of request) ≡ 2
-two_names (of_main action partial names) alone = absurd alone
+two_names (of_main action options names) alone = absurd alone
 two_names (compares one other) alone = refl
 two_names (tries size) alone = absurd alone
 
@@ -162,14 +159,9 @@ are_two asked t =
     (t.asked_for.each ∙ names, names)
 
 own_read : (request : Request) → ComparesTwo request → (documents : List Parsed) (place : ℕ) (parsed : Parsed) (kinds : List Entity) → slice_get documents place ≡ Some parsed → AreOwnKinds parsed kinds → IsReadUnder request documents place parsed kinds
-own_read (of_main action partial names) two documents place parsed kinds there own = absurd two
+own_read (of_main action options names) two documents place parsed kinds there own = absurd two
 own_read (compares one other) two documents place parsed kinds there own = record { there = there; under = own }
 own_read (tries size) two documents place parsed kinds there own = absurd two
-
-no_imports : (request : Request) → ComparesTwo request → (documents : List Parsed) → HasImports request documents
-no_imports (of_main action partial names) two documents = absurd two
-no_imports (compares one other) two documents = λ asked. absurd asked
-no_imports (tries size) two documents = λ asked. absurd asked
 
 module _ (request : Request) (documents : List Parsed) where
   first_unsaid : (fault : UnsaidFault) → IsUnsaidAt request documents 0 fault → IsFirstUnsaid request documents 0 fault
@@ -194,11 +186,11 @@ module _ (request : Request) (documents : List Parsed) where
       let within = slice_get_within documents (suc (suc n)) p r.there in
       absurd (omega arith)
 
-compared_conclusion : (request : Request) → ComparesTwo request → (documents : List Parsed) → length documents ≡ 2 → (a b : Said) → SaysAt request documents 0 a → SaysAt request documents 1 b → (outcome : Outcome) → IsLimited (IsComparison a b) outcome → IsConclusion request documents outcome
-compared_conclusion (of_main action partial names) alone documents two a b h k outcome w = absurd alone
-compared_conclusion (tries size) alone documents two a b h k outcome w = absurd alone
-compared_conclusion (compares one other) alone documents two a b h k outcome w = record {
-  concludes = all_say (λ asked. absurd asked) (both_say (compares one other) documents two a b h k) (record { first = a; second = b; says_first = h; says_second = k; holds = w });
+compared_answer : (request : Request) → ComparesTwo request → (documents : List Parsed) → length documents ≡ 2 → (a b : Said) → SaysAt request documents 0 a → SaysAt request documents 1 b → (outcome : Outcome) → IsLimited (IsComparison a b) outcome → IsAnswerBy request documents outcome
+compared_answer (of_main action options names) alone documents two a b h k outcome w = absurd alone
+compared_answer (tries size) alone documents two a b h k outcome w = absurd alone
+compared_answer (compares one other) alone documents two a b h k outcome w = record {
+  answers = all_say (both_say (compares one other) documents two a b h k) (record { first = a; second = b; says_first = h; says_second = k; holds = w });
   back = λ s. tt;
 }
 
@@ -212,23 +204,23 @@ module _ (request : Request) (alone : ComparesTwo request) (documents : List Par
   unsaid_at place parsed there fault h =
       record { parsed = parsed; kinds = h.kinds; read = own_read request alone documents place parsed h.kinds there h.own; unsaid = h.unsaid }
 
-  pub none_first : (parsed : Parsed) → slice_get documents 0 ≡ Some parsed → (fault : UnsaidFault) → IsUnsaidAlone parsed fault → (name : List ℕ) → slice_get (names_of request) 0 ≡ Some name → (outcome : Outcome) → outcome ≡ unsaid_outcome name fault → IsConclusion request documents outcome
+  pub none_first : (parsed : Parsed) → slice_get documents 0 ≡ Some parsed → (fault : UnsaidFault) → IsUnsaidAlone parsed fault → (name : List ℕ) → slice_get (names_of request) 0 ≡ Some name → (outcome : Outcome) → outcome ≡ unsaid_outcome name fault → IsAnswerBy request documents outcome
   none_first parsed there fault h name at outcome e =
-      unsaid_conclusion request documents 0 fault name outcome (no_imports request alone documents) (first_unsaid request documents fault (unsaid_at 0 parsed there fault h)) at e
+      unsaid_answer request documents 0 fault name outcome (first_unsaid request documents fault (unsaid_at 0 parsed there fault h)) at e
 
   module _ (first : Said) (says : SaysAt request documents 0 first) (parsed : Parsed) (there : slice_get documents 1 ≡ Some parsed) where
-    pub none_second : (fault : UnsaidFault) → IsUnsaidAlone parsed fault → (name : List ℕ) → slice_get (names_of request) 1 ≡ Some name → (outcome : Outcome) → outcome ≡ unsaid_outcome name fault → IsConclusion request documents outcome
+    pub none_second : (fault : UnsaidFault) → IsUnsaidAlone parsed fault → (name : List ℕ) → slice_get (names_of request) 1 ≡ Some name → (outcome : Outcome) → outcome ≡ unsaid_outcome name fault → IsAnswerBy request documents outcome
     none_second fault h name at outcome e =
-        unsaid_conclusion request documents 1 fault name outcome (no_imports request alone documents) (second_unsaid request documents first says fault (unsaid_at 1 parsed there fault h)) at e
+        unsaid_answer request documents 1 fault name outcome (second_unsaid request documents first says fault (unsaid_at 1 parsed there fault h)) at e
 
-    pub both_told : length documents ≡ 2 → (second : Said) → SaysAlone parsed second → (outcome : Outcome) → IsLimited (IsComparison first second) outcome → IsConclusion request documents outcome
+    pub both_told : length documents ≡ 2 → (second : Said) → SaysAlone parsed second → (outcome : Outcome) → IsLimited (IsComparison first second) outcome → IsAnswerBy request documents outcome
     both_told two second h outcome w =
-        compared_conclusion request alone documents two first second says (alone_at 1 parsed there second h) outcome w
+        compared_answer request alone documents two first second says (alone_at 1 parsed there second h) outcome w
 
 -- a trial
-pub trial_conclusion : (request : Request) (size : ℕ) → request ≡ tries size → (documents : List Parsed) → (outcome : Outcome) → IsTrialOutcome size outcome → IsConclusion request documents outcome
-trial_conclusion request size e documents outcome h =
-    subst (λ (r : Request). IsConclusion r documents outcome) (sym e) (record {
-      concludes = all_say (λ asked. absurd asked) (λ place parsed kinds r. absurd r.under) h;
+pub trial_answer : (request : Request) (size : ℕ) → request ≡ tries size → (documents : List Parsed) → (outcome : Outcome) → IsTrialOutcome size outcome → IsAnswerBy request documents outcome
+trial_answer request size e documents outcome h =
+    subst (λ (r : Request). IsAnswerBy r documents outcome) (sym e) (record {
+      answers = all_say (λ place parsed kinds r. absurd r.under) h;
       back = λ s. tt;
     })

@@ -4,7 +4,7 @@ use Rattle.std.specs.List.{AllByRecursion}
 use Rattle.owl_kind.specs.Kinds.{Entity}
 use Rattle.owl_tree.specs.Ontologies.{Head, Ontology}
 use Rattle.owl_close.specs.Imports.{IsFirstMissing}
-use Rattle.owl_command.specs.Commands.{AsksImports, Request, names_of}
+use Rattle.owl_command.specs.Commands.{AsksImports, Request, Source, names_of}
 use Rattle.owl_command.specs.declared.command.Action.{Action}
 use Rattle.owl_command.specs.declared.status.Status.{Status}
 use Rattle.owl_command.specs.declared.status.Status.TheVariants.{Done, No, Words, Document as NoDocument, Target, Limit, ReadFailed, WriteFailed, Memory}
@@ -13,7 +13,7 @@ use Rattle.owl_documents.specs.Shelves.{IsFaulty, IsFirstFaulty, Rises, Shelves}
 use Rattle.owl_answer.specs.KindsAt.{AreClosureKinds}
 use Rattle.owl_answer.specs.ManchesterOutcome.{IsManchesterTranslation, ReadsForm, manchester_form}
 use Rattle.owl_answer.specs.Outcome.{IsSettled, IsSuccess, IsTheOutcome}
-use Rattle.owl_answer.specs.Runs.{Becomes, Concludes, IsActionOutcome, IsActionText, IsBack, IsReadBack, LineFor}
+use Rattle.owl_answer.specs.Runs.{AnswersBy, Becomes, Concludes, IsActionOutcome, IsActionText, IsBack, IsBackWith, IsReadBack, LineFor}
 use Rattle.owl_answer.specs.UnderKinds.{SaysUnder}
 use Rattle.owl_answer.specs.TurtleOutcome.{IsTurtleTranslation, IsTyped, IsTypingRefusal, ReadsSaid, canonical_said, turtle_form}
 use Rattle.owl_messages.specs.declared.answer.Answer.{Answer}
@@ -26,10 +26,15 @@ pub record IsMissingFor (request : Request) (heads : List Head) (missing : Missi
   pub asked : AsksImports request
   pub first : IsFirstMissing heads missing.document missing.iri
 
+-- What is answered by what documents say, with its text.
+pub record IsAnswerBy (request : Request) (documents : List Parsed) (outcome : Outcome) : Type 0 where
+  pub answers : AnswersBy request documents outcome
+  pub back : IsSuccess outcome.status → IsBack request documents outcome.text
+
 -- What is answered for documents that are read.
 pub record IsConclusion (request : Request) (documents : List Parsed) (outcome : Outcome) : Type 0 where
   pub concludes : Concludes request documents outcome
-  pub back : IsSuccess outcome.status → IsBack request documents outcome.text
+  pub back : IsSuccess outcome.status → IsBackWith request documents outcome.text
 
 -- what becomes by an action of the main one of these documents, which says this under these kinds, with its text
 pub record IsToldOfMain (action : Action) (documents : List Parsed) (parsed : Parsed) (kinds : List Entity) (main : Said) (outcome : Outcome) : Type 0 where
@@ -102,13 +107,17 @@ delivered_line answer ReadFailed = answer.line
 delivered_line answer WriteFailed = codes "write\n"
 delivered_line answer Memory = answer.line
 
+-- the first document that is asked for with a fault of its own, each before it being read, has this name
+abbrev pub IsFirstFaultyName : Contents → (List ℕ → Type 0) → Request → List ℕ → Type 0
+IsFirstFaultyName contents Rise request name = (source : Source) × (source.name ≡ name) × IsFirstFaulty contents Rise request source
+
 -- What is answered for what is asked.
 pub record IsAnswered (request : Request) (s : Shelves) (outcome : Outcome) : Type 0 where
   pub judged : IsTrue s.tells → IsSettled outcome.status → IsTheOutcome (Becomes s.old request) outcome
   pub back : IsTrue s.tells → IsSuccess outcome.status → IsReadBack s.old request outcome.text
   pub proper : IsProper outcome
   pub line : LineFor request (IsFaulty (Rises s) request) outcome.status outcome.line
-  pub first : IsTrue s.tells → LineFor request (IsFirstFaulty s.old (Rises s) request) outcome.status outcome.line
+  pub first : IsTrue s.tells → LineFor request (IsFirstFaultyName s.old (Rises s) request) outcome.status outcome.line
   pub ended : IsTrue s.tells → IsSuccess outcome.status → AllByRecursion (λ name. s.new name ≡ Some []) (names_of request)
 
 -- The text of the answer to what is asked follows what was there.

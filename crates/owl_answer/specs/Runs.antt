@@ -5,7 +5,7 @@ use Rattle.owl_close.specs.Imports.{IsFirstMissing, MissesNone}
 use Rattle.fss_terms.specs.Functional.{ReadsFunctional}
 use Rattle.owl_doc.specs.Parts.{Part}
 use Rattle.sayable_parts.specs.Reasons.{Objection}
-use Rattle.owl_command.specs.Commands.{AsksImports, Asks, HasNoCommand, IsAmong, Request, compares, names_of, of_main, tries}
+use Rattle.owl_command.specs.Commands.{AsksImports, Asks, HasNoCommand, IsAmong, Request, Source, compares, names_of, of_main, sources_of, tries}
 use Rattle.owl_command.specs.declared.command.Action.{Action}
 use Rattle.owl_command.specs.declared.command.Action.TheVariants.{Translate, Check, Show}
 use Rattle.owl_command.specs.declared.command.Target.{Target as Syntax}
@@ -19,6 +19,7 @@ use Rattle.owl_answer.specs.Outcome.{IsComparison, IsSettled, IsSuccess, IsTheOu
 use Rattle.owl_messages.specs.Refusals.{two_kinds, undeclared, unsayable}
 use Rattle.owl_messages.specs.Verdicts.{no_line, yes_line}
 use Rattle.owl_answer.specs.Checks.{IsChecked}
+use Rattle.owl_answer.specs.Guessing.{AreGuessed}
 use Rattle.owl_answer.specs.UnderKinds.{AllSay, HoldsOfMain, HoldsOfTwo, IsFirstUnsaid}
 use Rattle.owl_answer.specs.ManchesterOutcome.{IsManchesterTranslation, ReadsForm, manchester_form}
 use Rattle.owl_answer.specs.Trials.{IsTrialOutcome}
@@ -53,22 +54,26 @@ IsActionOutcome Show documents parsed kinds main outcome = IsLimited (λ wanted.
 
 -- What becomes of documents that all say something: of the main one, or of two. A trial has a document of its own.
 abbrev pub AnswersWith : Request → List Parsed → Outcome → Type 0
-AnswersWith (of_main action partial names) documents outcome =
-    HoldsOfMain (of_main action partial names) documents (λ parsed kinds main. IsActionOutcome action documents parsed kinds main outcome)
+AnswersWith (of_main action options names) documents outcome =
+    HoldsOfMain (of_main action options names) documents (λ parsed kinds main. IsActionOutcome action documents parsed kinds main outcome)
 AnswersWith (compares first second) documents outcome =
     HoldsOfTwo (compares first second) documents (λ a b. IsLimited (IsComparison a b) outcome)
 AnswersWith (tries size) documents outcome = IsTrialOutcome size outcome
 
--- What becomes of documents that are read: the first condition that fails, or what is answered.
+-- What is answered by what documents say: the first that says nothing, or what becomes of those that all say something.
+pub data AnswersBy (request : Request) (documents : List Parsed) (outcome : Outcome) : Type 0 where
+  says_nothing : (place : ℕ) (fault : UnsaidFault) (name : List ℕ) → IsFirstUnsaid request documents place fault → slice_get (names_of request) place ≡ Some name → outcome ≡ unsaid_outcome name fault → AnswersBy request documents outcome
+  all_say : AllSay request documents → AnswersWith request documents outcome → AnswersBy request documents outcome
+
+-- What becomes of documents that are read: an import is not there that has to be, or what is answered with the guesses that are asked for.
 pub data Concludes (request : Request) (documents : List Parsed) (outcome : Outcome) : Type 0 where
   misses_import : AsksImports request → (place : ℕ) (iri name : List ℕ) → IsFirstMissing (heads_in documents) place iri → slice_get (names_of request) place ≡ Some name → outcome ≡ missing_import name iri → Concludes request documents outcome
-  says_nothing : HasImports request documents → (place : ℕ) (fault : UnsaidFault) (name : List ℕ) → IsFirstUnsaid request documents place fault → slice_get (names_of request) place ≡ Some name → outcome ≡ unsaid_outcome name fault → Concludes request documents outcome
-  all_say : HasImports request documents → AllSay request documents → AnswersWith request documents outcome → Concludes request documents outcome
+  misses_none : HasImports request documents → (guessed : List Parsed) → AreGuessed request documents guessed → AnswersBy request guessed outcome → Concludes request documents outcome
 
 -- What becomes of what is asked for, with these contents. Each document is read before imports are looked at.
 pub data Becomes (contents : Contents) (request : Request) (outcome : Outcome) : Type 0 where
-  not_read : (name : List ℕ) (refusal : Refusal) → IsFirstRefused contents (names_of request) name refusal → outcome ≡ refusal_outcome name refusal → Becomes contents request outcome
-  all_read : (documents : List Parsed) → AreRead contents (names_of request) documents → Concludes request documents outcome → Becomes contents request outcome
+  not_read : (source : Source) (refusal : Refusal) → IsFirstRefused contents (sources_of request) source refusal → outcome ≡ refusal_outcome source.name refusal → Becomes contents request outcome
+  all_read : (documents : List Parsed) → AreRead contents (sources_of request) documents → Concludes request documents outcome → Becomes contents request outcome
 
 -- What a run answers: the words have no command, or they ask for something and the contents have what is looked at.
 pub data IsOutcome (words : List (List ℕ)) (contents : Contents) (outcome : Outcome) : Type 0 where
@@ -85,7 +90,7 @@ ActionLine action status line = ⊥
 
 -- the line of a success
 abbrev pub SuccessLine : Request → Status → List ℕ → Type 0
-SuccessLine (of_main action partial names) status line = ActionLine action status line
+SuccessLine (of_main action options names) status line = ActionLine action status line
 SuccessLine (compares first second) Done line = line ≡ codes "same\n"
 SuccessLine (compares first second) No line = line ≡ codes "different\n"
 SuccessLine request status line = ⊥
@@ -108,18 +113,18 @@ pub data IsUnsayable : Outcome → Type 0 where
 
 -- a translation
 abbrev pub AsksTranslation : Request → Type 0
-AsksTranslation (of_main (Translate target) partial names) = Unit {0}
+AsksTranslation (of_main (Translate target) options names) = Unit {0}
 AsksTranslation request = ⊥
 
 -- a translation to another syntax than Functional-Style Syntax, which can say all
 abbrev pub AsksOtherSyntax : Request → Type 0
-AsksOtherSyntax (of_main (Translate Ttl) partial names) = Unit {0}
-AsksOtherSyntax (of_main (Translate Omn) partial names) = Unit {0}
+AsksOtherSyntax (of_main (Translate Ttl) options names) = Unit {0}
+AsksOtherSyntax (of_main (Translate Omn) options names) = Unit {0}
 AsksOtherSyntax request = ⊥
 
 -- a translation to Turtle
 abbrev pub AsksTurtle : Request → Type 0
-AsksTurtle (of_main (Translate Ttl) partial names) = Unit {0}
+AsksTurtle (of_main (Translate Ttl) options names) = Unit {0}
 AsksTurtle request = ⊥
 
 -- The lines of a status for what is asked for. A read fault names a document that has this cause, and a trial has the line of its outcome.
@@ -155,16 +160,22 @@ IsActionText Show kinds main text = Unit {0}
 
 -- the text is that of the action, by what the main document says
 abbrev pub IsBack : Request → List Parsed → List ℕ → Type 0
-IsBack (of_main action partial names) documents text =
-    HoldsOfMain (of_main action partial names) documents (λ parsed kinds main. IsActionText action kinds main text)
+IsBack (of_main action options names) documents text =
+    HoldsOfMain (of_main action options names) documents (λ parsed kinds main. IsActionText action kinds main text)
 IsBack (compares first second) documents text = Unit {0}
 IsBack (tries size) documents text = Unit {0}
+
+-- so it is with the guesses that are asked for
+pub record IsBackWith (request : Request) (documents : List Parsed) (text : List ℕ) : Type 0 where
+  pub guessed : List Parsed
+  pub are : AreGuessed request documents guessed
+  pub back : IsBack request guessed text
 
 -- The documents are read, and the text of a translation reads back to the main one's normal form.
 pub record IsReadBack (contents : Contents) (request : Request) (text : List ℕ) : Type 0 where
   pub documents : List Parsed
-  pub read : AreRead contents (names_of request) documents
-  pub back : IsBack request documents text
+  pub read : AreRead contents (sources_of request) documents
+  pub back : IsBackWith request documents text
 
 -- The text of the answer follows what was there. A translation reads back to the same ontology.
 pub record IsWritten (words : List (List ℕ)) (contents : Contents) (status : Status) (before after : List ℕ) : Type 0 where

@@ -1,5 +1,5 @@
 -- What is read back of the texts that a trial makes.
-use Rattle.std.specs.Prelude.{◌≡◌, ℕ, List, length}
+use Rattle.std.specs.Prelude.{◌≡◌, ℕ, None, List, length}
 use Rattle.owl_documents.specs.Documents.{IsDefect, IsProperRefusal, Parsed, Said, a_graph, an_ontology, syntax_of}
 use Rattle.owl_documents.specs.Reading.{AreReadUnder}
 use Rattle.owl_documents.specs.declared.document.Syntax.{Syntax}
@@ -15,7 +15,7 @@ use Rattle.owl_answer.specs.UnderKinds.{SaysUnder}
 -- the bytes have no defect by the grammar of this syntax
 abbrev pub HasNoDefect : Syntax → List ℕ → Type 0
 HasNoDefect syntax bytes =
-    (name : List ℕ) (refusal : Refusal) → syntax_of name ≡ syntax → IsProperRefusal refusal → IsDefect name bytes refusal → ⊥
+    (name : List ℕ) (refusal : Refusal) → syntax_of name ≡ syntax → IsProperRefusal refusal → IsDefect None name bytes refusal → ⊥
 
 -- how many triples the graph has that is read; none where it is no graph
 abbrev pub triple_count : Parsed → ℕ

@@ -1,6 +1,7 @@
 -- What becomes of a trial: its document is read, translated to Turtle and to Manchester Syntax, and checked for each profile.
-use Rattle.std.specs.Prelude.{◌≡◌, ◌≢◌, ◌↔◌, ℕ, IsTrue, List, [], ◌∷◌, Some, codes, length}
+use Rattle.std.specs.Prelude.{◌≡◌, ◌≢◌, ◌↔◌, ℕ, IsTrue, List, [], ◌∷◌, None, Some, codes, length}
 use Rattle.owl_breaches.specs.Sites.{Ontologies, Site}
+use Rattle.owl_command.specs.Commands.{Source}
 use Rattle.owl_command.specs.declared.command.Profile.{Profile}
 use Rattle.owl_command.specs.declared.command.Profile.TheVariants.{Dl, El, Ql, Rl}
 use Rattle.owl_command.specs.declared.status.Status.TheVariants.{Done}
@@ -58,10 +59,14 @@ pub data IsTried (kinds : List Entity) (main : Said) (outcome : Outcome) : Type 
 abbrev pub trial_name : List ℕ
 trial_name = codes "trial"
 
+-- which is read without a base
+abbrev pub trial_source : Source
+trial_source = record { name = trial_name; base = None }
+
 abbrev pub trial_contents : ℕ → Contents
 trial_contents size name = Some (trial_document size)
 
 -- What becomes of a trial with so many classes.
 pub data IsTrialOutcome (size : ℕ) (outcome : Outcome) : Type 0 where
-  not_read : (refusal : Refusal) → IsProperRefusal refusal → IsFirstRefused (trial_contents size) (trial_name ∷ []) trial_name refusal → outcome ≡ refusal_outcome trial_name refusal → IsTrialOutcome size outcome
-  read : (said : Said) → AreRead (trial_contents size) (trial_name ∷ []) (an_ontology said ∷ []) → (kinds : List Entity) → AreOwnKinds (an_ontology said) kinds → IsTried kinds (canonical_said said) outcome → IsTrialOutcome size outcome
+  not_read : (refusal : Refusal) → IsProperRefusal refusal → IsFirstRefused (trial_contents size) (trial_source ∷ []) trial_source refusal → outcome ≡ refusal_outcome trial_name refusal → IsTrialOutcome size outcome
+  read : (said : Said) → AreRead (trial_contents size) (trial_source ∷ []) (an_ontology said ∷ []) → (kinds : List Entity) → AreOwnKinds (an_ontology said) kinds → IsTried kinds (canonical_said said) outcome → IsTrialOutcome size outcome

@@ -4,7 +4,7 @@ use Rattle.owl_close.specs.Imports.{Reaches}
 use Rattle.owl_command.specs.Commands.{Request, compares, of_main, tries}
 use Rattle.owl_documents.specs.Documents.{Parsed, Said, a_graph, an_ontology, the_frames}
 use Rattle.owl_kind.specs.Kinds.{Entity}
-use Rattle.rdf_reverse.specs.Reverse.{IsSaid, IsUnsaid}
+use Rattle.rdf_reverse.specs.Guesses.{IsSaidWith, IsUnsaidWith}
 use Rattle.rdf_thin.specs.Thinned.{thinned}
 use Rattle.man_resolve.specs.Resolved.{FramesMean, IsUnresolved}
 use Rattle.owl_messages.specs.declared.unsaid.UnsaidFault.{UnsaidFault}
@@ -12,15 +12,16 @@ use Rattle.owl_messages.specs.declared.unsaid.UnsaidFault.TheVariants.{Graph, Fr
 use Rattle.owl_answer.specs.KindsAt.{AreClosureKinds, AreOwnKinds}
 use Rattle.owl_answer.specs.Outcome.{heads_in}
 
--- what the document says under these kinds; the redundant triples of a graph are passed over
+-- What the document says under these kinds. The redundant triples of a graph are passed over, and the annotation properties that are guessed of
+-- it are declared.
 abbrev pub SaysUnder : List Entity → Parsed → Said → Type 0
 SaysUnder kinds (an_ontology said) other = other ≡ said
-SaysUnder kinds (a_graph read) other = (other.prefixes ≡ read.prefixes) × IsSaid (thinned read.triples) kinds other.ontology
+SaysUnder kinds (a_graph read) other = (other.prefixes ≡ read.prefixes) × IsSaidWith (thinned read.triples) kinds read.guessed other.ontology
 SaysUnder kinds (the_frames d) other = (other.prefixes ≡ d.prefixes) × FramesMean d kinds other.ontology
 
 -- why it says nothing under them
 abbrev pub IsUnsaidUnder : List Entity → Parsed → UnsaidFault → Type 0
-IsUnsaidUnder kinds (a_graph read) (Graph fault) = IsUnsaid (thinned read.triples) kinds fault
+IsUnsaidUnder kinds (a_graph read) (Graph fault) = IsUnsaidWith (thinned read.triples) kinds read.guessed fault
 IsUnsaidUnder kinds (the_frames d) (Frames fault) = IsUnresolved d kinds fault
 IsUnsaidUnder kinds parsed fault = ⊥
 
@@ -30,7 +31,7 @@ SaysSome kinds parsed = (said : Said) × SaysUnder kinds parsed said
 
 -- what is asked for is of a main document
 abbrev pub IsOfMain : Request → Type 0
-IsOfMain (of_main action partial names) = Unit {0}
+IsOfMain (of_main action options names) = Unit {0}
 IsOfMain (compares first second) = ⊥
 IsOfMain (tries size) = ⊥
 
@@ -42,7 +43,7 @@ ComparesTwo request = ⊥
 -- The document at this place is read, under these kinds: each that the main one reaches under those of its closure, and each of two that are
 -- compared under its own. A trial reads none of these.
 abbrev pub HasKinds : Request → List Parsed → ℕ → Parsed → List Entity → Type 0
-HasKinds (of_main action partial names) documents place parsed kinds = Reaches (heads_in documents) place × AreClosureKinds documents kinds
+HasKinds (of_main action options names) documents place parsed kinds = Reaches (heads_in documents) place × AreClosureKinds documents kinds
 HasKinds (compares first second) documents place parsed kinds = AreOwnKinds parsed kinds
 HasKinds (tries size) documents place parsed kinds = ⊥
 

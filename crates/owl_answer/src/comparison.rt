@@ -3,7 +3,7 @@
 ghost use Rattle.std.specs.Prelude.{IfOk, map};
 ghost use Rattle.owl_command.specs.Commands.{request_of};
 ghost use Rattle.owl_documents.specs.Documents.{parsed_of, said_of};
-ghost use Rattle.owl_answer.specs.Asked.{IsAnswerTo, IsOfTwo};
+ghost use Rattle.owl_answer.specs.Asked.{IsAnswerFor, IsOfTwo};
 ghost use Rattle.owl_answer.specs.Outcome.{IsComparison};
 ghost use Rattle.owl_answer.specs.UnderKinds.{SaysAt};
 ghost use Rattle.owl_messages.specs.Answers.{outcome_of};
@@ -21,7 +21,7 @@ use std::alloc::Global;
 /// it declares itself.
 pub fn compare_both(alloc: Global, asked: &Asked) -> Result<Answer, NoMemory>
     requires { IsOfTwo asked.now }
-    ensures { IfOk result (IsAnswerTo asked.now) }
+    ensures { IfOk result (IsAnswerFor asked.now) }
 {
     match read_alone(alloc, &asked.docs[0]) {
         Ok(first) => compare_second(alloc, asked, first.doc()),
@@ -34,7 +34,7 @@ fn compare_second(alloc: Global, asked: &Asked, first: &Doc) -> Result<Answer, N
     requires two { IsOfTwo asked.now }
     requires first { SaysAt (request_of asked.now.command.now)
         (map parsed_of asked.now.docs.items) 0 (said_of first.now) }
-    ensures { IfOk result (IsAnswerTo asked.now) }
+    ensures { IfOk result (IsAnswerFor asked.now) }
 {
     match read_alone(alloc, &asked.docs[1]) {
         Ok(second) => compare(alloc, first, second.doc()),

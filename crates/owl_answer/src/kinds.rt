@@ -1,15 +1,18 @@
 //! What documents declare.
 
 ghost use Rattle.std.specs.Prelude.{◌<◌, [], IfOk, OnOk, map};
-ghost use Rattle.owl_documents.specs.Documents.{an_ontology, parsed_of, said_of};
+ghost use Rattle.owl_doc.specs.Entities.{AddsAll};
+ghost use Rattle.owl_documents.specs.Documents.{an_ontology, guessed_entities, parsed_of, said_of};
+ghost use Rattle.owl_documents.specs.declared.document.Document.TheVariants.{Graph};
 ghost use Rattle.owl_close.specs.Imports.{AreReached};
 ghost use Rattle.owl_answer.specs.KindsAt.{AddsAt, AddsOf, AreClosureKinds, AreDeclaredAt, AreOwnKinds};
 ghost use Rattle.owl_answer.specs.Outcome.{heads_in};
 
+use owl_atom::Iri;
 use owl_characters::NoMemory;
 use owl_doc::{Doc, declared};
-use owl_documents::Document;
-use owl_tree::Kinds;
+use owl_documents::{Document, GraphDocument};
+use owl_tree::{Kind, Kinds};
 use rdf_scans::declare_graph;
 use std::alloc::Global;
 
@@ -71,13 +74,33 @@ fn declare_at(docs: &[Document], place: usize, kinds: &mut Kinds) -> Result<(), 
     }
 }
 
+/// Declares what the graph declares, and the annotation properties that are guessed of
+/// it, besides what is declared.
+fn declare_document(document: &GraphDocument, kinds: &mut Kinds) -> Result<(), NoMemory>
+    ensures { OnOk result (AddsOf (parsed_of (Graph document.now)) kinds.old kinds.new) }
+{
+    declare_graph(&document.graph, kinds)?;
+    declare_guesses(&document.guessed, kinds)
+}
+
+/// Declares the IRIs as annotation properties, besides what is declared.
+fn declare_guesses(guessed: &[Iri], kinds: &mut Kinds) -> Result<(), NoMemory>
+    ensures { OnOk result (AddsAll kinds.old (guessed_entities guessed.now) kinds.new) }
+{
+    let alloc = kinds.allocator();
+    'guessed: for iri in guessed {
+        kinds.declare(Kind::AnnotationProperty, iri.copy(alloc)?)?;
+    }
+    Ok(())
+}
+
 /// Declares what the document declares, besides what is declared.
 fn declare(doc: &Document, kinds: &mut Kinds) -> Result<(), NoMemory>
     ensures { OnOk result (AddsOf (parsed_of doc.now) kinds.old kinds.new) }
 {
     match doc {
         Document::Ontology(doc) => declared(doc, kinds),
-        Document::Graph(document) => declare_graph(&document.graph, kinds),
+        Document::Graph(document) => declare_document(document, kinds),
         Document::Frames(document) => man_resolve::declared(document, kinds),
     }
 }

@@ -1,12 +1,15 @@
 //! Laws of what is answered, as functions that do nothing.
 
-ghost use Rattle.std.specs.Prelude.{◌≡◌, ℕ, List};
+ghost use Rattle.std.specs.Prelude.{◌≡◌, ◌↔◌, ℕ, List};
+ghost use Rattle.owl_command.specs.Commands.{Source};
+ghost use Rattle.owl_answer.specs.Guessing.{AreWithGuesses};
+ghost use Rattle.owl_answer.specs.KindsAt.{AreClosureKinds};
 ghost use Rattle.owl_answer.specs.ManchesterOutcome.{IsManchesterTranslation};
 ghost use Rattle.owl_answer.specs.TurtleOutcome.{IsTurtleTranslation};
 ghost use Rattle.owl_answer.specs.Typing.{AllAreWellTyped, DeclareSame, IsFirstUntyped};
 ghost use Rattle.owl_answer.specs.Unreached.{UnreachedChangeNothing};
 ghost use Rattle.owl_kind.specs.Kinds.{Entity, IsFirstClash};
-ghost use Rattle.owl_documents.specs.Documents.{IsSame, Said};
+ghost use Rattle.owl_documents.specs.Documents.{AreRead, Contents, IsSame, Parsed, Said};
 ghost use Rattle.owl_tree.specs.Ontologies.{IsSameOntology, Ontology};
 ghost use Rattle.owl_doc.specs.Parts.{Part};
 ghost use Rattle.owl_messages.specs.Outcome.{Outcome};
@@ -15,6 +18,16 @@ ghost use Rattle.owl_messages.specs.Outcome.{Outcome};
 /// document says that the main one does not reach.
 pub fn unreached_documents_change_nothing()
     ensures { UnreachedChangeNothing }
+{}
+
+/// Law: guesses make no clash. Of documents that are read the same clash comes first,
+/// with what is guessed of them and without.
+pub fn guesses_make_no_clash()
+    ensures { (contents : Contents) (sources : List Source) (documents guessed : List Parsed)
+        (kinds more : List Entity) → AreRead contents sources documents →
+        AreWithGuesses documents guessed → AreClosureKinds documents kinds →
+        AreClosureKinds guessed more → (iri : List ℕ) →
+        IsFirstClash more iri ↔ IsFirstClash kinds iri }
 {}
 
 /// Laws: there is one first clash at most. There is one first part at most that

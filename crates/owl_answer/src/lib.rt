@@ -6,6 +6,7 @@ mod checking;
 mod closure;
 mod comparison;
 mod conclusion;
+mod guessing;
 mod imports;
 mod kinds;
 mod laws;
@@ -20,7 +21,7 @@ mod typing;
 mod written;
 
 pub use laws::{
-    equivalent_ontologies_are_typed_alike, manchester_translations_are_one,
+    equivalent_ontologies_are_typed_alike, guesses_make_no_clash, manchester_translations_are_one,
     turtle_translations_are_one, typing_depends_on_what_is_declared, typing_is_refused_once,
     unreached_documents_change_nothing,
 };

@@ -150,7 +150,7 @@ fn read_graph(alloc: Global, doc: &GraphDocument, kinds: &Kinds) -> Result<Doc, 
     ensures fault { IfErr result (IsFaultUnder kinds.now (parsed_of (Graph doc.now))) }
 {
     let prefixes = doc.prefixes.copy(alloc)?;
-    Ok(reverse(alloc, &doc.graph, prefixes, kinds)?)
+    Ok(reverse(alloc, &doc.graph, prefixes, kinds, &doc.guessed)?)
 }
 
 /// What the frames mean under these kinds.

@@ -33,7 +33,7 @@ returns-in-Ok c =
     let document = c.index.result.now in
     let there = parsed_at docs 0 document (stands_at docs 0 document document (some_of_main asked c.args.action c.requires) c.index.ensures refl) in
     let read : IsReadAs documents closure c.in-Ok.said.items c.asks_types-asks.result = record { closed = closed; say = c.in-Ok.ensures.said; main = parsed_of document; there = there; asks = sym c.asks_types-asks.ensures } in
-    IfOk-weaker c.tell_closure.result _ _ (λ (a : Answer) h. action_told (request_of asked.command.now) c.args.action c.requires.partial c.requires.names c.requires.asks documents c.requires.imports closure closed c.in-Ok.said.items c.in-Ok.ensures.said (outcome_of a) (h documents read)) c.tell_closure.ensures
+    IfOk-weaker c.tell_closure.result _ _ (λ (a : Answer) h. action_told (request_of asked.command.now) c.args.action c.requires.options c.requires.names c.requires.asks documents closure closed c.in-Ok.said.items c.in-Ok.ensures.said (outcome_of a) (h documents read)) c.tell_closure.ensures
 
 pub name-requires : goal.name-requires
 name-requires c =
@@ -45,4 +45,4 @@ pub returns-in-Err : goal.returns-in-Err
 returns-in-Err c =
     let asked = c.args.asked in
     let closed = subst (λ (docs : List Document). IsClosure (map parsed_of docs) c.in_ok-closure.closure) c.deref.ensures.value c.in_ok-closure.ensures in
-    from_both c.refuse_unsaid.result _ _ _ (λ (a : Answer) e n. action_unsaid (request_of asked.command.now) c.args.action c.requires.partial c.requires.names c.requires.asks (map parsed_of asked.docs.items) c.requires.imports c.in_ok-closure.closure closed c.in-Err.unsaid c.in-Err.ensures.fault (no_want c.in-Err.unsaid.fault n) c.name.result.now c.name.ensures (outcome_of a) e) c.refuse_unsaid.ensures.outcome c.refuse_unsaid.ensures.proper
+    from_both c.refuse_unsaid.result _ _ _ (λ (a : Answer) e n. action_unsaid (request_of asked.command.now) c.args.action c.requires.options c.requires.names c.requires.asks (map parsed_of asked.docs.items) c.in_ok-closure.closure closed c.in-Err.unsaid c.in-Err.ensures.fault (no_want c.in-Err.unsaid.fault n) c.name.result.now c.name.ensures (outcome_of a) e) c.refuse_unsaid.ensures.outcome c.refuse_unsaid.ensures.proper

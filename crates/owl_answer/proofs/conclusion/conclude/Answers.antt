@@ -15,6 +15,6 @@ pub returns-in-Some : goal.returns-in-Some
 returns-in-Some c =
     IfOk-weaker c.refuse_import.result _ _ (λ (a : Answer) e. import_conclusion (request_of c.args.asked.command.now) (map parsed_of c.args.asked.docs.items) c.in-Some.missing c.name.result.now (outcome_of a) (subst (λ (found : Option Missing). IfSome found (IsMissingFor (request_of c.args.asked.command.now) (heads_in (map parsed_of c.args.asked.docs.items)))) c.in-Some.is c.in_ok-missing.ensures.some) c.name.ensures e) c.refuse_import.ensures
 
-pub answer_command-requires-clause-imports : goal.answer_command-requires-clause-imports
-answer_command-requires-clause-imports c =
+pub answer_guessed-requires-clause-imports : goal.answer_guessed-requires-clause-imports
+answer_guessed-requires-clause-imports c =
     subst (λ (found : Option Missing). IfNone found (HasImports (request_of c.args.asked.command.now) (map parsed_of c.args.asked.docs.items))) c.in-None.is c.in_ok-missing.ensures.none

@@ -15,4 +15,4 @@ returns-in-Frames c =
 
 pub returns-in-Graph : goal.returns-in-Graph
 returns-in-Graph c =
-    on_ok_weaker c.declare_graph.result (λ h. subst (λ (d : Document). AddsOf (parsed_of d) c.args.kinds.now c.declare_graph.new.kinds) (sym c.in-Graph.is) h) c.declare_graph.ensures.ok
+    on_ok_weaker c.declare_document.result (λ h. subst (λ (d : Document). AddsOf (parsed_of d) c.args.kinds.now c.declare_document.new.kinds) (sym c.in-Graph.is) h) c.declare_document.ensures
