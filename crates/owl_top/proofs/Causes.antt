@@ -16,9 +16,9 @@ use Rattle.owl_messages.specs.Unsaid.{unsaid_outcome}
 
 -- the line of a read fault names a document with its cause
 no_success : (request : Request) (line : List ℕ) → SuccessLine request ReadFailed line → ⊥
-no_success (of_main (Translate target) partial names) line s = s
-no_success (of_main (Check profile) partial names) line s = s
-no_success (of_main Show partial names) line s = s
+no_success (of_main (Translate target) options names) line s = s
+no_success (of_main (Check profile) options names) line s = s
+no_success (of_main Show options names) line s = s
 no_success (compares first second) line s = s
 no_success (tries size) line s = s
 

@@ -4,10 +4,10 @@ use Rattle.std.specs.List.{AllByRecursion}
 use Rattle.std.proofs.lemmas.List.{append-nil}
 use Rattle.std.proofs.Math.Seq.{take-length}
 use Rattle.owl_command.specs.Commands.{Asks, HasNoCommand, IsAmong, Name, Request, names_of}
-use Rattle.owl_documents.specs.Shelves.{IsFaulty, IsFirstFaulty, IsFrontTaken, IsTaken, Rises, Shelves}
+use Rattle.owl_documents.specs.Shelves.{IsFaulty, IsFrontTaken, IsTaken, Rises, Shelves}
 use Rattle.owl_answer.specs.Outcome.{IsQuiet, IsSettled, IsSuccess, IsTheOutcome}
 use Rattle.owl_answer.specs.Runs.{Becomes, IsFrontNoted, IsFrontOfNote, IsFrontWritten, IsLine, IsNoted, IsNotedAlone, IsOutcome, IsWritten, LineFor, of_asked, of_memory, of_words, of_write_fault}
-use Rattle.owl_answer.specs.Answers.{HasNoText, IsAnswered, IsFound, IsWrittenFor, delivered_line}
+use Rattle.owl_answer.specs.Answers.{HasNoText, IsAnswered, IsFirstFaultyName, IsFound, IsWrittenFor, delivered_line}
 use Rattle.owl_command.specs.declared.status.Status.{Status}
 use Rattle.owl_command.specs.declared.status.Status.TheVariants.{Done, No, Words, Document as NoDocument, Target, Limit, ReadFailed, WriteFailed, Memory}
 use Rattle.owl_top.proofs.Causes.{fault_in}
@@ -121,8 +121,8 @@ module _ (request : Request) (s : Shelves) (outcome : Outcome) (answered : IsAns
     pub told_fault : result ≡ ReadFailed → (name : List ℕ) × IsFaulty (Rises s) request name
     told_fault e = fault_line (IsFaulty (Rises s) request) answered.line e
 
-    pub told_first_fault : IsTrue s.tells → result ≡ ReadFailed → (name : List ℕ) × IsFirstFaulty s.old (Rises s) request name
-    told_first_fault tells e = fault_line (IsFirstFaulty s.old (Rises s) request) (answered.first tells) e
+    pub told_first_fault : IsTrue s.tells → result ≡ ReadFailed → (name : List ℕ) × IsFirstFaultyName s.old (Rises s) request name
+    told_first_fault tells e = fault_line (IsFirstFaultyName s.old (Rises s) request) (answered.first tells) e
 
     told_line : (IsCause : List ℕ → Type 0) → LineFor request IsCause outcome.status outcome.line → LineFor request IsCause result (delivered_line outcome result)
     told_line IsCause line =
@@ -131,10 +131,10 @@ module _ (request : Request) (s : Shelves) (outcome : Outcome) (answered : IsAns
           | inr f ↦ of_write_fault f (ap (delivered_line outcome) f)
         ]
 
-    pub told_note : (before after : List ℕ) → after ≡ before ++ delivered_line outcome result → IsTrue s.tells → IsNoted (LineFor request (IsFirstFaulty s.old (Rises s) request) result) (Becomes s.old request) result before after
+    pub told_note : (before after : List ℕ) → after ≡ before ++ delivered_line outcome result → IsTrue s.tells → IsNoted (LineFor request (IsFirstFaultyName s.old (Rises s) request) result) (Becomes s.old request) result before after
     told_note before after e tells = record {
       line = delivered_line outcome result;
-      is = told_line (IsFirstFaulty s.old (Rises s) request) (answered.first tells);
+      is = told_line (IsFirstFaultyName s.old (Rises s) request) (answered.first tells);
       noted = e;
       told = λ h. let f = as_told IsSettled (λ b. b) h in (outcome, answered.judged tells (subst IsSettled f h), f, line_is f);
     }
@@ -146,7 +146,7 @@ module _ (request : Request) (s : Shelves) (outcome : Outcome) (answered : IsAns
       noted = e;
     }
 
-    pub told_note_front : (before after : List ℕ) → (n : ℕ) × (after ≡ before ++ take n (delivered_line outcome result)) → IsTrue s.tells → IsFrontOfNote (LineFor request (IsFirstFaulty s.old (Rises s) request) result) (Becomes s.old request) result before after
+    pub told_note_front : (before after : List ℕ) → (n : ℕ) × (after ≡ before ++ take n (delivered_line outcome result)) → IsTrue s.tells → IsFrontOfNote (LineFor request (IsFirstFaultyName s.old (Rises s) request) result) (Becomes s.old request) result before after
     told_note_front before after front tells = record {
       line = delivered_line outcome result;
       whole = told_note before (before ++ delivered_line outcome result) refl tells;

@@ -1,8 +1,9 @@
 -- What is answered to what words ask for is what is answered to them.
-use Rattle.std.proofs.Common.{◌≡◌, ℕ, Bool, List, codes, refl, sym, ◌∙◌, subst}
+use Rattle.std.proofs.Common.{◌≡◌, ℕ, List, codes, refl, sym, ◌∙◌, subst}
 use Rattle.std.specs.Prelude.{◌↔◌}
 use Rattle.owl_command.specs.Commands.{Asks, HasNoCommand, Request, of_main}
 use Rattle.owl_command.specs.declared.command.Action.TheVariants.{Check}
+use Rattle.owl_command.specs.declared.command.Options.{Options}
 use Rattle.owl_command.specs.declared.command.Profile.{Profile}
 use Rattle.owl_command.proofs.CommandsLaws.{asks_once}
 use Rattle.owl_documents.specs.Documents.{Contents}
@@ -35,8 +36,8 @@ module _ (words : List (List ℕ)) (contents : Contents) where
   no_command_the none = record { is = no_command none refl; only = λ other b. no_command_only none other b }
 
   -- a check ends with yes exactly where the closure is in the profile
-  pub check_done : (request : Request) → Asks words request → (status : Status) → (outcome : Outcome) × IsTheOutcome (Becomes contents request) outcome × (status ≡ outcome.status) → (profile : Profile) (partial : Bool) (names : List (List ℕ)) → Asks words (of_main (Check profile) partial names) → (status ≡ Done) ↔ IsInProfile contents (of_main (Check profile) partial names) profile
-  check_done request asks status told profile partial names checks =
-      let same : request ≡ of_main (Check profile) partial names = asks_once words request (of_main (Check profile) partial names) asks checks in
-      let exactly = yes_exactly_within contents profile partial names told.0 (subst (λ (r : Request). IsTheOutcome (Becomes contents r) told.0) same told.1) in
+  pub check_done : (request : Request) → Asks words request → (status : Status) → (outcome : Outcome) × IsTheOutcome (Becomes contents request) outcome × (status ≡ outcome.status) → (profile : Profile) (options : Options) (names : List (List ℕ)) → Asks words (of_main (Check profile) options names) → (status ≡ Done) ↔ IsInProfile contents (of_main (Check profile) options names) profile
+  check_done request asks status told profile options names checks =
+      let same : request ≡ of_main (Check profile) options names = asks_once words request (of_main (Check profile) options names) asks checks in
+      let exactly = yes_exactly_within contents profile options names told.0 (subst (λ (r : Request). IsTheOutcome (Becomes contents r) told.0) same told.1) in
       (λ e. exactly.0 (sym told.2 ∙ e), λ h. told.2 ∙ exactly.1 h)

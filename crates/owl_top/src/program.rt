@@ -1,16 +1,17 @@
 //! All that the program does.
 
-ghost use Rattle.std.specs.Prelude.{◌≡◌, ◌≢◌, ◌++◌, ◌↔◌, ◌⊎◌, ℕ, Bool, List, Some, [], map, take, string_bytes, IsTrue};
+ghost use Rattle.std.specs.Prelude.{◌≡◌, ◌≢◌, ◌++◌, ◌↔◌, ◌⊎◌, ℕ, List, Some, [], map, take, string_bytes, IsTrue};
 ghost use Rattle.std.specs.List.{AllByRecursion};
 ghost use Rattle.owl_port.specs.Outside.{Rose};
 ghost use Rattle.owl_command.specs.Commands.{Asks, HasNoCommand, IsAllowed, Name, Request, names_of, of_main, request_of};
 ghost use Rattle.owl_command.specs.declared.command.Action.TheVariants as Action;
 ghost use Rattle.owl_command.specs.declared.command.Profile.{Profile};
-ghost use Rattle.owl_documents.specs.Shelves.{IsFaulty, IsFirstFaulty, IsFrontTaken, IsTaken};
+ghost use Rattle.owl_command.specs.declared.command.Options.{Options};
+ghost use Rattle.owl_documents.specs.Shelves.{IsFaulty, IsFrontTaken, IsTaken};
 ghost use Rattle.owl_answer.specs.InProfile.{IsInProfile};
 ghost use Rattle.owl_answer.specs.Outcome.{IsQuiet, IsSettled, IsSuccess, IsTheOutcome};
 ghost use Rattle.owl_answer.specs.Runs.{Becomes, IsFrontNoted, IsFrontOfNote, IsFrontWritten, IsLine, IsNoted, IsNotedAlone, IsOutcome, IsWritten, LineFor};
-ghost use Rattle.owl_answer.specs.Answers.{IsProper, IsWrittenFor, delivered_line};
+ghost use Rattle.owl_answer.specs.Answers.{IsFirstFaultyName, IsProper, IsWrittenFor, delivered_line};
 ghost use Rattle.owl_messages.specs.Answers.{outcome_of};
 ghost use Rattle.owl_messages.specs.Outcome.{Outcome};
 
@@ -81,16 +82,16 @@ fn obey<S: Shelf, O: Sink, N: Sink>(
     ensures read_fault { result ≡ Status.ReadFailed → (name : List ℕ)
         × IsFaulty (λ other. Rose (S.faults shelf.old other) (S.faults shelf.new other)) (request_of command.now) name }
     ensures in_order { IsTrue (S.tells shelf.old) → result ≡ Status.ReadFailed → (name : List ℕ)
-        × IsFirstFaulty (S.left shelf.old) (λ other. Rose (S.faults shelf.old other) (S.faults shelf.new other)) (request_of command.now) name }
+        × IsFirstFaultyName (S.left shelf.old) (λ other. Rose (S.faults shelf.old other) (S.faults shelf.new other)) (request_of command.now) name }
     ensures write_fault { result ≡ Status.WriteFailed → Rose (O.faults out.old) (O.faults out.new) }
     ensures note { IsTrue (S.tells shelf.old) → IsTrue (N.tells note.old) → (Rose (N.faults note.old) (N.faults note.new) → ⊥) →
-        IsNoted (LineFor (request_of command.now) (IsFirstFaulty (S.left shelf.old) (λ other. Rose (S.faults shelf.old other) (S.faults shelf.new other)) (request_of command.now)) result)
+        IsNoted (LineFor (request_of command.now) (IsFirstFaultyName (S.left shelf.old) (λ other. Rose (S.faults shelf.old other) (S.faults shelf.new other)) (request_of command.now)) result)
         (Becomes (S.left shelf.old) (request_of command.now)) result (N.written note.old) (N.written note.new) }
     ensures note_alone { IsTrue (N.tells note.old) → (Rose (N.faults note.old) (N.faults note.new) → ⊥) →
         IsNotedAlone (LineFor (request_of command.now) (IsFaulty (λ other. Rose (S.faults shelf.old other) (S.faults shelf.new other)) (request_of command.now)) result)
         (N.written note.old) (N.written note.new) }
     ensures note_front { IsTrue (S.tells shelf.old) → IsTrue (N.tells note.old) →
-        IsFrontOfNote (LineFor (request_of command.now) (IsFirstFaulty (S.left shelf.old) (λ other. Rose (S.faults shelf.old other) (S.faults shelf.new other)) (request_of command.now)) result)
+        IsFrontOfNote (LineFor (request_of command.now) (IsFirstFaultyName (S.left shelf.old) (λ other. Rose (S.faults shelf.old other) (S.faults shelf.new other)) (request_of command.now)) result)
         (Becomes (S.left shelf.old) (request_of command.now)) result (N.written note.old) (N.written note.new) }
     ensures note_front_alone { IsTrue (N.tells note.old) →
         IsFrontNoted (LineFor (request_of command.now) (IsFaulty (λ other. Rose (S.faults shelf.old other) (S.faults shelf.new other)) (request_of command.now)) result)
@@ -121,9 +122,11 @@ fn obey<S: Shelf, O: Sink, N: Sink>(
 /// `limit: COUNT: NAME` or `limit: COUNT: output` for `Limit`, `read: NAME` for `ReadFailed`, `write` for `WriteFailed` and
 /// `memory` for `Memory`.
 ///
-/// Each document that the words name is read, in their order, and the first that can't be is refused by its first defect;
-/// then imports are looked at, of the main document and of those that it reaches; then each of these is read under the kinds
-/// that they declare together (each of two that are compared under its own), and the first graph or document of frames that
+/// Each document that the words name is read, in their order, the main one against the base IRI that is given, if it is in
+/// Turtle, and the first that can't be is refused by its first defect; then imports are looked at, of the main document and
+/// of those that it reaches; then, where that is asked for, annotation properties are guessed of each of these that is in
+/// Turtle: predicates that are not reserved and that these declare as no property; then each of these is read under the kinds
+/// that they declare together, with guesses (each of two that are compared under its own), and the first graph or document of frames that
 /// says no ontology is refused; then, unless a document in Functional-Style Syntax is translated to it, whether what the main
 /// one says is well typed; then, for Turtle and Manchester Syntax, whether it can be said. A check looks at all documents of
 /// the import closure, and tells each rule with each part that breaks it. A fault of `note` changes no status.
@@ -145,10 +148,10 @@ pub fn run<S: Shelf, O: Sink, N: Sink>(
 
     // A check answers yes exactly where the import closure is in the profile.
     ensures verdict { IsTrue (S.tells shelf.old) → IsSettled result →
-        (profile : Profile) (partial : Bool) (names : List (List ℕ)) →
-        Asks (map string_bytes words.now) (of_main (Action.Check profile) partial names) →
+        (profile : Profile) (options : Options) (names : List (List ℕ)) →
+        Asks (map string_bytes words.now) (of_main (Action.Check profile) options names) →
         (result ≡ Status.Done)
-        ↔ IsInProfile (S.left shelf.old) (of_main (Action.Check profile) partial names) profile }
+        ↔ IsInProfile (S.left shelf.old) (of_main (Action.Check profile) options names) profile }
 
     // Success writes the text, and reads the documents to their ends.
     ensures written { IsTrue (S.tells shelf.old) → IsTrue (O.tells out.old) → IsSuccess result →
@@ -173,18 +176,18 @@ pub fn run<S: Shelf, O: Sink, N: Sink>(
         (name : List ℕ) × Name (map string_bytes words.now) name × Rose (S.faults shelf.old name) (S.faults shelf.new name) }
     ensures in_order { IsTrue (S.tells shelf.old) → result ≡ Status.ReadFailed →
         (request : Request) × (name : List ℕ) × Asks (map string_bytes words.now) request
-        × IsFirstFaulty (S.left shelf.old) (λ other. Rose (S.faults shelf.old other) (S.faults shelf.new other)) request name }
+        × IsFirstFaultyName (S.left shelf.old) (λ other. Rose (S.faults shelf.old other) (S.faults shelf.new other)) request name }
     ensures write_fault { result ≡ Status.WriteFailed → Rose (O.faults out.old) (O.faults out.new) }
 
     // The note is one line.
     ensures note { IsTrue (S.tells shelf.old) → IsTrue (N.tells note.old) → (Rose (N.faults note.old) (N.faults note.new) → ⊥) →
-        IsNoted (IsLine (map string_bytes words.now) (IsFirstFaulty (S.left shelf.old) (λ other. Rose (S.faults shelf.old other) (S.faults shelf.new other))) result)
+        IsNoted (IsLine (map string_bytes words.now) (IsFirstFaultyName (S.left shelf.old) (λ other. Rose (S.faults shelf.old other) (S.faults shelf.new other))) result)
         (IsOutcome (map string_bytes words.now) (S.left shelf.old)) result (N.written note.old) (N.written note.new) }
     ensures note_alone { IsTrue (N.tells note.old) → (Rose (N.faults note.old) (N.faults note.new) → ⊥) →
         IsNotedAlone (IsLine (map string_bytes words.now) (IsFaulty (λ other. Rose (S.faults shelf.old other) (S.faults shelf.new other))) result)
         (N.written note.old) (N.written note.new) }
     ensures note_front { IsTrue (S.tells shelf.old) → IsTrue (N.tells note.old) →
-        IsFrontOfNote (IsLine (map string_bytes words.now) (IsFirstFaulty (S.left shelf.old) (λ other. Rose (S.faults shelf.old other) (S.faults shelf.new other))) result)
+        IsFrontOfNote (IsLine (map string_bytes words.now) (IsFirstFaultyName (S.left shelf.old) (λ other. Rose (S.faults shelf.old other) (S.faults shelf.new other))) result)
         (IsOutcome (map string_bytes words.now) (S.left shelf.old)) result (N.written note.old) (N.written note.new) }
     ensures note_front_alone { IsTrue (N.tells note.old) →
         IsFrontNoted (IsLine (map string_bytes words.now) (IsFaulty (λ other. Rose (S.faults shelf.old other) (S.faults shelf.new other))) result)
