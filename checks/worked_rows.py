@@ -70,6 +70,13 @@ a property of no kind, of another kind, and a literal as a class | manchester_ki
 types beside those of OWL 2, with a restriction that is a class | thinned: types_beside_those_of_OWL_2
 a list with its type | thinned: a_list_with_its_type
 a class of RDF Schema alone | thinned: a_class_of_RDF_Schema_alone
+= guesses and bases
+a property that nothing declares, not guessed and guessed | guesses: an_undeclared_property_where_nothing_is_guessed an_undeclared_property
+a reserved property, which is not guessed | guesses: a_reserved_property
+the word for guesses in front of the target | guesses: the_word_before_the_target
+a guessed property through all three syntaxes | guesses: a_guess_to_turtle a_guess_to_turtle_back a_guess_to_manchester_syntax
+a base of a document without a base, and of one that sets its own | bases: a_header_that_is_the_base a_base_of_main a_relative_base_of_main
+an import without a base beside a document that has one | bases: an_import_without_a_base
 = graphs that are refused
 no header, and two | graphs: no_header two_headers
 a list in a circle | graphs: a_list_in_a_circle
