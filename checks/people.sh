@@ -176,7 +176,7 @@ owl: "--help" stands alone: owl --help
 END
 says 'no target' 2 translate zoo.ofn <<'END'
 words
-owl: "--to" stands right behind "translate", where "zoo.ofn" is: owl translate --to fss|ttl|omn [--partial] MAIN {IMPORT}
+owl: "--to" stands right behind "translate", where "zoo.ofn" is: owl translate --to fss|ttl|omn [--partial] [--guess] [--base IRI] MAIN {IMPORT}
 END
 says 'no word for the target' 2 translate --to <<'END'
 words
@@ -184,7 +184,7 @@ owl: a word is missing behind "--to": one of fss, ttl, omn
 END
 says 'nothing behind translate' 2 translate <<'END'
 words
-owl: "--to" is missing behind "translate": owl translate --to fss|ttl|omn [--partial] MAIN {IMPORT}
+owl: "--to" is missing behind "translate": owl translate --to fss|ttl|omn [--partial] [--guess] [--base IRI] MAIN {IMPORT}
 END
 says 'a name for the target' 2 translate --to zoo.ofn <<'END'
 words
@@ -212,27 +212,123 @@ owl: "TTL" is none of fss, ttl, omn: is "ttl" meant?
 END
 says 'the target behind the name' 2 translate zoo.ofn --to fss <<'END'
 words
-owl: "--to" stands right behind "translate", where "zoo.ofn" is: owl translate --to fss|ttl|omn [--partial] MAIN {IMPORT}
+owl: "--to" stands right behind "translate", where "zoo.ofn" is: owl translate --to fss|ttl|omn [--partial] [--guess] [--base IRI] MAIN {IMPORT}
 END
 says 'no name' 2 translate --to fss <<'END'
 words
-owl: the name of a document is missing: owl translate --to fss|ttl|omn [--partial] MAIN {IMPORT}
+owl: the name of a document is missing: owl translate --to fss|ttl|omn [--partial] [--guess] [--base IRI] MAIN {IMPORT}
 END
 says '--partial in front of the target' 2 translate --partial --to fss zoo.ofn <<'END'
 words
-owl: "--to" stands right behind "translate", where "--partial" is: owl translate --to fss|ttl|omn [--partial] MAIN {IMPORT}
+owl: "--to" stands right behind "translate", where "--partial" is: owl translate --to fss|ttl|omn [--partial] [--guess] [--base IRI] MAIN {IMPORT}
 END
 says '--partial behind the name' 2 show zoo.ofn --partial <<'END'
 words
-owl: "--partial" stands in front of the names: owl show [--partial] MAIN {IMPORT}
+owl: "--partial" stands once, in front of the names and in this order: owl show [--partial] [--guess] [--base IRI] MAIN {IMPORT}
 END
 says '--partial twice' 2 show --partial --partial zoo.ofn <<'END'
 words
-owl: "--partial" stands in front of the names: owl show [--partial] MAIN {IMPORT}
+owl: "--partial" stands once, in front of the names and in this order: owl show [--partial] [--guess] [--base IRI] MAIN {IMPORT}
+END
+says '--guess in front of the target' 2 translate --guess --to fss zoo.ofn <<'END'
+words
+owl: "--to" stands right behind "translate", where "--guess" is: owl translate --to fss|ttl|omn [--partial] [--guess] [--base IRI] MAIN {IMPORT}
+END
+says '--guess in front of --partial' 2 show --guess --partial zoo.ofn <<'END'
+words
+owl: "--partial" stands once, in front of the names and in this order: owl show [--partial] [--guess] [--base IRI] MAIN {IMPORT}
+END
+says '--guess behind the name' 2 check --profile dl zoo.ofn --guess <<'END'
+words
+owl: "--guess" stands once, in front of the names and in this order: owl check --profile dl|el|ql|rl [--partial] [--guess] [--base IRI] MAIN {IMPORT}
+END
+says '--guess twice' 2 translate --to fss --guess --guess zoo.ofn <<'END'
+words
+owl: "--guess" stands once, in front of the names and in this order: owl translate --to fss|ttl|omn [--partial] [--guess] [--base IRI] MAIN {IMPORT}
+END
+says '--guess and no name' 2 show --guess <<'END'
+words
+owl: the name of a document is missing: owl show [--partial] [--guess] [--base IRI] MAIN {IMPORT}
+END
+says '--guess and no command' 2 --guess show zoo.ofn <<'END'
+words
+owl: "--guess" stands behind a command: translate, check or show is the first word
+END
+says '--base in front of --guess' 2 show --base http://e/ --guess zoo.ofn <<'END'
+words
+owl: "--guess" stands once, in front of the names and in this order: owl show [--partial] [--guess] [--base IRI] MAIN {IMPORT}
+END
+says '--base in front of the target' 2 translate --base http://e/ --to fss zoo.ofn <<'END'
+words
+owl: "--to" stands right behind "translate", where "--base" is: owl translate --to fss|ttl|omn [--partial] [--guess] [--base IRI] MAIN {IMPORT}
+END
+says '--base twice' 2 show --base http://e/ --base http://e/ zoo.ofn <<'END'
+words
+owl: "--base" stands once, in front of the names and in this order: owl show [--partial] [--guess] [--base IRI] MAIN {IMPORT}
+END
+says '--base behind the name' 2 show zoo.ofn --base http://e/ <<'END'
+words
+owl: "--base" stands once, in front of the names and in this order: owl show [--partial] [--guess] [--base IRI] MAIN {IMPORT}
+END
+says '--base and no command' 2 --base http://e/ show zoo.ofn <<'END'
+words
+owl: "--base" stands behind a command: translate, check or show is the first word
+END
+says '--base and no name' 2 show --base http://e/ <<'END'
+words
+owl: the name of a document is missing: owl show [--partial] [--guess] [--base IRI] MAIN {IMPORT}
+END
+says '--base and no IRI' 2 show --base zoo.ofn <<'END'
+words
+owl: an IRI is missing behind "--base", where "zoo.ofn" is: owl show [--partial] [--guess] [--base IRI] MAIN {IMPORT}
+END
+says '--base at the end' 2 show --partial --base <<'END'
+words
+owl: an IRI is missing behind "--base", as http://example.org/zoo: owl show [--partial] [--guess] [--base IRI] MAIN {IMPORT}
+END
+says '--base and another option' 2 show --base --guess zoo.ofn <<'END'
+words
+owl: an IRI is missing behind "--base", where "--guess" is: owl show [--partial] [--guess] [--base IRI] MAIN {IMPORT}
+END
+says '--base and an empty word' 2 show --base '' zoo.ofn <<'END'
+words
+owl: the word behind "--base" is empty: an IRI stands there, as http://example.org/zoo
+END
+says '--base with an equals sign' 2 show --base=http://e/ zoo.ofn <<'END'
+words
+owl: "--base=http://e/" has to be two words, in front of the names: --base http://e/
+END
+says 'a base in brackets' 2 show --base '<http://e/>' zoo.ofn <<'END'
+words
+owl: "<http://e/>" stands without < and > behind "--base": http://e/
+END
+says 'a base without a scheme' 2 show --base example.org/zoo zoo.ofn <<'END'
+words
+owl: "example.org/zoo" has no scheme, which the IRI behind "--base" begins with, as http://example.org/zoo
+END
+says 'a base with a scheme that is none' 2 show --base 1e:a zoo.ofn <<'END'
+words
+owl: "1e:a" has no scheme, which the IRI behind "--base" begins with, as http://example.org/zoo
+END
+says 'a base with a space' 2 show --base 'http://e/the zoo' zoo.ofn <<'END'
+words
+owl: "http://e/the zoo" has a character that no IRI has: a space is written as %20, and so are others
+END
+says 'a base with a brace' 2 show --base 'http://e/{zoo}' zoo.ofn <<'END'
+words
+owl: "http://e/{zoo}" has a character that no IRI has: a space is written as %20, and so are others
+END
+says 'a base that is no UTF-8' 2 show --base $'http://e/\xff' zoo.ofn <<'END'
+words
+owl: "http://e/?" is no UTF-8
+END
+says 'a base and a name that is none' 2 show --base http://e/ zoo <<'END'
+words
+owl: "zoo" is no name of a document: one ends in .ofn, .ttl or .omn
 END
 says '--to behind the name' 2 show zoo.ofn --to fss <<'END'
 words
-owl: "--to" stands right behind the command: owl show [--partial] MAIN {IMPORT}
+owl: "--to" stands right behind the command: owl show [--partial] [--guess] [--base IRI] MAIN {IMPORT}
 END
 says 'an output by name' 2 translate --to ttl zoo.ofn -o zoo.ttl <<'END'
 words
@@ -244,7 +340,7 @@ owl: "--quiet" is the first word: owl --quiet COMMAND ..
 END
 says 'no profile' 2 check zoo.ofn <<'END'
 words
-owl: "--profile" stands right behind "check", where "zoo.ofn" is: owl check --profile dl|el|ql|rl [--partial] MAIN {IMPORT}
+owl: "--profile" stands right behind "check", where "zoo.ofn" is: owl check --profile dl|el|ql|rl [--partial] [--guess] [--base IRI] MAIN {IMPORT}
 END
 says 'no word for the profile' 2 check --profile <<'END'
 words
@@ -337,6 +433,14 @@ END
 says '--partial of a comparison' 2 same --partial zoo.ofn farm.ofn <<'END'
 words
 owl: "--partial" is no word of "same", which asks for no imports: owl same FIRST SECOND
+END
+says '--guess of a comparison' 2 same --guess zoo.ofn farm.ofn <<'END'
+words
+owl: "--guess" is no word of "same", which takes documents as they are: owl same FIRST SECOND
+END
+says '--base of a comparison' 2 same --base http://e/ zoo.ofn farm.ofn <<'END'
+words
+owl: "--base" is no word of "same", which takes documents as they are: owl same FIRST SECOND
 END
 says 'no size of a trial' 2 trial <<'END'
 words
@@ -891,7 +995,7 @@ document zoo.ttl <<'END'
 END
 says 'a relative IRI is no OWL/XML' 3 show zoo.ttl <<'END'
 zoo.ttl: item at 0: RelativeWithoutBase at 0
-owl: zoo.ttl:1:1: this IRI is relative, and no base is set above it: "@base <IRI> ." sets one, or write it in full
+owl: zoo.ttl:1:1: this IRI is relative, and no base is set above it: put --base IRI in front of the names, set one by "@base <IRI> .", or write it in full
     <Ontology> <http://e/p> "" .
     ^
 END
@@ -1075,7 +1179,7 @@ document zoo.ttl <<'END'
 END
 says 'a relative IRI, in Turtle' 3 show zoo.ttl <<'END'
 zoo.ttl: item at 128: RelativeWithoutBase at 128
-owl: zoo.ttl:4:1: this IRI is relative, and no base is set above it: "@base <IRI> ." sets one, or write it in full
+owl: zoo.ttl:4:1: this IRI is relative, and no base is set above it: put --base IRI in front of the names, set one by "@base <IRI> .", or write it in full
     <a> a owl:Class .
     ^
 END
@@ -1272,7 +1376,7 @@ document zoo.ttl <<'END'
 END
 says 'an undeclared property' 3 show zoo.ttl <<'END'
 zoo.ttl: Untyped <http://e/A> <http://e/eats> "5"@en
-owl: zoo.ttl:6:21: :eats is not declared here: say what it is, as by ":eats a owl:ObjectProperty ." (or owl:DatatypeProperty, or owl:AnnotationProperty)
+owl: zoo.ttl:6:21: :eats is not declared here: say what it is, as by ":eats a owl:ObjectProperty ." (or owl:DatatypeProperty, or owl:AnnotationProperty); or put --guess in front of the names to take such properties as annotation properties
     :A rdfs:label "x" ; :eats "5"@en, 5, "abc" .
                         ^
 END
@@ -1427,9 +1531,80 @@ document zoo.ttl <<'END'
 END
 says 'names by a base' 3 show zoo.ttl <<'END'
 zoo.ttl: Untyped <http://e/A> <http://e/x#p> <http://e/B>
+owl: zoo.ttl:5:5: <#p> is not declared here: say what it is, as by "<#p> a owl:ObjectProperty ." (or owl:DatatypeProperty, or owl:AnnotationProperty); or put --guess in front of the names to take such properties as annotation properties
+    <A> <#p> <B> .
+        ^
+END
+says 'names by a base, in a comparison' 3 same zoo.ttl ./zoo.ttl <<'END'
+zoo.ttl: Untyped <http://e/A> <http://e/x#p> <http://e/B>
 owl: zoo.ttl:5:5: <#p> is not declared here: say what it is, as by "<#p> a owl:ObjectProperty ." (or owl:DatatypeProperty, or owl:AnnotationProperty)
     <A> <#p> <B> .
         ^
+END
+says 'a property that is guessed' 0 show --guess zoo.ttl <<'END'
+shown
+END
+document zoo.ttl <<'END'
+@prefix owl: <http://www.w3.org/2002/07/owl#> .
+<> a owl:Ontology .
+<A> a owl:Class .
+<A> <#p> <B> .
+END
+says 'names by a base that stands in front of the names' 3 show --partial --base http://e/x zoo.ttl <<'END'
+zoo.ttl: Untyped <http://e/A> <http://e/x#p> <http://e/B>
+owl: zoo.ttl:4:5: <#p> is not declared here: say what it is, as by "<#p> a owl:ObjectProperty ." (or owl:DatatypeProperty, or owl:AnnotationProperty); or put --guess in front of the names to take such properties as annotation properties
+    <A> <#p> <B> .
+        ^
+END
+says 'all options' 0 check --profile dl --partial --guess --base http://e/x zoo.ttl <<'END'
+profile dl: yes
+END
+says 'a relative IRI, in a comparison' 3 same zoo.ttl ./zoo.ttl <<'END'
+zoo.ttl: item at 48: RelativeWithoutBase at 48
+owl: zoo.ttl:2:1: this IRI is relative, and no base is set above it: "@base <IRI> ." sets one, or write it in full
+    <> a owl:Ontology .
+    ^
+END
+document main.ttl <<'END'
+@prefix owl: <http://www.w3.org/2002/07/owl#> .
+<> a owl:Ontology ; owl:imports <http://e/zoo> .
+END
+says 'a relative IRI of an import' 3 check --profile dl --base http://e/main main.ttl zoo.ttl <<'END'
+zoo.ttl: item at 48: RelativeWithoutBase at 48
+owl: zoo.ttl:2:1: this IRI is relative, and no base is set above it: "@base <IRI> ." sets one, or write it in full
+    <> a owl:Ontology .
+    ^
+END
+document zoo.ttl <<'END'
+@base <http://e/zoo> .
+@prefix owl: <http://www.w3.org/2002/07/owl#> .
+<> a owl:Ontology .
+<A> <#p> <B> .
+END
+says 'an undeclared property of an import with a base' 3 translate --to fss --base http://e/main main.ttl zoo.ttl <<'END'
+zoo.ttl: Untyped <http://e/A> <http://e/zoo#p> <http://e/B>
+owl: zoo.ttl:4:5: <#p> is not declared here: say what it is, as by "<#p> a owl:ObjectProperty ." (or owl:DatatypeProperty, or owl:AnnotationProperty); or put --guess in front of the names to take such properties as annotation properties
+    <A> <#p> <B> .
+        ^
+END
+document zoo.ttl <<'END'
+@prefix : <http://e/> .
+@prefix owl: <http://www.w3.org/2002/07/owl#> .
+@prefix rdfs: <http://www.w3.org/2000/01/rdf-schema#> .
+:o a owl:Ontology .
+:A a owl:Class ; rdfs:subClassOf [ a owl:Class ; owl:complementOf :A ; :p "x" ] .
+END
+says 'an undeclared property of an expression' 3 show zoo.ttl <<'END'
+zoo.ttl: Untyped _:gen1 <http://e/p> "x"
+owl: zoo.ttl:5:72: :p is not declared here: say what it is, as by ":p a owl:ObjectProperty ." (or owl:DatatypeProperty, or owl:AnnotationProperty)
+    ... ; rdfs:subClassOf [ a owl:Class ; owl:complementOf :A ; :p "x" ] .
+                                                                ^
+END
+says 'a guessed property of an expression' 3 show --guess zoo.ttl <<'END'
+zoo.ttl: Untyped _:gen1 <http://e/p> "x"
+owl: zoo.ttl:5:72: this triple is no assertion: :p has a kind that does not fit what stands on its two sides
+    ... ; rdfs:subClassOf [ a owl:Class ; owl:complementOf :A ; :p "x" ] .
+                                                                ^
 END
 }
 
@@ -2094,7 +2269,7 @@ owl: pipe.ttl: $4" 'printf "@prefix : <http://e/> . @prefix owl: <http://www.w3.
 }
 piped 'a pipe without a header' '' NoHeader 'no node of the graph is an ontology: add "<IRI> a owl:Ontology ."'
 piped 'a pipe with an undeclared property' ':o a owl:Ontology . :a :p :b .' 'Untyped <http://e/a> <http://e/p> <http://e/b>' \
-    '<http://e/p> is not declared here: say what it is, as by "<http://e/p> a owl:ObjectProperty ." (or owl:DatatypeProperty, or owl:AnnotationProperty)'
+    '<http://e/p> is not declared here: say what it is, as by "<http://e/p> a owl:ObjectProperty ." (or owl:DatatypeProperty, or owl:AnnotationProperty); or put --guess in front of the names to take such properties as annotation properties'
 piped 'a pipe with a bad node' ':o a owl:Ontology . :a a [ a owl:Restriction ] .' 'BadNode _:gen1' \
     'the triples of this node are those of no class expression, data range, axiom or annotation: one is missing, too many or a bad list or number'
 piped 'a pipe with a missing import' ':o a owl:Ontology ; owl:imports :i .' 'MissingImport <http://e/i>' \
@@ -2235,7 +2410,20 @@ completes 'owl translate ' --to
 completes 'owl translate --to ' fss ttl omn
 completes 'owl check --profile ' dl el ql rl
 completes 'owl check --profile dl ' a.ofn b.ttl c.omn inner
-completes 'owl check --profile dl --' --partial
+completes 'owl check --profile dl --' --partial --guess --base
+completes 'owl show --' --partial --guess --base
+completes 'owl show --partial --' --guess --base
+completes 'owl translate --to ttl --partial --guess -' --base
+completes 'owl translate --to ttl --guess --partial ' a.ofn b.ttl c.omn inner
+completes 'owl --quiet show --guess --' --base
+completes 'owl show --base ' ''
+completes 'owl show --base h' ''
+completes 'owl show --base http : //e/ ' a.ofn b.ttl c.omn inner
+completes 'owl show --base http : //e/' ''
+completes 'owl show --base e : ?a = ' ''
+completes 'owl show --base http : //e/?a = b a.ofn ' b.ttl c.omn inner
+completes 'owl show --base http : //e/ --' ''
+completes 'owl show a.ofn --' ''
 completes 'owl show a.ofn ' b.ttl c.omn inner
 completes 'owl --quiet sh' show
 completes 'owl trial ' ''

@@ -258,6 +258,14 @@ call 'an empty word' 2 '' 'words
 ' show ''
 call 'a word that is no UTF-8' 2 '' 'words
 ' show $'m\377.ofn'
+call 'an empty word for a base' 2 '' 'words
+' show --base '' m.ofn
+call 'a base with a space' 2 '' 'words
+' show --base 'http://h/a b' m.ofn
+call 'a base with a control character' 2 '' 'words
+' show --base $'http://h/\ta' m.ofn
+call 'a base that is no UTF-8' 2 '' 'words
+' show --base $'http://h/\377' m.ofn
 shell 'the name of the program is no word' 2 '' 'words
 ' '"$show" m.ofn'
 call 'a document ends too early' 3 '' 'wrong.ofn: item at 22: NotHere at 45

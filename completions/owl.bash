@@ -23,13 +23,34 @@ _owl() {
         ;;
     1:--build) choices=--keep ;;
     1:--*) ;;
-    1:show | 3:translate | 3:check)
-        _owl_names "$word"
-        [[ $word != -* ]] || choices=--partial
-        ;;
+    *:show) _owl_rest "$word" $((first + 1)) ;;
+    *:translate | *:check) _owl_rest "$word" $((first + 3)) ;;
     *) _owl_names "$word" ;;
     esac
     [[ -z $choices ]] || mapfile -t -O "${#COMPREPLY[@]}" COMPREPLY < <(compgen -W "$choices" -- "$word")
+}
+
+# _owl_rest WORD AT: what stands behind the target, the profile or `show`, from AT
+# on: options in their order, and names.
+_owl_rest() {
+    local word=$1 at
+    choices='--partial --guess --base'
+    for ((at = $2; at < COMP_CWORD; at++)); do
+        case ${COMP_WORDS[at]} in
+        --partial) choices='--guess --base' ;;
+        --guess) choices=--base ;;
+        --base)
+            choices=
+            # The IRI is cut at each colon and equals sign, as bash does.
+            for ((at++; at < COMP_CWORD; at += 2)); do [[ ${COMP_WORDS[at + 1]} == [:=]* ]] || break; done
+            # What is begun is the IRI.
+            ((at < COMP_CWORD)) || return
+            ;;
+        *) choices= ;;
+        esac
+    done
+    _owl_names "$word"
+    [[ $word == -* ]] || choices=
 }
 
 # The documents and folders whose names begin with a word, but for those that

@@ -396,7 +396,13 @@ explain_text() {
     BadLiteral) say 'a literal of this datatype is not written in this form: a plain string or one with a language tag has no datatype' ;;
     EmptyKey) say 'a HasKey has at least one property in its two brackets' ;;
     BadIri) say 'no IRI has all of these characters: an escape here stands for one that it may not have' ;;
-    RelativeWithoutBase) say 'this IRI is relative, and no base is set above it: "@base <IRI> ." sets one, or write it in full' ;;
+    RelativeWithoutBase)
+        if [[ $file == "$main" ]]; then
+            say 'this IRI is relative, and no base is set above it: put --base IRI in front of the names, set one by "@base <IRI> .", or write it in full'
+        else
+            say 'this IRI is relative, and no base is set above it: "@base <IRI> ." sets one, or write it in full'
+        fi
+        ;;
     *) say '%s' "docs/REFUSALS.md has an entry for $reason" ;;
     esac
 }
@@ -459,6 +465,7 @@ search_graph() {
     local file=$1 gens line
     at='' node='' types='' has='' prefixes=''
     is_searched "$file" && [[ $file == *.ttl ]] || return 1
+    [[ $file == "$main" ]] || local base=
     gens=$(grep -a -o -E '_:gen[1-9][0-9]{0,17}' -- "$file" | cut -c 6- | sort -n | tail -n 1)
     while IFS= read -r line; do
         case $line in
@@ -468,7 +475,7 @@ search_graph() {
         'has '*) has+=${line#has }$'\n' ;;
         'prefix '*) prefixes+=${line#prefix }$'\n' ;;
         esac
-    done < <(tr '\0' '\1' <"$file" | WANT_S=${2-} WANT_P=${3-} WANT_O=${4-} BASE=${gens:-0} awk -f "$lib/turtle.awk")
+    done < <(tr '\0' '\1' <"$file" | WANT_S=${2-} WANT_P=${3-} WANT_O=${4-} GENS=${gens:-0} BASE=$base awk -f "$lib/turtle.awk")
 }
 
 # Says of a graph's triple what is wrong with it.
@@ -500,6 +507,17 @@ is_typed() {
     [[ $'\n'$types == *$'\n'"$1 "* ]]
 }
 
+# Whether a term of the triple that was searched is a node with the type of an
+# expression.
+is_expression() {
+    local type
+    [[ $1 == _:* ]] || return 1
+    for type in "${owl_iri}Class" "${owl_iri}Restriction" "${rdfs_iri}Datatype"; do
+        [[ $'\n'$types != *$'\n'"$1 <$type>"$'\n'* ]] || return 0
+    done
+    return 1
+}
+
 # The kind that a word of the vocabulary asks of what stands beside it.
 wanted_kind() {
     case $1 in
@@ -510,13 +528,13 @@ wanted_kind() {
     esac
 }
 
-# undeclared FILE AT IRI KIND: says of a name in a graph how it is declared.
+# undeclared FILE AT IRI KIND [MORE]: says of a name in a graph how it is declared.
 undeclared() {
     local name
     [[ -z $2 ]] || locate "$1" "$2"
     name=$(named "$3")
     if [[ $4 == property ]]; then
-        say '%s is not declared here: say what it is, as by "%s a owl:ObjectProperty ." (or owl:DatatypeProperty, or owl:AnnotationProperty)' "$name" "$name"
+        say '%s is not declared here: say what it is, as by "%s a owl:ObjectProperty ." (or owl:DatatypeProperty, or owl:AnnotationProperty)%s' "$name" "$name" "${5-}"
     else
         say '%s is not declared here: add "%s a %s ."' "$name" "$name" "$4"
     fi
@@ -527,8 +545,11 @@ explain_untyped() {
     local -a places
     read -r -a places <<<"$at"
     if [[ $p != "<$owl_iri"* && $p != "<$rdf_iri"* && $p != "<$rdfs_iri"* && $p != "<$xsd_iri"* ]]; then
-        if is_typed "$p"; then
+        # What nothing declares is taken as an annotation property where the command guesses.
+        if [[ -n $guesses ]] || is_typed "$p"; then
             say 'this triple is no assertion: %s has a kind that does not fit what stands on its two sides' "$(named "$p")"
+        elif [[ -n $main ]] && ! is_expression "$s" && ! is_expression "$o"; then
+            undeclared "$file" "${places[1]-}" "$p" property '; or put --guess in front of the names to take such properties as annotation properties'
         else
             undeclared "$file" "${places[1]-}" "$p" property
         fi
@@ -847,20 +868,25 @@ explain_no() {
     esac
 }
 
-# Sets `names` to the documents that the words of a command name.
+# Sets `names` to the documents that the words of a command name, `main` to the
+# main one, if there is one, `guesses` where the command guesses, and `base`.
 name_documents() {
+    local command=$1
     names=()
-    case $1 in
+    case $command in
     translate | check) shift 3 ;;
     *) shift ;;
     esac
     [[ ${1-} != --partial ]] || shift
+    [[ ${1-} != --guess ]] || { guesses=yes && shift; }
+    [[ ${1-} != --base ]] || { base=$2 && shift 2; }
     names=("$@")
+    [[ $command == same ]] || main=${1-}
 }
 
 # explain STATUS LINE WORD..: says what people want to know.
 explain() {
-    local status=$1 line=${2%$'\n'} place='' shown='' rest='' ended='' lib=$top/lib name
+    local status=$1 line=${2%$'\n'} place='' shown='' rest='' ended='' lib=$top/lib name main='' guesses='' base=''
     local -a names
     shift 2
     export LC_ALL=C

@@ -2,15 +2,17 @@
 # triples, and tells in bytes where the first stands that is wanted.
 #
 # The environment has the wanted terms in full, as the program writes them:
-# WANT_S, WANT_P and WANT_O of a triple, or WANT_S alone of a node; and in BASE
-# the number that comes before that of the first blank node without a label.
+# WANT_S, WANT_P and WANT_O of a triple, or WANT_S alone of a node; in GENS the
+# number that comes before that of the first blank node without a label; and in
+# BASE the IRI that is the base of the document, if there is one.
 # Lines that are told: `at S P O` with the places of a triple's terms, or `node
 # AT` with that of a node; `type TERM TYPE` of the terms that are wanted; `has
 # PREDICATE OBJECT AT` of a node; `prefix NAME IRI`.
 BEGIN {
     rdf = "http://www.w3.org/1999/02/22-rdf-syntax-ns#"
     s = ENVIRON["WANT_S"]; p = ENVIRON["WANT_P"]; o = ENVIRON["WANT_O"]
-    gens = ENVIRON["BASE"] + 0
+    gens = ENVIRON["GENS"] + 0
+    root = ENVIRON["BASE"]
     depth = 0; kind[0] = "T"; state[0] = 0
 }
 

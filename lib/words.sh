@@ -36,7 +36,8 @@ explain_name() {
     local name=$1 usage=$2 looks suffix
     case $name in
     '') say 'a word is empty: the name of a document stands there' ;;
-    --partial) say '"--partial" stands in front of the names: %s' "$usage" ;;
+    --partial | --guess | --base) say '"%s" stands once, in front of the names and in this order: %s' "$name" "$usage" ;;
+    --base=*) say '"%s" has to be two words, in front of the names: --base %s' "$(clean "$name")" "$(clean "${name#*=}")" ;;
     --to | --profile | --to=* | --profile=*) say '"%s" stands right behind the command: %s' "$(clean "$name")" "$usage" ;;
     -o | --output | --output=*) say '"%s" is no word of owl: the text goes to the standard output, so write > FILE' "$(clean "$name")" ;;
     --quiet) say '"--quiet" is the first word: owl --quiet COMMAND ..' ;;
@@ -72,12 +73,51 @@ explain_name() {
     esac
 }
 
+options='[--partial] [--guess] [--base IRI] MAIN {IMPORT}'
+
+# Says what is wrong behind the target, the profile or `show`.
+explain_rest() {
+    local usage=$1
+    shift
+    [[ ${1-} != --partial ]] || shift
+    [[ ${1-} != --guess ]] || shift
+    if [[ ${1-} == --base ]]; then
+        if (($# == 1)); then
+            say 'an IRI is missing behind "--base", as http://example.org/zoo: %s' "$usage"
+            return
+        fi
+        explain_base "$2" "$usage" && return
+        shift 2
+    fi
+    explain_names "$usage" "$@"
+}
+
+# Says what is wrong with the IRI of a base. Its status is 1 where nothing is.
+explain_base() {
+    local iri=$1 usage=$2
+    if [[ -z $iri ]]; then
+        say 'the word behind "--base" is empty: an IRI stands there, as http://example.org/zoo'
+    elif [[ $iri == '<'*'>' ]]; then
+        say '"%s" stands without < and > behind "--base": %s' "$(clean "$iri")" "$(clean "${iri:1:-1}")"
+    elif [[ $iri == -* || $iri != *:* && $iri == ?*.@(ofn|ttl|omn) ]]; then
+        say 'an IRI is missing behind "--base", where "%s" is: %s' "$(clean "$iri")" "$usage"
+    elif [[ ! $iri =~ ^[A-Za-z][A-Za-z0-9+.-]*: ]]; then
+        say '"%s" has no scheme, which the IRI behind "--base" begins with, as http://example.org/zoo' "$(clean "$iri")"
+    elif ! is_utf8 "$iri"; then
+        say '"%s" is no UTF-8' "$(printf '%s' "$iri" | tr '\200-\377' '?')"
+    elif [[ $iri == *[$'\x01'-' '\<\>\"\{\}\|^\`\\]* ]]; then
+        say '"%s" has a character that no IRI has: a space is written as %%20, and so are others' "$(clean "$iri")"
+    else
+        return 1
+    fi
+}
+
 # explain_option COMMAND OPTION WANTED WORD..: says what is wrong from the second
 # word of a command on, which has to be an option and one of the wanted words.
 explain_option() {
     local command=$1 option=$2 kinds=$3 usage near
     shift 3
-    usage="owl $command $option ${kinds// /|} [--partial] MAIN {IMPORT}"
+    usage="owl $command $option ${kinds// /|} $options"
     if [[ ${1-} == "$option="* ]]; then
         say '"%s" has to be two words: %s %s' "$(clean "$1")" "$option" "$(clean "${1#*=}")"
     elif [[ ${1-} != "$option" ]]; then
@@ -96,9 +136,7 @@ explain_option() {
             say '"%s" is none of %s' "$(clean "$2")" "${kinds// /, }"
         fi
     else
-        shift 2
-        [[ ${1-} != --partial ]] || shift
-        explain_names "$usage" "$@"
+        explain_rest "$usage" "${@:3}"
     fi
 }
 
@@ -133,10 +171,16 @@ explain_same() {
         return
     fi
     for name; do
-        if [[ $name == --partial ]]; then
+        case $name in
+        --partial)
             say '"--partial" is no word of "same", which asks for no imports: %s' "$usage"
             return
-        fi
+            ;;
+        --guess | --base | --base=*)
+            say '"%s" is no word of "same", which takes documents as they are: %s' "$(clean "$name")" "$usage"
+            return
+            ;;
+        esac
         explain_name "$name" "$usage" && return
     done
     if (($# == 1)); then
@@ -153,11 +197,7 @@ explain_words() {
     case $word in
     translate) explain_option translate --to 'fss ttl omn' "${@:2}" ;;
     check) explain_option check --profile 'dl el ql rl' "${@:2}" ;;
-    show)
-        shift
-        [[ ${1-} != --partial ]] || shift
-        explain_names 'owl show [--partial] MAIN {IMPORT}' "$@"
-        ;;
+    show) explain_rest "owl show $options" "${@:2}" ;;
     same) explain_same "${@:2}" ;;
     trial) explain_trial "${@:2}" ;;
     '')
@@ -173,7 +213,7 @@ explain_words() {
     --install) say '"--install" has at most one folder behind it: owl --install [FOLDER]' ;;
     --build) say '"--build" has nothing behind it but --keep: owl --build [--keep]' ;;
     --quiet) say '"--quiet" stands once' ;;
-    --to | --to=* | --profile | --profile=* | --partial) say '"%s" stands behind a command: translate, check or show is the first word' "$(clean "$word")" ;;
+    --to | --to=* | --profile | --profile=* | --partial | --guess | --base | --base=*) say '"%s" stands behind a command: translate, check or show is the first word' "$(clean "$word")" ;;
     *)
         near=$(nearest "$word" "${actions[@]}")
         case $word in
