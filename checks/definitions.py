@@ -56,10 +56,12 @@ STEPS = [
     (
         "Imports, kinds and types",
         "Which documents main reaches, and which import is the first that is missing; of which kinds the documents"
-        " declare IRIs; and whether all that an ontology names is declared as what it stands for there.",
+        " declare IRIs, and which annotation properties are guessed; and whether all that an ontology names is declared as what"
+        " it stands for there.",
         [
             "owl_close.specs.Imports.IsFirstMissing",
             "owl_answer.specs.KindsAt.AreClosureKinds",
+            "owl_answer.specs.Guessing.AreGuessed",
             "owl_answer.specs.Typing.AllAreWellTyped",
         ],
     ),
