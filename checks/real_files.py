@@ -1,10 +1,11 @@
 #!/usr/bin/env python3
 """Counts how many Turtle files that others wrote are read, as they are found.
 
-real_files.py FOLDER [PROGRAM]: each file below the folder whose name ends in .ttl, once
+real_files.py [--names] FOLDER [PROGRAM]: each file below the folder whose name ends in .ttl, once
 for each content, is shown by itself: as it is, with --partial, with a base of its name
 too, and with a guess besides. PROGRAM is bin/owl if left out. It prints, for each of
-these ways, how many are read, and by the word of each refusal how many get it and which.
+these ways, how many are read, and by the word of each refusal how many get it, with
+--names also which.
 
 What reads has to be shown in the same way with more words in front of it, and what is
 written of it in Functional-Style Syntax and in Turtle has to be written again, byte for
@@ -100,10 +101,13 @@ def not_written_again(program, folder, name, words):
 
 
 def main():
-    if not 2 <= len(sys.argv) <= 3:
+    words = sys.argv[1:]
+    tells_names = words[:1] == ["--names"]
+    words = words[1:] if tells_names else words
+    if not 1 <= len(words) <= 2:
         sys.exit(__doc__)
-    folder = sys.argv[1]
-    program = os.path.abspath(sys.argv[2]) if len(sys.argv) == 3 else os.path.join(TOP, "bin", "owl")
+    folder = words[0]
+    program = os.path.abspath(words[1]) if len(words) == 2 else os.path.join(TOP, "bin", "owl")
     names = files(folder)
     if not names:
         sys.exit(f"no file below {folder} ends in .ttl")
@@ -129,7 +133,7 @@ def main():
         count = sum(map(len, refused.values()))
         print(f"{title}: {len(names) - count} of {len(names)} are read")
         for word, inside in sorted(refused.items(), key=lambda item: (-len(item[1]), item[0])):
-            print(f"  {word} {len(inside)}: {', '.join(inside)}")
+            print(f"  {word} {len(inside)}" + (f": {', '.join(inside)}" if tells_names else ""))
     for what in wrong:
         print(f"wrong: {what}")
     sys.exit(1 if wrong else 0)
