@@ -1,0 +1,4 @@
+pub mod FindingLaws
+pub mod FoundLaws
+pub mod NeedLaws
+pub mod DeclaringLaws
