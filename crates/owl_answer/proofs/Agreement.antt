@@ -1,5 +1,5 @@
 -- What is concluded depends on the documents that are read under kinds, and is one.
-use Rattle.std.proofs.Common.{◌≡◌, ◌<◌, ℕ, Bool, Some, List, length, slice_get, sym, ap, ◌∙◌, subst, arith}
+use Rattle.std.proofs.Common.{◌≡◌, ◌<◌, ◌++◌, ℕ, Bool, Some, List, length, slice_get, sym, ap, ◌∙◌, subst, arith}
 use Rattle.std.proofs.lemmas.Option.{same_Some, slice_get_within}
 use Rattle.owl_close.specs.Imports.{IsFirstMissing, MissesNone, Reaches}
 use Rattle.owl_close.specs.Imports as imports
@@ -7,20 +7,27 @@ use Rattle.owl_close.proofs.ImportsLaws.{missing_once}
 use Rattle.owl_command.specs.declared.command.Options.{Options}
 use Rattle.owl_command.specs.Commands.{Request, compares, names_of, of_main, tries}
 use Rattle.owl_command.specs.declared.command.Action.{Action}
-use Rattle.owl_command.specs.declared.command.Action.TheVariants.{Translate, Check, Show}
+use Rattle.owl_command.specs.declared.command.Action.TheVariants.{Translate, Check, Show, Declare}
 use Rattle.owl_command.specs.declared.command.Profile.{Profile}
 use Rattle.owl_command.specs.declared.command.Target.{Target as Syntax}
 use Rattle.owl_command.specs.declared.command.Target.TheVariants.{Fss, Ttl, Omn}
 use Rattle.owl_documents.specs.Documents.{IsSame, Parsed, Said, a_graph, an_ontology, the_frames}
 use Rattle.owl_documents.specs.OneWay.{IsSameParsed, NeverBoth, ReadOneWay, RefusedOneWay}
-use Rattle.owl_kind.specs.Kinds.{Entity}
+use Rattle.owl_declare.proofs.NeedLaws.{needed_once}
+use Rattle.owl_declare.specs.Needed.{with_needs}
+use Rattle.owl_kind.proofs.OrderLaws.{clash_once, one_order}
+use Rattle.owl_kind.specs.Kinds.{Entity, HasClash, IsFirstClash}
+use Rattle.owl_tree.specs.Ontologies.{ontology_weight}
+use Rattle.owl_messages.specs.Refusals.{two_kinds}
+use Rattle.owl_answer.specs.WithNeeds.{AreKnown, declared_said}
+use Rattle.owl_answer.specs.TurtleOutcome.{canonical_said}
 use Rattle.owl_tree.proofs.OntologyLaws.{same_ontology_sym, same_ontology_trans}
 use Rattle.owl_messages.specs.declared.unsaid.UnsaidFault.{UnsaidFault}
 use Rattle.owl_answer.specs.Checks.{IsChecked}
 use Rattle.owl_answer.specs.Guessing.{AreGuessed}
 use Rattle.owl_answer.specs.KindsAt.{AreClosureKinds}
 use Rattle.owl_answer.specs.Outcome.{IsComparison, agree, differ, heads_in}
-use Rattle.owl_answer.specs.Runs.{AnswersBy, AnswersWith, Concludes, IsActionOutcome, IsTranslation, all_say, misses_import, misses_none, says_nothing}
+use Rattle.owl_answer.specs.Runs.{AnswersBy, AnswersWith, Concludes, IsActionOutcome, IsDeclaration, IsToldWith, IsTranslation, clashes, declared_whole, heavy, all_say, misses_import, misses_none, says_nothing}
 use Rattle.owl_answer.specs.UnderKinds.{AllSay, HasKinds, HoldsOfMain, HoldsOfTwo, IsFirstUnsaid, IsReadUnder, IsUnsaidAt, IsUnsaidUnder, SaysAt, SaysUnder}
 use Rattle.owl_answer.proofs.Checks.{checked_once, checked_there, form_at, reached_stands}
 use Rattle.owl_answer.proofs.Closures.{closure_once, own_once}
@@ -28,9 +35,9 @@ use Rattle.owl_answer.proofs.GuessedDocuments.{guessed_once}
 use Rattle.owl_answer.proofs.ManchesterOnce.{manchester_alike, manchester_once}
 use Rattle.owl_answer.proofs.Same.{never_says_both, parsed_back, parsed_refl, says_once, says_same, unsaid_once, unsaid_same}
 use Rattle.owl_answer.proofs.TrialOnce.{trial_once}
-use Rattle.owl_answer.proofs.TurtleOnce.{functional_once, functional_same, shown_same, translation_alike, translation_once, translation_same}
+use Rattle.owl_answer.proofs.TurtleOnce.{functional_once, functional_same, same_said, shown_same, translation_alike, translation_once, translation_same}
 use Rattle.owl_answer.proofs.Wanting.{limited_more, limited_once}
-use Rattle.owl_messages.specs.Outcome.{Outcome, missing_import, shown, translation}
+use Rattle.owl_messages.specs.Outcome.{Outcome, declared, missing_import, shown, told_with, translated, translation}
 use Rattle.owl_messages.specs.Unsaid.{unsaid_outcome}
 
 -- a document that is read as the same stands at this place, and is read under these kinds
@@ -78,19 +85,65 @@ translation_told_once Fss (the_frames x) kinds main a b h k = functional_once ki
 translation_told_once Ttl p kinds main a b h k = translation_once kinds main a b h k
 translation_told_once Omn p kinds main a b h k = manchester_once kinds main a b h k
 
+-- what is told with the same in front is one
+module _ (front : List ℕ → List ℕ) where
+  told_with_more : (V W : Outcome → Type 0) → ((o : Outcome) → V o → W o) → (outcome : Outcome) → IsToldWith front V outcome → IsToldWith front W outcome
+  told_with_more V W f outcome h = record { wanted = h.wanted; is = f h.wanted h.is; told = h.told }
+
+  told_with_once : (V : Outcome → Type 0) → ((a b : Outcome) → V a → V b → a ≡ b) → (a b : Outcome) → IsToldWith front V a → IsToldWith front V b → a ≡ b
+  told_with_once V once a b h k = h.told ∙ ap (told_with front) (once h.wanted k.wanted h.is k.is) ∙ sym k.told
+
+-- a document has what it needs declared in one way
+module _ (target : Syntax) (kinds : List Entity) (main : Said) where
+  abbrev With : List Entity → List Entity → Outcome → Type 0
+  With needs known = IsToldWith (declared (length needs)) (IsTranslation target (an_ontology (declared_said needs main)) known (declared_said needs main))
+
+  known_once : (needs known others : List Entity) → AreKnown kinds main needs known → AreKnown kinds main needs others → known ≡ others
+  known_once needs known others h k =
+      one_order known others h.ordered k.ordered (λ kind iri. (λ m. (k.adds kind iri).1 ((h.adds kind iri).0 m), λ m. (h.adds kind iri).1 ((k.adds kind iri).0 m)))
+
+  declaration_once : (a b : Outcome) → IsDeclaration target kinds main a → IsDeclaration target kinds main b → a ≡ b
+  declaration_once a b (clashes needs h iri c e) (clashes others k other d f) =
+      let same = needed_once kinds needs others main.ontology h k in
+      e ∙ ap two_kinds (clash_once (kinds ++ others) iri other (subst (λ (es : List Entity). IsFirstClash (kinds ++ es) iri) same c) d) ∙ sym f
+  declaration_once a b (clashes needs h iri c e) (heavy others k apart l f) =
+      absurd (apart iri (subst (λ (es : List Entity). HasClash (kinds ++ es) iri) (needed_once kinds needs others main.ontology h k) c.clash))
+  declaration_once a b (clashes needs h iri c e) (declared_whole others known k apart l w) =
+      absurd (apart iri (subst (λ (es : List Entity). HasClash (kinds ++ es) iri) (needed_once kinds needs others main.ontology h k.needed) c.clash))
+  declaration_once a b (heavy needs h apart l e) (clashes others k iri c f) =
+      absurd (apart iri (subst (λ (es : List Entity). HasClash (kinds ++ es) iri) (needed_once kinds others needs main.ontology k h) c.clash))
+  declaration_once a b (heavy needs h apart l e) (heavy others k beside m f) = e ∙ sym f
+  declaration_once a b (heavy needs h apart l e) (declared_whole others known k beside m w) =
+      let same = ap (λ (es : List Entity). ontology_weight (with_needs es main.ontology)) (needed_once kinds needs others main.ontology h k.needed) in
+      absurd (omega arith)
+  declaration_once a b (declared_whole needs known h apart l v) (clashes others k iri c f) =
+      absurd (apart iri (subst (λ (es : List Entity). HasClash (kinds ++ es) iri) (needed_once kinds others needs main.ontology k h.needed) c.clash))
+  declaration_once a b (declared_whole needs known h apart l v) (heavy others k beside m f) =
+      let same = ap (λ (es : List Entity). ontology_weight (with_needs es main.ontology)) (needed_once kinds needs others main.ontology h.needed k) in
+      absurd (omega arith)
+  declaration_once a b (declared_whole needs known h apart l v) (declared_whole others theirs k beside m w) =
+      let same = needed_once kinds needs others main.ontology h.needed k.needed in
+      let alike = known_once others known theirs (subst (λ (es : List Entity). AreKnown kinds main es known) same h) k in
+      let moved : With others theirs a = subst (λ (ks : List Entity). With others ks a) alike (subst (λ (es : List Entity). With es known a) same v) in
+      told_with_once (declared (length others)) (IsTranslation target (an_ontology (declared_said others main)) theirs (declared_said others main))
+      (translation_told_once target (an_ontology (declared_said others main)) theirs (declared_said others main)) a b moved w
+
 -- what becomes of the same by an action is the same, and one
 
 module _ (ds es : List Parsed) (outcome : Outcome) (checked : (profile : Profile) → IsChecked profile ds outcome → IsChecked profile es outcome) where
   acted_same : (action : Action) (p q : Parsed) (kinds : List Entity) (a b : Said) → IsSameParsed p q → IsSame a b → IsActionOutcome action ds p kinds a outcome → IsActionOutcome action es q kinds b outcome
-  acted_same (Translate target) p q kinds a b s t h = told_same target p q kinds a b outcome s t h
+  acted_same (Translate target) p q kinds a b s t h = told_with_more translated _ _ (λ o k. told_same target p q kinds a b o s t k) outcome h
   acted_same (Check profile) p q kinds a b s t h = checked profile h
   acted_same Show p q kinds a b s t h = limited_more _ _ (λ o k. k ∙ shown_same a b t) outcome h
+  acted_same (Declare target) p q kinds a b s t h = subst (λ (x : Said). IsDeclaration target kinds x outcome) (same_said a b t) h
 
 acted_once : (documents : List Parsed) (action : Action) (p : Parsed) (kinds : List Entity) (main : Said) (a b : Outcome) → IsActionOutcome action documents p kinds main a → IsActionOutcome action documents p kinds main b → a ≡ b
-acted_once documents (Translate target) p kinds main a b h k = translation_told_once target p kinds main a b h k
+acted_once documents (Translate target) p kinds main a b h k =
+    told_with_once translated (IsTranslation target p kinds main) (translation_told_once target p kinds main) a b h k
 acted_once documents (Check profile) p kinds main a b h k = checked_once profile documents a b h k
 acted_once documents Show p kinds main a b h k =
     limited_once (λ o. o ≡ shown main) (λ o. o ≡ shown main) (λ x y e f. e ∙ sym f) a b h k
+acted_once documents (Declare target) p kinds main a b h k = declaration_once target kinds (canonical_said main) a b h k
 
 -- what is concluded of some documents is concluded of others that agree
 

@@ -9,6 +9,7 @@ pub mod GuessedDocuments
 pub mod Heads
 pub mod InProfileLaws
 pub mod KindsAt
+pub mod KnownTypes
 pub mod Lines
 pub mod ManchesterOnce
 pub mod Manchesters
@@ -17,6 +18,7 @@ pub mod Readings
 pub mod Same
 pub mod Sayings
 pub mod ToldActions
+pub mod ToldDeclarations
 pub mod TrialLaws
 pub mod TrialOnce
 pub mod TrialSizes

@@ -1,10 +1,10 @@
 -- What is concluded, and what is told of troubles, is proper, and has its line.
-use Rattle.std.proofs.Common.{◌≡◌, ℕ, Bool, zero, suc, Some, List, [], ◌∷◌, length, slice_get, inl, inr, refl, sym, subst}
+use Rattle.std.proofs.Common.{◌≡◌, ◌++◌, ℕ, Bool, zero, suc, Some, List, [], ◌∷◌, length, slice_get, inl, inr, refl, sym, subst}
 use Rattle.owl_reader.specs.declared.fault.ReadFault.TheVariants as read
 use Rattle.owl_command.specs.declared.command.Options.{Options}
 use Rattle.owl_command.specs.Commands.{IsAmong, Request, compares, names_of, of_main, tries}
 use Rattle.owl_command.specs.declared.command.Action.{Action}
-use Rattle.owl_command.specs.declared.command.Action.TheVariants.{Translate, Check, Show}
+use Rattle.owl_command.specs.declared.command.Action.TheVariants.{Translate, Check, Show, Declare}
 use Rattle.owl_command.specs.declared.command.Profile.{Profile}
 use Rattle.owl_breaches.specs.Sites.{Site}
 use Rattle.owl_kind.specs.Kinds.{Entity}
@@ -19,18 +19,22 @@ use Rattle.owl_answer.specs.Outcome.{IsComparison, IsSuccess, agree, differ}
 use Rattle.owl_answer.specs.Checks.{IsChecked}
 use Rattle.owl_messages.specs.Refusals.{two_kinds, undeclared, unsayable}
 use Rattle.owl_messages.specs.Verdicts.{verdict}
-use Rattle.owl_answer.specs.Runs.{AnswersWith, AsksOtherSyntax, AsksTranslation, AnswersBy, Concludes, IsActionOutcome, IsIllTyped, IsTranslation, IsUnsayable, LineFor, SuccessLine, all_say, misses_import, misses_none, of_bytes, of_import, of_output, of_part, of_refusal, of_saying, of_success, of_trial, of_triples, of_two_kinds, of_typing, of_undeclared, of_unsayable, of_weight, says_nothing}
+use Rattle.owl_answer.specs.Runs.{AnswersWith, AsksOtherSyntax, AsksTranslation, AsksTurtle, IsDeclaration, IsToldWith, declared_whole, of_clash, of_declarations, AnswersBy, Concludes, IsActionOutcome, IsIllTyped, IsTranslation, IsUnsayable, LineFor, SuccessLine, all_say, misses_import, misses_none, of_bytes, of_import, of_output, of_part, of_refusal, of_saying, of_success, of_trial, of_triples, of_two_kinds, of_typing, of_undeclared, of_unsayable, of_weight, says_nothing}
 use Rattle.owl_answer.specs.ManchesterOutcome.{IsToldInManchester, manchester_form, manchester_translation}
 use Rattle.owl_answer.specs.TurtleOutcome.{IsFormTold, IsGraphTold, IsTold as IsOfTurtle, IsTypingRefusal, canonical_said, clashes, few, graph_translation, heavy, ill_typed, light, many, not_typed, ready, unsaid, untyped, well_typed}
 use Rattle.owl_answer.specs.Answers.{IsProper}
-use Rattle.owl_tree.specs.Ontologies.{Ontology}
+use Rattle.owl_tree.proofs.OntologyLaws.{canonical_ontology_again, canonical_same_ontology, same_ontology_refl}
+use Rattle.owl_tree.specs.Ontologies.{IsSameOntology, Ontology, canonical_ontology}
+use Rattle.owl_answer.proofs.KnownTypes.{known_typed}
+use Rattle.owl_answer.proofs.TurtleOnce.{refusal_or_typed, typed_same}
+use Rattle.owl_answer.specs.WithNeeds.{declared_said}
 use Rattle.owl_messages.specs.declared.unsaid.UnsaidFault.{UnsaidFault}
 use Rattle.rdf_scans.specs.declared.fault.OutlineFault.TheVariants as outline
 use Rattle.owl_answer.proofs.Proper.{refused_proper, trial_well}
 use Rattle.owl_answer.proofs.Same.{is_proper}
 use Rattle.owl_messages.proofs.UnsaidLaws.{IsRefusal, unsaid_is_refused}
 use Rattle.owl_messages.specs.Unsaid.{IsProperFault, unsaid_outcome}
-use Rattle.owl_messages.specs.Outcome.{IsLimited, Outcome, agreement, difference, done_line, fits, missing_import, passes, refusal_outcome, shown, too_heavy_output, too_long_output, translation}
+use Rattle.owl_messages.specs.Outcome.{IsLimited, Outcome, agreement, counts_line, declared, difference, fits, missing_import, passes, refusal_outcome, shown, too_heavy_output, too_long_output, too_many_triples, told_with, translated, translation}
 
 pub at_among : (names : List (List ℕ)) (place : ℕ) (name : List ℕ) → slice_get names place ≡ Some name → IsAmong names name
 at_among [] place name e = absurd (cc)
@@ -57,10 +61,11 @@ unsayable_told request asks refusal h = record { proper = proper refusal h; line
     proper _ (of_part part why) = record { found = tt; no_text = refl }
     proper _ of_weight = record { found = tt; no_text = refl }
 
-typing_told : (request : Request) → AsksTranslation request → (kinds : List Entity) (o : Ontology) (outcome : Outcome) → IsTypingRefusal kinds o outcome → IsTold request outcome
-typing_told request asks kinds o outcome (clashes iri h e) = subst (IsTold request) (sym e) (ill_typed_told request asks (two_kinds iri) (of_two_kinds iri))
-typing_told request asks kinds o outcome (untyped apart part x h e) =
-    subst (IsTold request) (sym e) (ill_typed_told request asks (undeclared part x) (of_undeclared part x))
+typing_told : (request : Request) → AsksTranslation request → (front : List ℕ → List ℕ) (kinds : List Entity) (o : Ontology) (outcome : Outcome) → IsTypingRefusal kinds o outcome → IsTold request (told_with front outcome)
+typing_told request asks front kinds o outcome (clashes iri h e) =
+    subst (λ (x : Outcome). IsTold request (told_with front x)) (sym e) (ill_typed_told request asks (two_kinds iri) (of_two_kinds iri))
+typing_told request asks front kinds o outcome (untyped apart part x h e) =
+    subst (λ (y : Outcome). IsTold request (told_with front y)) (sym e) (ill_typed_told request asks (undeclared part x) (of_undeclared part x))
 
 too_long_told : (request : Request) → IsTold request too_long_output
 too_long_told request = record { proper = record { found = tt; no_text = refl }; line = λ IsCause. of_output refl refl }
@@ -70,50 +75,110 @@ limited_told : (request : Request) (IsWanted : Outcome → Type 0) → ((o : Out
 limited_told request IsWanted told outcome (fits w l) = told outcome w
 limited_told request IsWanted told outcome (passes wanted w l e) = subst (IsTold request) (sym e) (too_long_told request)
 
--- a translation that was written
-translated_told : (target : Target) (options : Options) (names : List (List ℕ)) (text : List ℕ) (axioms absorbed : ℕ) → IsTold (of_main (Translate target) options names) (record { status = Done; text = text; line = done_line axioms absorbed })
-translated_told target options names text axioms absorbed =
-    record { proper = record { found = tt; no_text = tt }; line = λ IsCause. of_success (axioms, absorbed, refl) }
+-- ---- what may become of a translation
+
+abbrev IsOther : Target → Type 0
+IsOther Fss = ⊥
+IsOther Ttl = Unit {0}
+IsOther Omn = Unit {0}
+
+-- The text is written, or it is refused: it is not well typed, the syntax can't say it, its graph is too large, or the text too long.
+data Comes (target : Target) (kinds : List Entity) (o : Ontology) (outcome : Outcome) : Type 0 where
+  written : (text : List ℕ) (axioms absorbed : ℕ) → outcome ≡ record { status = Done; text = text; line = counts_line axioms absorbed } → Comes target kinds o outcome
+  ill : (p : Ontology) → IsSameOntology o p → IsTypingRefusal kinds p outcome → Comes target kinds o outcome
+  beyond : IsOther target → (refusal : Outcome) → IsUnsayable refusal → outcome ≡ refusal → Comes target kinds o outcome
+  large : target ≡ Ttl → outcome ≡ too_many_triples → Comes target kinds o outcome
+  long : outcome ≡ too_long_output → Comes target kinds o outcome
+
+-- what fits is so, if all that is wanted is
+limited_comes : (target : Target) (kinds : List Entity) (o : Ontology) (wanted : Outcome) → Comes target kinds o wanted → (outcome : Outcome) → IsLimited (λ x. x ≡ wanted) outcome → Comes target kinds o outcome
+limited_comes target kinds o wanted comes outcome (fits w l) = subst (Comes target kinds o) (sym w) comes
+limited_comes target kinds o wanted comes outcome (passes other w l e) = long e
+
+module _ (kinds : List Entity) (o : Ontology) where
+  form_comes : (form : Said) (absorbed : ℕ) (outcome : Outcome) → IsFormTold form absorbed outcome → Comes Ttl kinds o outcome
+  form_comes form absorbed outcome (many l e) = large refl e
+  form_comes form absorbed outcome (few l w) = limited_comes Ttl kinds o (graph_translation form absorbed) (written _ _ _ refl) outcome w
+
+  graph_comes : (main : Said) (outcome : Outcome) → IsGraphTold main outcome → Comes Ttl kinds o outcome
+  graph_comes main outcome (heavy l e) = beyond tt too_heavy_output of_weight e
+  graph_comes main outcome (light l w) = form_comes _ _ outcome w
+
+  turtle_comes : (main : Said) (outcome : Outcome) → IsSameOntology o main.ontology → IsOfTurtle kinds main outcome → Comes Ttl kinds o outcome
+  turtle_comes main outcome s (not_typed h) = ill main.ontology s h
+  turtle_comes main outcome s (unsaid t part why h e) = beyond tt (unsayable part why) (of_part part why) e
+  turtle_comes main outcome s (ready r w) = graph_comes main outcome w
+
+  manchester_comes : (main : Said) (outcome : Outcome) → IsSameOntology o main.ontology → IsToldInManchester kinds main outcome → Comes Omn kinds o outcome
+  manchester_comes main outcome s (IsToldInManchester.not_typed h) = ill main.ontology s h
+  manchester_comes main outcome s (IsToldInManchester.unsaid t part why h e) = beyond tt (unsayable part why) (of_part part why) e
+  manchester_comes main outcome s (IsToldInManchester.heavy r l e) = beyond tt too_heavy_output of_weight e
+  manchester_comes main outcome s (IsToldInManchester.light r l w) = limited_comes Omn kinds o (manchester_translation kinds (manchester_form kinds main)) (written _ _ _ refl) outcome w
+
+  written_comes : (main : Said) (outcome : Outcome) → IsLimited (λ (x : Outcome). x ≡ translation main) outcome → Comes Fss kinds o outcome
+  written_comes main outcome w = limited_comes Fss kinds o (translation main) (written _ _ _ refl) outcome w
+
+translation_comes : (target : Target) (parsed : Parsed) (kinds : List Entity) (main : Said) (outcome : Outcome) → IsTranslation target parsed kinds main outcome → Comes target kinds main.ontology outcome
+translation_comes Fss (an_ontology said) kinds main outcome w = written_comes kinds main.ontology main outcome w
+translation_comes Fss (a_graph read) kinds main outcome (ill_typed h) = ill main.ontology (same_ontology_refl main.ontology) h
+translation_comes Fss (a_graph read) kinds main outcome (well_typed t w) = written_comes kinds main.ontology main outcome w
+translation_comes Fss (the_frames read) kinds main outcome (ill_typed h) = ill main.ontology (same_ontology_refl main.ontology) h
+translation_comes Fss (the_frames read) kinds main outcome (well_typed t w) = written_comes kinds main.ontology main outcome w
+translation_comes Ttl parsed kinds main outcome w = turtle_comes kinds main.ontology (canonical_said main) outcome (canonical_same_ontology main.ontology) w
+translation_comes Omn parsed kinds main outcome w = manchester_comes kinds main.ontology (canonical_said main) outcome (canonical_same_ontology main.ontology) w
+
+-- a refusal is told as it is
+unsayable_kept : (front : List ℕ → List ℕ) (refusal : Outcome) → IsUnsayable refusal → told_with front refusal ≡ refusal
+unsayable_kept front _ (of_part part why) = refl
+unsayable_kept front _ of_weight = refl
+
+-- what comes of it is told so
+module _ (request : Request) (target : Target) (front : List ℕ → List ℕ) (other : IsOther target → AsksOtherSyntax request) (turtle : target ≡ Ttl → AsksTurtle request)
+    (done : (axioms absorbed : ℕ) → SuccessLine request Done (front (counts_line axioms absorbed))) (kinds : List Entity) (o : Ontology)
+    (refused : (p : Ontology) (inner : Outcome) → IsSameOntology o p → IsTypingRefusal kinds p inner → IsTold request (told_with front inner)) where
+  comes_told : (inner : Outcome) → Comes target kinds o inner → IsTold request (told_with front inner)
+  comes_told inner (written text axioms absorbed e) =
+      subst (λ (x : Outcome). IsTold request (told_with front x)) (sym e) (record { proper = record { found = tt; no_text = tt }; line = λ IsCause. of_success (done axioms absorbed) })
+  comes_told inner (ill p s h) = refused p inner s h
+  comes_told inner (beyond b refusal h e) =
+      subst (λ (x : Outcome). IsTold request (told_with front x)) (sym e) (subst (IsTold request) (sym (unsayable_kept front refusal h)) (unsayable_told request (other b) refusal h))
+  comes_told inner (large t e) =
+      subst (λ (x : Outcome). IsTold request (told_with front x)) (sym e) (record { proper = record { found = tt; no_text = refl }; line = λ IsCause. of_triples (turtle t) refl refl })
+  comes_told inner (long e) = subst (λ (x : Outcome). IsTold request (told_with front x)) (sym e) (too_long_told request)
 
 module _ (options : Options) (names : List (List ℕ)) where
-  form_told : (form : Said) (absorbed : ℕ) (outcome : Outcome) → IsFormTold form absorbed outcome → IsTold (of_main (Translate Ttl) options names) outcome
-  form_told form absorbed outcome (many l e) =
-      subst (IsTold (of_main (Translate Ttl) options names)) (sym e) (record { proper = record { found = tt; no_text = refl }; line = λ IsCause. of_triples tt refl refl })
-  form_told form absorbed outcome (few l w) =
-      limited_told (of_main (Translate Ttl) options names) (λ o. o ≡ graph_translation form absorbed) (λ o e. subst (IsTold (of_main (Translate Ttl) options names)) (sym e) (translated_told Ttl options names _ _ _)) outcome w
+  other_asked : (target : Target) → IsOther target → AsksOtherSyntax (of_main (Translate target) options names)
+  other_asked Fss b = absurd b
+  other_asked Ttl b = tt
+  other_asked Omn b = tt
 
-  graph_told : (main : Said) (outcome : Outcome) → IsGraphTold main outcome → IsTold (of_main (Translate Ttl) options names) outcome
-  graph_told main outcome (heavy l e) =
-      subst (IsTold (of_main (Translate Ttl) options names)) (sym e) (unsayable_told (of_main (Translate Ttl) options names) tt too_heavy_output of_weight)
-  graph_told main outcome (light l w) = form_told _ _ outcome w
+  other_declared : (target : Target) → IsOther target → AsksOtherSyntax (of_main (Declare target) options names)
+  other_declared Fss b = absurd b
+  other_declared Ttl b = tt
+  other_declared Omn b = tt
 
-  turtle_told : (kinds : List Entity) (main : Said) (outcome : Outcome) → IsOfTurtle kinds main outcome → IsTold (of_main (Translate Ttl) options names) outcome
-  turtle_told kinds main outcome (not_typed h) = typing_told (of_main (Translate Ttl) options names) tt kinds main.ontology outcome h
-  turtle_told kinds main outcome (unsaid t part why h e) =
-      subst (IsTold (of_main (Translate Ttl) options names)) (sym e) (unsayable_told (of_main (Translate Ttl) options names) tt (unsayable part why) (of_part part why))
-  turtle_told kinds main outcome (ready r w) = graph_told main outcome w
+  translation_told : (target : Target) (parsed : Parsed) (kinds : List Entity) (main : Said) (outcome : Outcome) → IsToldWith translated (IsTranslation target parsed kinds main) outcome → IsTold (of_main (Translate target) options names) outcome
+  translation_told target parsed kinds main outcome h =
+      let request = of_main (Translate target) options names in
+      subst (IsTold request) (sym h.told)
+      (comes_told request target translated (other_asked target) (λ t. subst (λ (u : Target). AsksTurtle (of_main (Translate u) options names)) (sym t) tt)
+      (λ axioms absorbed. (axioms, absorbed, refl)) kinds main.ontology (λ p inner s k. typing_told request tt translated kinds p inner k) h.wanted (translation_comes target parsed kinds main h.wanted h.is))
 
-  manchester_told : (kinds : List Entity) (main : Said) (outcome : Outcome) → IsToldInManchester kinds main outcome → IsTold (of_main (Translate Omn) options names) outcome
-  manchester_told kinds main outcome (IsToldInManchester.not_typed h) = typing_told (of_main (Translate Omn) options names) tt kinds main.ontology outcome h
-  manchester_told kinds main outcome (IsToldInManchester.unsaid t part why h e) =
-      subst (IsTold (of_main (Translate Omn) options names)) (sym e) (unsayable_told (of_main (Translate Omn) options names) tt (unsayable part why) (of_part part why))
-  manchester_told kinds main outcome (IsToldInManchester.heavy r l e) =
-      subst (IsTold (of_main (Translate Omn) options names)) (sym e) (unsayable_told (of_main (Translate Omn) options names) tt too_heavy_output of_weight)
-  manchester_told kinds main outcome (IsToldInManchester.light r l w) =
-      limited_told (of_main (Translate Omn) options names) (λ o. o ≡ manchester_translation kinds (manchester_form kinds main)) (λ o e. subst (IsTold (of_main (Translate Omn) options names)) (sym e) (translated_told Omn options names _ _ _)) outcome w
-
-  written_told : (main : Said) (outcome : Outcome) → IsLimited (λ (o : Outcome). o ≡ translation main) outcome → IsTold (of_main (Translate Fss) options names) outcome
-  written_told main outcome w =
-      limited_told (of_main (Translate Fss) options names) (λ o. o ≡ translation main) (λ o e. subst (IsTold (of_main (Translate Fss) options names)) (sym e) (translated_told Fss options names _ _ _)) outcome w
-
-  translation_told : (target : Target) (parsed : Parsed) (kinds : List Entity) (main : Said) (outcome : Outcome) → IsTranslation target parsed kinds main outcome → IsTold (of_main (Translate target) options names) outcome
-  translation_told Fss (an_ontology said) kinds main outcome w = written_told main outcome w
-  translation_told Fss (a_graph read) kinds main outcome (ill_typed h) = typing_told (of_main (Translate Fss) options names) tt kinds main.ontology outcome h
-  translation_told Fss (a_graph read) kinds main outcome (well_typed t w) = written_told main outcome w
-  translation_told Fss (the_frames read) kinds main outcome (ill_typed h) = typing_told (of_main (Translate Fss) options names) tt kinds main.ontology outcome h
-  translation_told Fss (the_frames read) kinds main outcome (well_typed t w) = written_told main outcome w
-  translation_told Ttl parsed kinds main outcome w = turtle_told kinds (canonical_said main) outcome w
-  translation_told Omn parsed kinds main outcome w = manchester_told kinds (canonical_said main) outcome w
+  -- a document that has all that it needs declared is well typed
+  module _ (target : Target) (kinds : List Entity) (main : Said) (canon : canonical_ontology main.ontology ≡ main.ontology) where
+    declaration_told : (outcome : Outcome) → IsDeclaration target kinds main outcome → IsTold (of_main (Declare target) options names) outcome
+    declaration_told outcome (IsDeclaration.clashes needs h iri c e) =
+        subst (IsTold (of_main (Declare target) options names)) (sym e) (record { proper = record { found = tt; no_text = refl }; line = λ IsCause. of_clash tt iri refl refl })
+    declaration_told outcome (IsDeclaration.heavy needs h apart l e) =
+        subst (IsTold (of_main (Declare target) options names)) (sym e) (record { proper = record { found = tt; no_text = refl }; line = λ IsCause. of_declarations tt refl refl })
+    declaration_told outcome (declared_whole needs known h apart l w) =
+        let request = of_main (Declare target) options names in
+        let whole = declared_said needs main in
+        let typed = known_typed kinds main canon needs known h apart in
+        subst (IsTold request) (sym w.told)
+        (comes_told request target (declared (length needs)) (other_declared target) (λ t. subst (λ (u : Target). AsksTurtle (of_main (Declare u) options names)) (sym t) tt)
+        (λ axioms absorbed. (length needs, axioms, absorbed, refl)) known whole.ontology
+        (λ p inner s k. absurd (refusal_or_typed known p inner k (typed_same known whole.ontology p s typed))) w.wanted (translation_comes target (an_ontology whole) known whole w.wanted w.is))
 
 -- the text and the line of a success
 done_told : (request : Request) (wanted : Outcome) → IsProper wanted → SuccessLine request wanted.status wanted.line → (outcome : Outcome) → outcome ≡ wanted → IsTold request outcome
@@ -138,6 +203,8 @@ acted_told (Translate target) options names documents parsed kinds main outcome 
 acted_told (Check profile) options names documents parsed kinds main outcome h = checked_told profile options names documents outcome h
 acted_told Show options names documents parsed kinds main outcome h =
     limited_told (of_main Show options names) (λ o. o ≡ shown main) (done_told (of_main Show options names) (shown main) (record { found = tt; no_text = tt }) refl) outcome h
+acted_told (Declare target) options names documents parsed kinds main outcome h =
+    declaration_told options names target kinds (canonical_said main) (canonical_ontology_again main.ontology) outcome h
 
 answers_told : (request : Request) (documents : List Parsed) (outcome : Outcome) → AnswersWith request documents outcome → IsTold request outcome
 answers_told (of_main action options names) documents outcome w =

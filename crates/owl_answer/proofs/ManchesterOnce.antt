@@ -21,7 +21,7 @@ use Rattle.owl_answer.specs.Typing.{DeclareSame}
 use Rattle.owl_answer.proofs.TurtleOnce.{refusal_alike, refusal_once, refusal_or_typed, same_said, typed_alike}
 use Rattle.owl_answer.proofs.TypingLaws.{back, has_kind}
 use Rattle.owl_answer.proofs.Wanting.{limited_once}
-use Rattle.owl_messages.specs.Outcome.{IsLimited, Outcome, done_line}
+use Rattle.owl_messages.specs.Outcome.{IsLimited, Outcome, counts_line}
 use Rattle.owl_messages.specs.Refusals.{unsayable}
 use Rattle.sayable_parts.specs.Unsaid.{IsFirstUnsaid, SaysAll}
 
@@ -74,7 +74,7 @@ module _ (kinds others : List Entity) (main : Said) (same : DeclareSame kinds ot
       by_kinds : Knows → Outcome
       by_kinds ks =
           let form = canonical_ontology (normal_form ks main.ontology) in
-          record { status = Done; text = encode_utf8_all (manchester_text ks main.prefixes form); line = done_line (axiom_count form) 0 }
+          record { status = Done; text = encode_utf8_all (manchester_text ks main.prefixes form); line = counts_line (axiom_count form) 0 }
 
   told_alike : (a : Outcome) → IsToldInManchester kinds main a → IsToldInManchester others main a
   told_alike a (not_typed h) = not_typed (refusal_alike kinds others main.ontology a same h)

@@ -28,7 +28,7 @@ use Rattle.owl_answer.specs.TurtleOutcome.{IsTyped, IsTypingRefusal, canonical_s
 use Rattle.owl_answer.specs.Typing.{IsWellTyped}
 use Rattle.owl_answer.proofs.Sayings.{axiom_parts, axioms_typed, notes_typed}
 use Rattle.owl_answer.proofs.Turtles.{typing_fails, unread}
-use Rattle.owl_messages.specs.Outcome.{IsLimited, Outcome, done_line, fits, too_heavy_output}
+use Rattle.owl_messages.specs.Outcome.{IsLimited, Outcome, counts_line, fits, too_heavy_output}
 use Rattle.owl_messages.specs.Refusals.{unsayable}
 
 -- of an ontology in canonical form the parts are well typed exactly where the annotations and axioms are
@@ -56,10 +56,10 @@ module _ (kinds : List Entity) (o : Ontology) (is : IsOntology o) (canonical : c
       subst (IsTyped kinds) (sym form) (typed_parts kinds (canonical_ontology q) (canonical_ontology_again q) (form_is_typed kinds o is canonical (typed_under kinds o canonical ready.typed)))
 
 -- what is written of a form
-module _ (kinds : List Entity) (form : Said) (text : List ℕ) (outcome : Outcome) (e : outcome ≡ record { status = Done; text = encode_utf8_all text; line = done_line (axiom_count form.ontology) 0 }) where
+module _ (kinds : List Entity) (form : Said) (text : List ℕ) (outcome : Outcome) (e : outcome ≡ record { status = Done; text = encode_utf8_all text; line = counts_line (axiom_count form.ontology) 0 }) where
   pub fits_told : text ≡ manchester_text (knows kinds) form.prefixes form.ontology → length (encode_utf8_all text) ≤ most_bytes → IsLimited (λ (wanted : Outcome). wanted ≡ manchester_translation kinds form) outcome
   fits_told t l =
-      let line = done_line (axiom_count form.ontology) 0 in
+      let line = counts_line (axiom_count form.ontology) 0 in
       fits (e ∙ ap (λ (characters : List ℕ). record { status = Done; text = encode_utf8_all characters; line = line }) t) (subst (λ (o : Outcome). length o.text ≤ most_bytes) (sym e) l)
 
   pub form_read : canonical_ontology form.ontology ≡ form.ontology → IsTyped kinds form.ontology → ((others : List Entity) → IsTypedUnder others form.ontology → ReadsOntology (encode_utf8_all text) others form.prefixes form.ontology) → ReadsForm kinds outcome.text form

@@ -5,6 +5,7 @@ use Rattle.std.specs.List.{AllZip}
 use Rattle.owl_command.specs.declared.command.Action.{Action}
 use Rattle.owl_command.specs.declared.command.Action.TheVariants.{Translate}
 use Rattle.owl_command.specs.declared.command.Profile.{Profile}
+use Rattle.owl_command.specs.declared.command.Target.{Target}
 use Rattle.owl_command.specs.declared.command.Target.TheVariants.{Fss}
 use Rattle.owl_breaches.specs.Sites.{Site}
 use Rattle.breach_lists.specs.Telling.{ontologies_of}
@@ -14,30 +15,37 @@ use Rattle.owl_doc.specs.Documents as doc
 use Rattle.owl_doc.specs.Documents.{ontology_of}
 use Rattle.owl_documents.specs.Documents.{Parsed, Said, a_graph, an_ontology, said_of, the_frames}
 use Rattle.owl_kind.specs.Kinds.{Entity}
-use Rattle.owl_messages.specs.Outcome.{IsLimited, Outcome, translation}
+use Rattle.owl_messages.specs.Outcome.{IsLimited, Outcome, translation, told_with, translated}
 use Rattle.owl_messages.specs.Verdicts.{verdict}
 use Rattle.owl_profiles.specs.Profiles.{ProfileRule}
-use Rattle.owl_answer.specs.Answers.{IsToldOf, IsToldOfMain}
+use Rattle.owl_answer.specs.Answers.{IsToldOf, IsToldOfMain, IsTranslated}
 use Rattle.owl_answer.specs.Checking.{TellBreaches}
 use Rattle.owl_answer.specs.Checks.{HasFormAt, IsChecked}
 use Rattle.owl_answer.specs.KindsAt.{AreClosureKinds, IsClosure}
 use Rattle.owl_answer.specs.Outcome.{IsSuccess}
 use Rattle.owl_answer.specs.Reading.{AllSayAt, IsReadAs, IsSaidAt, asks_types}
-use Rattle.owl_answer.specs.Runs.{IsActionText}
+use Rattle.owl_answer.specs.Runs.{ReadsIn, normal_form}
 use Rattle.owl_answer.specs.TurtleOutcome.{IsFunctionalTranslation}
 use Rattle.owl_answer.specs.declared.closure.Closure.{Closure}
 use Rattle.owl_answer.proofs.Readings.{all_forms}
 
 -- a translation to Functional-Style Syntax, of another document and of what is written in it
-pub functional_told : (documents : List Parsed) (parsed : Parsed) (kinds : List Entity) (main : Said) (outcome : Outcome) → asks_types parsed ≡ true → IsFunctionalTranslation kinds main outcome → (IsSuccess outcome.status → IsActionText (Translate Fss) kinds main outcome.text) → IsToldOfMain (Translate Fss) documents parsed kinds main outcome
-functional_told documents (an_ontology said) kinds main outcome e h back = absurd (cc)
-functional_told documents (a_graph read) kinds main outcome e h back = record { is = h; back = back }
-functional_told documents (the_frames d) kinds main outcome e h back = record { is = h; back = back }
+pub functional_told : (parsed : Parsed) (kinds : List Entity) (main : Said) (outcome : Outcome) → asks_types parsed ≡ true → IsFunctionalTranslation kinds main outcome → (IsSuccess outcome.status → ReadsIn Fss kinds outcome.text (normal_form Fss kinds main)) → IsTranslated Fss parsed kinds main outcome
+functional_told (an_ontology said) kinds main outcome e h back = absurd (cc)
+functional_told (a_graph read) kinds main outcome e h back = record { is = h; back = back }
+functional_told (the_frames d) kinds main outcome e h back = record { is = h; back = back }
 
-pub written_told : (documents : List Parsed) (parsed : Parsed) (kinds : List Entity) (main : Said) (outcome : Outcome) → asks_types parsed ≡ false → IsLimited (λ wanted. wanted ≡ translation main) outcome → (IsSuccess outcome.status → IsActionText (Translate Fss) kinds main outcome.text) → IsToldOfMain (Translate Fss) documents parsed kinds main outcome
-written_told documents (an_ontology said) kinds main outcome e h back = record { is = h; back = back }
-written_told documents (a_graph read) kinds main outcome e h back = absurd (cc)
-written_told documents (the_frames d) kinds main outcome e h back = absurd (cc)
+pub written_told : (parsed : Parsed) (kinds : List Entity) (main : Said) (outcome : Outcome) → asks_types parsed ≡ false → IsLimited (λ wanted. wanted ≡ translation main) outcome → (IsSuccess outcome.status → ReadsIn Fss kinds outcome.text (normal_form Fss kinds main)) → IsTranslated Fss parsed kinds main outcome
+written_told (an_ontology said) kinds main outcome e h back = record { is = h; back = back }
+written_told (a_graph read) kinds main outcome e h back = absurd (cc)
+written_told (the_frames d) kinds main outcome e h back = absurd (cc)
+
+-- a translation that is told as one
+pub translated_told : (target : Target) (documents : List Parsed) (parsed : Parsed) (kinds : List Entity) (main : Said) (wanted outcome : Outcome) → outcome ≡ told_with translated wanted → IsTranslated target parsed kinds main wanted → IsToldOfMain (Translate target) documents parsed kinds main outcome
+translated_told target documents parsed kinds main wanted outcome e h = record {
+  is = record { wanted = wanted; is = h.is; told = e };
+  back = subst (λ (o : Outcome). IsSuccess o.status → ReadsIn target kinds o.text (normal_form target kinds main)) (sym e) h.back;
+}
 
 -- what is told of the main document, which says what is read first
 module _ (action : Action) (documents : List Parsed) (closure : Closure) (ds : List doc.Document) (asks : Bool) (read : IsReadAs documents closure ds asks) (d : doc.Document) (first : IsSaidAt documents closure.kinds 0 d) (outcome : Outcome) where

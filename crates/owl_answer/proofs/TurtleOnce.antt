@@ -22,7 +22,7 @@ use Rattle.owl_kind.proofs.OrderLaws.{clash_once}
 use Rattle.owl_answer.proofs.TypingLaws.{not_all_typed, same_kinds_apart, same_kinds_clash, same_kinds_typed, same_kinds_untyped, same_ontology_typed, same_ontology_untyped, untyped_once}
 use Rattle.owl_answer.specs.TurtleOutcome.{IsFormTold, IsFunctionalTranslation, IsGraphTold, IsTold, IsTurtleTranslation, IsTyped, IsTypingRefusal, canonical_said, clashes, few, graph_translation, heavy, ill_typed, light, many, not_typed, ready, turtle_form, unsaid, untyped, well_typed}
 use Rattle.owl_answer.proofs.Wanting.{limited_more, limited_once}
-use Rattle.owl_messages.specs.Outcome.{Outcome, done_line, shown, translation}
+use Rattle.owl_messages.specs.Outcome.{Outcome, counts_line, shown, translation}
 
 pub same_form : (a b : Said) → IsSame a b → canonical_ontology a.ontology ≡ canonical_ontology b.ontology
 same_form a b s = (same_ontology_is_equal_form a.ontology b.ontology).0 s.ontology
@@ -35,7 +35,7 @@ pub translation_same : (a b : Said) → IsSame a b → translation a ≡ transla
 translation_same a b s = λ i. of_form (s.prefixes i) (same_form a b s i)
   where
     of_form : List Prefix → Ontology → Outcome
-    of_form table c = record { status = Done; text = encode_utf8_all (text_of table c); line = done_line (length c.axioms) 0 }
+    of_form table c = record { status = Done; text = encode_utf8_all (text_of table c); line = counts_line (length c.axioms) 0 }
 
 pub shown_same : (a b : Said) → IsSame a b → shown a ≡ shown b
 shown_same a b s = λ i. of_form (same_form a b s i)
@@ -71,7 +71,7 @@ refusal_alike kinds others o a same (untyped apart part x h e) = untyped (same_k
 
 -- of equivalent ontologies
 module _ (kinds : List Entity) (o p : Ontology) (s : IsSameOntology o p) where
-  typed_same : IsTyped kinds o → IsTyped kinds p
+  pub typed_same : IsTyped kinds o → IsTyped kinds p
   typed_same t = record { no_clash = t.no_clash; typed = same_ontology_typed kinds o p s t.typed }
 
   refusal_same : (a : Outcome) → IsTypingRefusal kinds o a → IsTypingRefusal kinds p a

@@ -29,7 +29,7 @@ use Rattle.owl_answer.specs.Outcome.{IsSuccess}
 use Rattle.owl_messages.specs.Refusals.{unsayable}
 use Rattle.owl_answer.specs.TurtleOutcome.{IsFormTold, IsGraphTold, IsToldBack, IsTold, IsTurtleTranslation, IsTyped, IsTypingRefusal, ReadsGraph, canonical_said, clashes, few, graph_translation, heavy, light, many, not_typed, ready, turtle_form, unsaid, untyped}
 use Rattle.owl_answer.proofs.Wanting.{passed}
-use Rattle.owl_messages.specs.Outcome.{IsLimited, Outcome, done_line, fits, too_heavy_output, too_long_output, too_many_triples}
+use Rattle.owl_messages.specs.Outcome.{IsLimited, Outcome, counts_line, fits, too_heavy_output, too_long_output, too_many_triples}
 
 -- a refusal is no success
 pub typing_fails : (kinds : List Entity) (o : Ontology) (outcome : Outcome) → IsTypingRefusal kinds o outcome → IsSuccess outcome.status → ⊥
@@ -53,9 +53,9 @@ shallow_document form arena same shared is =
     all_both (λ t. depth t ≤ deepest) (trees_at form.arena.trees form.notes) (trees_at form.arena.trees form.axioms)
     (each_shallow form.arena.trees form.notes own is.notes) (each_shallow form.arena.trees form.axioms own is.axioms)
 
-pub fits_told : (form : Document) (arena : Held) (absorbed : ℕ) (prefixes : List Prefix) (graph : List Triple) (text : List ℕ) (outcome : Outcome) → arena ≡ form.arena → AreShared arena.trees → IsDocument form → prefixes ≡ form.prefixes → graph ≡ graph_of (ontology_of form) → text ≡ turtle_text prefixes graph → length (encode_utf8_all text) ≤ most_bytes → ((base : Option (List ℕ)) → ReadsTurtle base (encode_utf8_all text) (written_prefixes prefixes) graph) → outcome ≡ record { status = Done; text = encode_utf8_all text; line = done_line (axiom_count (ontology_of form)) absorbed } → IsToldBack (IsLimited (λ (wanted : Outcome). wanted ≡ graph_translation (said_of form) absorbed)) (said_of form) outcome
+pub fits_told : (form : Document) (arena : Held) (absorbed : ℕ) (prefixes : List Prefix) (graph : List Triple) (text : List ℕ) (outcome : Outcome) → arena ≡ form.arena → AreShared arena.trees → IsDocument form → prefixes ≡ form.prefixes → graph ≡ graph_of (ontology_of form) → text ≡ turtle_text prefixes graph → length (encode_utf8_all text) ≤ most_bytes → ((base : Option (List ℕ)) → ReadsTurtle base (encode_utf8_all text) (written_prefixes prefixes) graph) → outcome ≡ record { status = Done; text = encode_utf8_all text; line = counts_line (axiom_count (ontology_of form)) absorbed } → IsToldBack (IsLimited (λ (wanted : Outcome). wanted ≡ graph_translation (said_of form) absorbed)) (said_of form) outcome
 fits_told form arena absorbed prefixes graph text outcome a shared is p g t l reads e =
-    let line = done_line (axiom_count (ontology_of form)) absorbed in
+    let line = counts_line (axiom_count (ontology_of form)) absorbed in
     let whole : text ≡ turtle_text form.prefixes (graph_of (ontology_of form)) = t ∙ (λ i. turtle_text (p i) (g i)) in
     let own_reads : (base : Option (List ℕ)) → ReadsTurtle base (encode_utf8_all text) (written_prefixes form.prefixes) (graph_of (ontology_of form)) =
     λ base. subst (λ (triples : List Triple). ReadsTurtle base (encode_utf8_all text) (written_prefixes form.prefixes) triples) g

@@ -2,23 +2,25 @@
 use Rattle.std.specs.Prelude.{◌≡◌, ◌++◌, ℕ, List, [], Option, None, Some, IsTrue, codes, slice_get}
 use Rattle.std.specs.List.{AllByRecursion}
 use Rattle.owl_kind.specs.Kinds.{Entity}
+use Rattle.owl_kind.specs.Order.{AreOrdered}
 use Rattle.owl_tree.specs.Ontologies.{Head, Ontology}
 use Rattle.owl_close.specs.Imports.{IsFirstMissing}
 use Rattle.owl_command.specs.Commands.{AsksImports, Request, Source, names_of}
 use Rattle.owl_command.specs.declared.command.Action.{Action}
+use Rattle.owl_command.specs.declared.command.Target.{Target as Syntax}
 use Rattle.owl_command.specs.declared.status.Status.{Status}
 use Rattle.owl_command.specs.declared.status.Status.TheVariants.{Done, No, Words, Document as NoDocument, Target, Limit, ReadFailed, WriteFailed, Memory}
-use Rattle.owl_documents.specs.Documents.{Contents, Parsed, Said}
+use Rattle.owl_documents.specs.Documents.{Contents, Parsed, Said, an_ontology}
 use Rattle.owl_documents.specs.Shelves.{IsFaulty, IsFirstFaulty, Rises, Shelves}
 use Rattle.owl_answer.specs.KindsAt.{AreClosureKinds}
 use Rattle.owl_answer.specs.ManchesterOutcome.{IsManchesterTranslation, ReadsForm, manchester_form}
 use Rattle.owl_answer.specs.Outcome.{IsSettled, IsSuccess, IsTheOutcome}
-use Rattle.owl_answer.specs.Runs.{AnswersBy, Becomes, Concludes, IsActionOutcome, IsActionText, IsBack, IsBackWith, IsReadBack, LineFor}
+use Rattle.owl_answer.specs.Runs.{AnswersBy, Becomes, Concludes, IsActionOutcome, IsActionText, IsBack, IsBackWith, IsReadBack, IsTranslation, LineFor, ReadsIn, normal_form}
 use Rattle.owl_answer.specs.UnderKinds.{SaysUnder}
 use Rattle.owl_answer.specs.TurtleOutcome.{IsTurtleTranslation, IsTyped, IsTypingRefusal, ReadsSaid, canonical_said, turtle_form}
 use Rattle.owl_messages.specs.declared.answer.Answer.{Answer}
 use Rattle.owl_answer.specs.declared.imports.Missing.{Missing}
-use Rattle.owl_messages.specs.Outcome.{Outcome}
+use Rattle.owl_messages.specs.Outcome.{Outcome, declared, told_with}
 use Rattle.owl_messages.specs.Answers.{outcome_of}
 
 -- an import that has to be there, and is not
@@ -35,6 +37,18 @@ pub record IsAnswerBy (request : Request) (documents : List Parsed) (outcome : O
 pub record IsConclusion (request : Request) (documents : List Parsed) (outcome : Outcome) : Type 0 where
   pub concludes : Concludes request documents outcome
   pub back : IsSuccess outcome.status → IsBackWith request documents outcome.text
+
+-- what becomes of the main document where it is translated, with its text
+pub record IsTranslated (target : Syntax) (parsed : Parsed) (kinds : List Entity) (main : Said) (outcome : Outcome) : Type 0 where
+  pub is : IsTranslation target parsed kinds main outcome
+  pub back : IsSuccess outcome.status → ReadsIn target kinds outcome.text (normal_form target kinds main)
+
+-- so it becomes of a document with the declarations that it needs, as of one in Functional-Style Syntax
+pub record IsToldWhole (added : ℕ) (target : Syntax) (kinds : List Entity) (whole : Said) (outcome : Outcome) : Type 0 where
+  pub ordered : AreOrdered kinds
+  pub wanted : Outcome
+  pub translated : IsTranslated target (an_ontology whole) kinds whole wanted
+  pub told : outcome ≡ told_with (declared added) wanted
 
 -- what becomes by an action of the main one of these documents, which says this under these kinds, with its text
 pub record IsToldOfMain (action : Action) (documents : List Parsed) (parsed : Parsed) (kinds : List Entity) (main : Said) (outcome : Outcome) : Type 0 where

@@ -16,3 +16,4 @@ pub mod TurtleOutcome
 pub mod Typing
 pub mod UnderKinds
 pub mod Unreached
+pub mod WithNeeds

@@ -15,19 +15,19 @@ use Rattle.man_text.specs.Text.{manchester_text}
 use Rattle.owl_command.specs.declared.status.Status.TheVariants.{Done}
 use Rattle.owl_documents.specs.Documents.{Said}
 use Rattle.owl_answer.specs.TurtleOutcome.{IsTyped, IsTypingRefusal, canonical_said}
-use Rattle.owl_messages.specs.Outcome.{IsLimited, Outcome, done_line, too_heavy_output}
+use Rattle.owl_messages.specs.Outcome.{IsLimited, Outcome, counts_line, too_heavy_output}
 use Rattle.owl_messages.specs.Refusals.{unsayable}
 
 -- the normal form that frames say, in the document's prefixes: with the declaration of each name that heads a frame
 abbrev pub manchester_form : List Entity → Said → Said
 manchester_form kinds said = record { prefixes = said.prefixes; ontology = canonical_ontology (normal_form (knows kinds) said.ontology) }
 
--- A translation writes the normal form, and says how many axioms that has. It absorbs none.
+-- A translation writes the normal form, and counts the axioms that it has. It absorbs none.
 abbrev pub manchester_translation : List Entity → Said → Outcome
 manchester_translation kinds form = record {
   status = Done;
   text = encode_utf8_all (manchester_text (knows kinds) form.prefixes form.ontology);
-  line = done_line (axiom_count form.ontology) 0;
+  line = counts_line (axiom_count form.ontology) 0;
 }
 
 -- The form is well typed under these kinds. The bytes are read in Manchester Syntax to frames that mean it under all kinds by which it is well

@@ -1,13 +1,16 @@
 -- What a run answers, for its words and the contents of its documents.
-use Rattle.std.specs.Prelude.{◌≡◌, ℕ, Some, List, ◌++◌, slice_get, take, codes}
-use Rattle.owl_kind.specs.Kinds.{Entity}
+use Rattle.std.specs.Prelude.{◌≡◌, ◌<◌, ◌≤◌, ℕ, Some, List, ◌++◌, length, slice_get, take, codes}
+use Rattle.owl_arena.specs.Shared.{heaviest}
+use Rattle.owl_declare.specs.Needed.{AreNeeded, with_needs}
+use Rattle.owl_kind.specs.Kinds.{Entity, IsFirstClash}
+use Rattle.owl_tree.specs.Ontologies.{ontology_weight}
 use Rattle.owl_close.specs.Imports.{IsFirstMissing, MissesNone}
 use Rattle.fss_terms.specs.Functional.{ReadsFunctional}
 use Rattle.owl_doc.specs.Parts.{Part}
 use Rattle.sayable_parts.specs.Reasons.{Objection}
 use Rattle.owl_command.specs.Commands.{AsksImports, Asks, HasNoCommand, IsAmong, Request, Source, compares, names_of, of_main, sources_of, tries}
 use Rattle.owl_command.specs.declared.command.Action.{Action}
-use Rattle.owl_command.specs.declared.command.Action.TheVariants.{Translate, Check, Show}
+use Rattle.owl_command.specs.declared.command.Action.TheVariants.{Translate, Check, Show, Declare}
 use Rattle.owl_command.specs.declared.command.Target.{Target as Syntax}
 use Rattle.owl_command.specs.declared.command.Target.TheVariants.{Fss, Ttl, Omn}
 use Rattle.owl_command.specs.declared.status.Status.{Status}
@@ -19,12 +22,13 @@ use Rattle.owl_answer.specs.Outcome.{IsComparison, IsSettled, IsSuccess, IsTheOu
 use Rattle.owl_messages.specs.Refusals.{two_kinds, undeclared, unsayable}
 use Rattle.owl_messages.specs.Verdicts.{no_line, yes_line}
 use Rattle.owl_answer.specs.Checks.{IsChecked}
+use Rattle.owl_answer.specs.WithNeeds.{AreKnown, declared_said}
 use Rattle.owl_answer.specs.Guessing.{AreGuessed}
 use Rattle.owl_answer.specs.UnderKinds.{AllSay, HoldsOfMain, HoldsOfTwo, IsFirstUnsaid}
 use Rattle.owl_answer.specs.ManchesterOutcome.{IsManchesterTranslation, ReadsForm, manchester_form}
 use Rattle.owl_answer.specs.Trials.{IsTrialOutcome}
-use Rattle.owl_answer.specs.TurtleOutcome.{IsFunctionalTranslation, IsTurtleTranslation, ReadsSaid, canonical_said, turtle_form}
-use Rattle.owl_messages.specs.Outcome.{IsLimited, Outcome, done_line, functional_form, missing_import, refusal_outcome, refused, shown, too_heavy_output, too_long_output, too_many_triples, translation}
+use Rattle.owl_answer.specs.TurtleOutcome.{HasNoClash, IsFunctionalTranslation, IsTurtleTranslation, ReadsSaid, canonical_said, turtle_form}
+use Rattle.owl_messages.specs.Outcome.{IsLimited, Outcome, counts_line, declared, functional_form, missing_import, refusal_outcome, refused, shown, too_heavy_output, too_long_output, too_many_triples, told_with, translated, translation}
 use Rattle.owl_messages.specs.Unsaid.{IsProperFault, unsaid_outcome}
 
 -- The normal form that a syntax has for what a document says, where IRIs have these kinds.
@@ -46,11 +50,26 @@ IsTranslation Fss (the_frames d) kinds main outcome = IsFunctionalTranslation ki
 IsTranslation Ttl parsed kinds main outcome = IsTurtleTranslation kinds main outcome
 IsTranslation Omn parsed kinds main outcome = IsManchesterTranslation kinds main outcome
 
+-- It is one of these, whose line is told so where it is a success.
+pub record IsToldWith (told_so : List ℕ → List ℕ) (IsOne : Outcome → Type 0) (outcome : Outcome) : Type 0 where
+  pub wanted : Outcome
+  pub is : IsOne wanted
+  pub told : outcome ≡ told_with told_so wanted
+
+-- What becomes of the main document in canonical form where it is translated with the declarations that it needs: an IRI has two kinds then,
+-- it has too many nodes and leaves, or what becomes of it with these, as of a document in Functional-Style Syntax.
+pub data IsDeclaration (target : Syntax) (kinds : List Entity) (main : Said) (outcome : Outcome) : Type 0 where
+  clashes : (needs : List Entity) → AreNeeded kinds main.ontology needs → (iri : List ℕ) → IsFirstClash (kinds ++ needs) iri → outcome ≡ two_kinds iri → IsDeclaration target kinds main outcome
+  heavy : (needs : List Entity) → AreNeeded kinds main.ontology needs → HasNoClash (kinds ++ needs) → heaviest < ontology_weight (with_needs needs main.ontology) → outcome ≡ too_heavy_output → IsDeclaration target kinds main outcome
+  declared_whole : (needs known : List Entity) → AreKnown kinds main needs known → HasNoClash (kinds ++ needs) → ontology_weight (with_needs needs main.ontology) ≤ heaviest →
+      IsToldWith (declared (length needs)) (IsTranslation target (an_ontology (declared_said needs main)) known (declared_said needs main)) outcome → IsDeclaration target kinds main outcome
+
 -- What becomes by an action of the main one of these documents, by what it says under these kinds. A check is of all that it reaches.
 abbrev pub IsActionOutcome : Action → List Parsed → Parsed → List Entity → Said → Outcome → Type 0
-IsActionOutcome (Translate target) documents parsed kinds main outcome = IsTranslation target parsed kinds main outcome
+IsActionOutcome (Translate target) documents parsed kinds main outcome = IsToldWith translated (IsTranslation target parsed kinds main) outcome
 IsActionOutcome (Check profile) documents parsed kinds main outcome = IsChecked profile documents outcome
 IsActionOutcome Show documents parsed kinds main outcome = IsLimited (λ wanted. wanted ≡ shown main) outcome
+IsActionOutcome (Declare target) documents parsed kinds main outcome = IsDeclaration target kinds (canonical_said main) outcome
 
 -- What becomes of documents that all say something: of the main one, or of two. A trial has a document of its own.
 abbrev pub AnswersWith : Request → List Parsed → Outcome → Type 0
@@ -82,7 +101,8 @@ pub data IsOutcome (words : List (List ℕ)) (contents : Contents) (outcome : Ou
 
 -- the line of an action's success
 abbrev pub ActionLine : Action → Status → List ℕ → Type 0
-ActionLine (Translate target) Done line = (axioms absorbed : ℕ) × (line ≡ done_line axioms absorbed)
+ActionLine (Translate target) Done line = (axioms absorbed : ℕ) × (line ≡ translated (counts_line axioms absorbed))
+ActionLine (Declare target) Done line = (added axioms absorbed : ℕ) × (line ≡ declared added (counts_line axioms absorbed))
 ActionLine (Check profile) Done line = line ≡ yes_line profile
 ActionLine (Check profile) No line = (breaches : ℕ) × (line ≡ no_line profile breaches)
 ActionLine Show Done line = line ≡ codes "shown\n"
@@ -116,15 +136,23 @@ abbrev pub AsksTranslation : Request → Type 0
 AsksTranslation (of_main (Translate target) options names) = Unit {0}
 AsksTranslation request = ⊥
 
+-- a translation with the declarations that are needed
+abbrev pub AsksDeclarations : Request → Type 0
+AsksDeclarations (of_main (Declare target) options names) = Unit {0}
+AsksDeclarations request = ⊥
+
 -- a translation to another syntax than Functional-Style Syntax, which can say all
 abbrev pub AsksOtherSyntax : Request → Type 0
 AsksOtherSyntax (of_main (Translate Ttl) options names) = Unit {0}
 AsksOtherSyntax (of_main (Translate Omn) options names) = Unit {0}
+AsksOtherSyntax (of_main (Declare Ttl) options names) = Unit {0}
+AsksOtherSyntax (of_main (Declare Omn) options names) = Unit {0}
 AsksOtherSyntax request = ⊥
 
 -- a translation to Turtle
 abbrev pub AsksTurtle : Request → Type 0
 AsksTurtle (of_main (Translate Ttl) options names) = Unit {0}
+AsksTurtle (of_main (Declare Ttl) options names) = Unit {0}
 AsksTurtle request = ⊥
 
 -- The lines of a status for what is asked for. A read fault names a document that has this cause, and a trial has the line of its outcome.
@@ -132,6 +160,8 @@ pub data LineFor (request : Request) (IsCause : List ℕ → Type 0) (status : S
   of_success : SuccessLine request status line → LineFor request IsCause status line
   of_refusal : (name : List ℕ) → IsAmong (names_of request) name → IsRefusalLine name status line → LineFor request IsCause status line
   of_typing : AsksTranslation request → (refusal : Outcome) → IsIllTyped refusal → status ≡ refusal.status → line ≡ refusal.line → LineFor request IsCause status line
+  of_clash : AsksDeclarations request → (iri : List ℕ) → status ≡ (two_kinds iri).status → line ≡ (two_kinds iri).line → LineFor request IsCause status line
+  of_declarations : AsksDeclarations request → status ≡ Limit → line ≡ too_heavy_output.line → LineFor request IsCause status line
   of_unsayable : AsksOtherSyntax request → (refusal : Outcome) → IsUnsayable refusal → status ≡ refusal.status → line ≡ refusal.line → LineFor request IsCause status line
   of_triples : AsksTurtle request → status ≡ Limit → line ≡ too_many_triples.line → LineFor request IsCause status line
   of_output : status ≡ Limit → line ≡ too_long_output.line → LineFor request IsCause status line
@@ -152,11 +182,20 @@ ReadsIn Fss kinds text said = ReadsFunctional text said.prefixes said.ontology
 ReadsIn Ttl kinds text said = ReadsSaid kinds text said
 ReadsIn Omn kinds text said = ReadsForm kinds text said
 
+-- With the declarations that it needs the main document is written, and the text reads back to the normal form of that, under kinds that have
+-- these too.
+pub record IsDeclaredText (target : Syntax) (kinds : List Entity) (main : Said) (text : List ℕ) : Type 0 where
+  pub needs : List Entity
+  pub known : List Entity
+  pub are : AreKnown kinds main needs known
+  pub reads : ReadsIn target known text (normal_form target known (declared_said needs main))
+
 -- What the text of an action is: that of a translation reads back to the normal form of what the main document says, under the same kinds.
 abbrev pub IsActionText : Action → List Entity → Said → List ℕ → Type 0
 IsActionText (Translate target) kinds main text = ReadsIn target kinds text (normal_form target kinds main)
 IsActionText (Check profile) kinds main text = Unit {0}
 IsActionText Show kinds main text = Unit {0}
+IsActionText (Declare target) kinds main text = IsDeclaredText target kinds (canonical_said main) text
 
 -- the text is that of the action, by what the main document says
 abbrev pub IsBack : Request → List Parsed → List ℕ → Type 0

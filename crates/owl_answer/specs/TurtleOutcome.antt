@@ -24,7 +24,7 @@ use Rattle.owl_documents.specs.Documents.{Said}
 use Rattle.owl_answer.specs.Outcome.{IsSuccess}
 use Rattle.owl_messages.specs.Refusals.{two_kinds, undeclared, unsayable}
 use Rattle.owl_answer.specs.Typing.{AllAreWellTyped, DeclareSame, IsFirstUntyped}
-use Rattle.owl_messages.specs.Outcome.{IsLimited, Outcome, done_line, too_heavy_output, too_many_triples, translation}
+use Rattle.owl_messages.specs.Outcome.{IsLimited, Outcome, counts_line, too_heavy_output, too_many_triples, translation}
 
 -- the same document in canonical form, which equivalent ones have in common
 abbrev pub canonical_said : Said → Said
@@ -34,12 +34,12 @@ canonical_said said = record { prefixes = said.prefixes; ontology = canonical_on
 abbrev pub turtle_form : Said → Said
 turtle_form said = record { prefixes = said.prefixes; ontology = normal_form said.ontology }
 
--- A translation writes the graph of the normal form, and says how many axioms that has, and how many are absorbed.
+-- A translation writes the graph of the normal form, and counts the axioms that it has, and those that are absorbed.
 abbrev pub graph_translation : Said → ℕ → Outcome
 graph_translation form absorbed = record {
   status = Done;
   text = encode_utf8_all (turtle_text form.prefixes (graph_of form.ontology));
-  line = done_line (axiom_count form.ontology) absorbed;
+  line = counts_line (axiom_count form.ontology) absorbed;
 }
 
 -- against whatever base IRI, the bytes are read in Turtle to the graph of this form, of which no tree is too deep

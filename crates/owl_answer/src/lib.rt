@@ -6,6 +6,7 @@ mod checking;
 mod closure;
 mod comparison;
 mod conclusion;
+mod declaring;
 mod guessing;
 mod imports;
 mod kinds;

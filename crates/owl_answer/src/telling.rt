@@ -6,7 +6,7 @@ ghost use Rattle.fss_terms.specs.Functional.{ReadsFunctional};
 ghost use Rattle.owl_doc.specs.Documents.{ontology_of};
 ghost use Rattle.owl_documents.specs.Documents.{Parsed, said_of};
 ghost use Rattle.owl_writing.specs.Tables.{declared_prefixes};
-ghost use Rattle.owl_answer.specs.Answers.{IsInTurtle, IsToldOf, IsToldOfMain};
+ghost use Rattle.owl_answer.specs.Answers.{IsInTurtle, IsToldOf, IsToldOfMain, IsTranslated};
 ghost use Rattle.owl_answer.specs.Outcome.{IsSuccess};
 ghost use Rattle.owl_answer.specs.Reading.{IsReadAs, asks_types};
 ghost use Rattle.owl_answer.specs.TurtleOutcome.{IsFunctionalTranslation};
@@ -15,6 +15,7 @@ ghost use Rattle.owl_messages.specs.Outcome.{IsLimited, shown, translation};
 
 use crate::checking::check;
 use crate::closure::Closure;
+use crate::declaring::tell_declaration;
 use crate::manchester::translate_to_manchester;
 use crate::turtle::translate_to_turtle;
 use crate::typing::typing_refusal;
@@ -23,7 +24,7 @@ use fss_write::{WriteFault, write};
 use owl_characters::{MOST_BYTES, NoMemory};
 use owl_command::{Action, Status, Target};
 use owl_doc::Doc;
-use owl_messages::{Answer, summary, told, too_long_output};
+use owl_messages::{Answer, summary, told, told_as_translated, too_long_output};
 use owl_tree::Kinds;
 use std::alloc::Global;
 
@@ -43,14 +44,17 @@ pub fn tell_closure(
         → IsToldOf action documents (outcome_of answer)) }
 {
     match action {
-        Action::Translate(target) => { translate(alloc, target, asks, &closure.kinds, &said[0]) }
+        Action::Translate(target) => {
+            tell_translation(alloc, target, asks, &closure.kinds, &said[0])
+        }
         Action::Check(profile) => check(alloc, profile, closure, said),
         Action::Show => show(alloc, &said[0]),
+        Action::Declare(target) => tell_declaration(alloc, target, closure, &said[0]),
     }
 }
 
-/// The translation of the main document.
-fn translate(
+/// The translation of the main document, told as one.
+fn tell_translation(
     alloc: Global,
     target: Target,
     asks: bool,
@@ -60,6 +64,21 @@ fn translate(
     ensures { IfOk result (λ answer. (documents : List Parsed) (parsed : Parsed)
         → asks_types parsed ≡ asks → IsToldOfMain (Action.Translate target) documents parsed
         kinds.now (said_of main.now) (outcome_of answer)) }
+{
+    let answer = translate(alloc, target, asks, kinds, main)?;
+    told_as_translated(alloc, answer)
+}
+
+/// The translation of the main document.
+pub fn translate(
+    alloc: Global,
+    target: Target,
+    asks: bool,
+    kinds: &Kinds,
+    main: &Doc,
+) -> Result<Answer, NoMemory>
+    ensures { IfOk result (λ answer. (parsed : Parsed) → asks_types parsed ≡ asks →
+        IsTranslated target parsed kinds.now (said_of main.now) (outcome_of answer)) }
 {
     match target {
         Target::Fss => translate_in_functional(alloc, asks, kinds, main),
@@ -76,9 +95,8 @@ fn translate_in_functional(
     kinds: &Kinds,
     main: &Doc,
 ) -> Result<Answer, NoMemory>
-    ensures { IfOk result (λ answer. (documents : List Parsed) (parsed : Parsed)
-        → asks_types parsed ≡ asks → IsToldOfMain (Action.Translate Target.Fss) documents
-        parsed kinds.now (said_of main.now) (outcome_of answer)) }
+    ensures { IfOk result (λ answer. (parsed : Parsed) → asks_types parsed ≡ asks →
+        IsTranslated Target.Fss parsed kinds.now (said_of main.now) (outcome_of answer)) }
 {
     if asks {
         translate_typed(alloc, kinds, main)

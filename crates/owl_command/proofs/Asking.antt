@@ -14,7 +14,7 @@ use Rattle.owl_command.specs.Commands.{AreNames, IsAmong, Asks, HasNoCommand, Is
 use Rattle.owl_command.proofs.CommandsLaws.{action_is_not_same, action_is_not_trial, actions_once, flags_front, option_is_no_name, trial_is_not_same, verb}
 use Rattle.owl_command.specs.WordParts.{AreTwoNames, IsOneSize, IsStripped, NameAgainst, NameNone, NameNoneAgainst, NameWith, fault_of_iri}
 use Rattle.owl_command.specs.declared.command.Action.{Action}
-use Rattle.owl_command.specs.declared.command.Action.TheVariants.{Translate, Check, Show}
+use Rattle.owl_command.specs.declared.command.Action.TheVariants.{Translate, Check, Show, Declare}
 use Rattle.owl_command.specs.declared.command.Options.{Options}
 use Rattle.owl_command.specs.declared.command.Profile.{Profile}
 use Rattle.owl_command.specs.declared.command.Target.{Target}
@@ -97,10 +97,11 @@ module _ (word : List ℕ) (utf8 : IsUtf8 word) (others : List (List ℕ)) where
   }
 
 -- words that begin with those of no action
-pub no_action : (words : List (List ℕ)) → ((target : Target) (others : List (List ℕ)) → words ≢ action_words (Translate target) ++ others) → ((profile : Profile) (others : List (List ℕ)) → words ≢ action_words (Check profile) ++ others) → ((others : List (List ℕ)) → words ≢ codes "show" ∷ others) → (action : Action) (others : List (List ℕ)) → words ≢ action_words action ++ others
-no_action words t k s (Translate target) others e = t target others e
-no_action words t k s (Check profile) others e = k profile others e
-no_action words t k s Show others e = s others e
+pub no_action : (words : List (List ℕ)) → ((target : Target) (others : List (List ℕ)) → words ≢ action_words (Translate target) ++ others) → ((profile : Profile) (others : List (List ℕ)) → words ≢ action_words (Check profile) ++ others) → ((target : Target) (others : List (List ℕ)) → words ≢ action_words (Declare target) ++ others) → ((others : List (List ℕ)) → words ≢ codes "show" ∷ others) → (action : Action) (others : List (List ℕ)) → words ≢ action_words action ++ others
+no_action words t k d s (Translate target) others e = t target others e
+no_action words t k d s (Check profile) others e = k profile others e
+no_action words t k d s Show others e = s others e
+no_action words t k d s (Declare target) others e = d target others e
 
 -- what the words behind the first ones name is what the words ask for
 module _ (words others : List (List ℕ)) where

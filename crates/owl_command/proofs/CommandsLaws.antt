@@ -8,7 +8,7 @@ use Rattle.std.proofs.lemmas.List.{append_assoc}
 use Rattle.std.proofs.lemmas.Str.{chars-encodes}
 use Rattle.owl_command.specs.Commands.{AreDistinct, AreDocuments, Asks, IsAbsolute, IsAllowed, IsName, IsTrialSize, Request, action_words, base_words, compares, flag_word, flag_words, names_of, of_main, profile_word, target_word, tries, words_of}
 use Rattle.owl_command.specs.declared.command.Action.{Action}
-use Rattle.owl_command.specs.declared.command.Action.TheVariants.{Translate, Check, Show}
+use Rattle.owl_command.specs.declared.command.Action.TheVariants.{Translate, Check, Show, Declare}
 use Rattle.owl_command.specs.declared.command.Options.{Options}
 use Rattle.owl_command.specs.declared.command.Profile.{Profile}
 use Rattle.owl_command.specs.declared.command.Profile.TheVariants.{Dl, El, Ql, Rl}
@@ -119,22 +119,21 @@ pub actions_once : (one other : Action) (behind rest : List (List ℕ)) → acti
 actions_once (Translate s) (Translate t) behind rest e =
     let word : target_word s ≡ target_word t = cc in
     (ap Translate (target_once s t word), cc)
-actions_once (Translate s) (Check q) behind rest e = absurd (cc)
-actions_once (Translate s) Show behind rest e = absurd (cc)
-actions_once (Check p) (Translate t) behind rest e = absurd (cc)
 actions_once (Check p) (Check q) behind rest e =
     let word : profile_word p ≡ profile_word q = cc in
     (ap Check (profile_once p q word), cc)
-actions_once (Check p) Show behind rest e = absurd (cc)
-actions_once Show (Translate t) behind rest e = absurd (cc)
-actions_once Show (Check q) behind rest e = absurd (cc)
 actions_once Show Show behind rest e = (refl, cc)
+actions_once (Declare s) (Declare t) behind rest e =
+    let word : target_word s ≡ target_word t = cc in
+    (ap Declare (target_once s t word), cc)
+actions_once _ _ behind rest e = absurd (cc)
 
 -- and no comparison's
 pub action_is_not_same : (action : Action) (behind rest : List (List ℕ)) → action_words action ++ behind ≡ codes "same" ∷ rest → ⊥
 action_is_not_same (Translate target) behind rest e = cc
 action_is_not_same (Check profile) behind rest e = cc
 action_is_not_same Show behind rest e = show_is_not_same (ap verb e)
+action_is_not_same (Declare target) behind rest e = cc
 
 -- whether the third letter is that of `trial`
 abbrev is_trial : List ℕ → Bool
@@ -149,6 +148,7 @@ pub action_is_not_trial : (action : Action) (behind rest : List (List ℕ)) → 
 action_is_not_trial (Translate target) behind rest e = let h : false ≡ true = ap (λ ws. is_trial (verb ws)) e in absurd (cc)
 action_is_not_trial (Check profile) behind rest e = let h : false ≡ true = ap (λ ws. is_trial (verb ws)) e in absurd (cc)
 action_is_not_trial Show behind rest e = let h : false ≡ true = ap (λ ws. is_trial (verb ws)) e in absurd (cc)
+action_is_not_trial (Declare target) behind rest e = let h : false ≡ true = ap (λ ws. is_trial (verb ws)) e in absurd (cc)
 
 size_once : (one other : ℕ) → IsTrialSize one → IsTrialSize other → decimal one ≡ decimal other → one ≡ other
 size_once one other h k e = decimal_injective one other (omega (arith, h.few)) (omega (arith, k.few)) e

@@ -9,7 +9,7 @@ use Rattle.owl_command.specs.declared.command.Target.TheVariants.{Fss, Ttl, Omn}
 use Rattle.owl_command.specs.declared.command.Profile.{Profile}
 use Rattle.owl_command.specs.declared.command.Profile.TheVariants.{Dl, El, Ql, Rl}
 use Rattle.owl_command.specs.declared.command.Action.{Action}
-use Rattle.owl_command.specs.declared.command.Action.TheVariants.{Translate, Check, Show}
+use Rattle.owl_command.specs.declared.command.Action.TheVariants.{Translate, Check, Show, Declare}
 use Rattle.owl_command.specs.declared.command.Command.{Command}
 use Rattle.owl_command.specs.declared.command.Command.TheVariants.{OfMain, Same, Trial}
 use Rattle.owl_command.specs.declared.command.Options.{Options}
@@ -138,6 +138,7 @@ abbrev pub action_words : Action → List (List ℕ)
 action_words (Translate target) = codes "translate" ∷ codes "--to" ∷ target_word target ∷ []
 action_words (Check profile) = codes "check" ∷ codes "--profile" ∷ profile_word profile ∷ []
 action_words Show = codes "show" ∷ []
+action_words (Declare target) = codes "declare" ∷ codes "--to" ∷ target_word target ∷ []
 
 -- a word that is there or not
 abbrev pub flag_word : List ℕ → Bool → List (List ℕ)

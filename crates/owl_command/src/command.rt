@@ -60,6 +60,8 @@ pub enum Action {
     Check(Profile),
     /// `show`
     Show,
+    /// `declare --to TARGET`
+    Declare(Target),
 }
 
 /// How the documents of an action are read.
@@ -255,6 +257,18 @@ fn strip_translation(words: &[String]) -> Option<(Target, &[String])>
     strip_target(others)
 }
 
+/// The syntax that the words of a declaration name, and what stands behind
+/// them.
+fn strip_declaration(words: &[String]) -> Option<(Target, &[String])>
+    ensures some { IfSome result (λ found. map string_bytes words.now
+        ≡ action_words (Action.Declare found.0) ++ map string_bytes found.1.now) }
+    ensures none { IfNone result ((target : Target) (others : List (List ℕ)) →
+        map string_bytes words.now ≢ action_words (Action.Declare target) ++ others) }
+{
+    let others = strip(strip(words, "declare")?, "--to")?;
+    strip_target(others)
+}
+
 /// The profile that a word names.
 fn named_profile(word: &str) -> Option<Profile>
     ensures some { IfSome result (λ profile. word.now ≡ profile_word profile) }
@@ -312,6 +326,9 @@ fn strip_action(words: &[String]) -> Option<(Action, &[String])>
     }
     if let Some((profile, others)) = strip_check(words) {
         return Some((Action::Check(profile), others));
+    }
+    if let Some((target, others)) = strip_declaration(words) {
+        return Some((Action::Declare(target), others));
     }
     let others = strip(words, "show")?;
     Some((Action::Show, others))

@@ -12,7 +12,7 @@ use Rattle.owl_reader.specs.declared.fault.Reason.TheVariants.{BadUtf8, BadToken
 use Rattle.owl_writing.specs.Tables.{declared_prefixes}
 use Rattle.fss_write.specs.Text.{text_of}
 use Rattle.owl_command.specs.declared.status.Status.{Status}
-use Rattle.owl_command.specs.declared.status.Status.TheVariants.{Done, No, Document as NoDocument, Limit, Memory}
+use Rattle.owl_command.specs.declared.status.Status.TheVariants.{Done, No, Words, Document as NoDocument, Target, Limit, ReadFailed, WriteFailed, Memory}
 use Rattle.owl_documents.specs.Documents.{Said}
 use Rattle.owl_documents.specs.declared.trouble.Refusal.{Refusal}
 use Rattle.owl_documents.specs.declared.trouble.Refusal.TheVariants.{DocumentBytes, AllBytes, Unreadable, Headless}
@@ -37,20 +37,43 @@ pub record Outcome : Type 0 where
 abbrev pub refused : Status → List ℕ → Outcome
 refused status line = record { status = status; text = []; line = line }
 
-abbrev pub done_line : ℕ → ℕ → List ℕ
-done_line axioms absorbed = codes "translated; axioms " ++ (decimal axioms ++ (codes "; absorbed " ++ (decimal absorbed ++ codes "\n")))
+-- what a translation counts: how many axioms its text has, and how many are said in others
+abbrev pub counts_line : ℕ → ℕ → List ℕ
+counts_line axioms absorbed = codes "axioms " ++ (decimal axioms ++ (codes "; absorbed " ++ (decimal absorbed ++ codes "\n")))
+
+-- what is told of that, for a document as it is, and for one that so many declarations were added to
+abbrev pub translated : List ℕ → List ℕ
+translated counts = codes "translated; " ++ counts
+
+abbrev pub declared : ℕ → List ℕ → List ℕ
+declared added counts = codes "declared; added " ++ (decimal added ++ (codes "; " ++ counts))
+
+-- A success is told so, and a refusal as it is.
+abbrev pub line_with : (List ℕ → List ℕ) → Status → List ℕ → List ℕ
+line_with told_so Done line = told_so line
+line_with told_so No line = line
+line_with told_so Words line = line
+line_with told_so NoDocument line = line
+line_with told_so Target line = line
+line_with told_so Limit line = line
+line_with told_so ReadFailed line = line
+line_with told_so WriteFailed line = line
+line_with told_so Memory line = line
+
+abbrev pub told_with : (List ℕ → List ℕ) → Outcome → Outcome
+told_with told_so outcome = record { status = outcome.status; text = outcome.text; line = line_with told_so outcome.status outcome.line }
 
 -- The form that Functional-Style Syntax has for what a document says, in its own prefixes and the declared ones. It can say all as
 -- it is.
 abbrev pub functional_form : Said → Said
 functional_form said = record { prefixes = declared_prefixes said.prefixes; ontology = said.ontology }
 
--- A translation to Functional-Style Syntax writes the canonical form, and says how many axioms that has. It absorbs none.
+-- A translation to Functional-Style Syntax writes the canonical form, and counts the axioms that it has. It absorbs none.
 abbrev pub translation : Said → Outcome
 translation said = record {
   status = Done;
   text = encode_utf8_all (text_of said.prefixes (canonical_ontology said.ontology));
-  line = done_line (axiom_count said.ontology) 0;
+  line = counts_line (axiom_count said.ontology) 0;
 }
 
 -- what is shown of a document

@@ -1,8 +1,8 @@
 //! What a run answers, before anything is written.
 
-ghost use Rattle.std.specs.Prelude.{◌≡◌, [], string_bytes, IfOk, IsErr};
+ghost use Rattle.std.specs.Prelude.{◌≡◌, ◌++◌, [], string_bytes, IfOk, IsErr};
 ghost use Rattle.std.specs.Str.{encode_utf8_all};
-ghost use Rattle.owl_messages.specs.Outcome.{done_line, too_long_output};
+ghost use Rattle.owl_messages.specs.Outcome.{counts_line, declared, told_with, too_long_output, translated};
 ghost use Rattle.owl_messages.specs.Answers.{outcome_of};
 
 use owl_characters::{NoMemory, Text};
@@ -52,10 +52,36 @@ pub fn said(alloc: Global, status: Status, line: &str) -> Result<Answer, NoMemor
 }
 
 /// How many axioms were written, and how many are said in others.
-pub fn done_line(alloc: Global, axioms: u64, absorbed: u64) -> Result<String, AllocError>
-    ensures { IfOk result (λ line. string_bytes line ≡ done_line axioms absorbed) }
+pub fn counts_line(alloc: Global, axioms: u64, absorbed: u64) -> Result<String, AllocError>
+    ensures { IfOk result (λ line. string_bytes line ≡ counts_line axioms absorbed) }
 {
-    format!(in alloc; "translated; axioms {axioms}; absorbed {absorbed}\n")
+    format!(in alloc; "axioms {axioms}; absorbed {absorbed}\n")
+}
+
+/// The answer of a translation, told as one of a document as it is.
+pub fn told_as_translated(alloc: Global, answer: Answer) -> Result<Answer, NoMemory>
+    ensures { IfOk result (λ told. outcome_of told ≡ told_with translated (outcome_of answer)) }
+{
+    let Answer { status, text, line } = answer;
+    let line = match status {
+        Status::Done => format!(in alloc; "translated; {line}")?,
+        _ => line,
+    };
+    Ok(Answer { status, text, line })
+}
+
+/// The answer of a translation, told as one of a document that so many declarations were
+/// added to.
+pub fn told_as_declared(alloc: Global, added: u64, answer: Answer) -> Result<Answer, NoMemory>
+    ensures { IfOk result (λ told.
+        outcome_of told ≡ told_with (declared added) (outcome_of answer)) }
+{
+    let Answer { status, text, line } = answer;
+    let line = match status {
+        Status::Done => format!(in alloc; "declared; added {added}; {line}")?,
+        _ => line,
+    };
+    Ok(Answer { status, text, line })
 }
 
 /// The answer where the text would have more than 2^27 bytes.

@@ -9,7 +9,9 @@ mod trial;
 mod unsaid;
 mod verdicts;
 
-pub use answer::{Answer, done_line, said, told, too_long_output};
+pub use answer::{
+    Answer, counts_line, said, told, told_as_declared, told_as_translated, too_long_output,
+};
 pub use refusal::{answer_trouble, refuse_import, refuse_output};
 pub use refusals::{refuse_kinds, refuse_undeclared, refuse_unsayable};
 pub use summaries::summary;

@@ -4,11 +4,11 @@ use Rattle.owl_reader.specs.declared.fault.ReadFault.TheVariants as read
 use Rattle.owl_documents.specs.declared.trouble.Refusal.{Refusal}
 use Rattle.owl_documents.specs.declared.trouble.Refusal.TheVariants.{DocumentBytes, AllBytes, Unreadable, Headless}
 use Rattle.owl_command.specs.Commands.{Request, compares, of_main, tries}
-use Rattle.owl_command.specs.declared.command.Action.TheVariants.{Translate, Check, Show}
+use Rattle.owl_command.specs.declared.command.Action.TheVariants.{Translate, Check, Show, Declare}
 use Rattle.owl_documents.specs.Documents.{IsProperRefusal}
 use Rattle.rdf_scans.specs.declared.fault.OutlineFault.TheVariants as outline
 use Rattle.owl_answer.specs.Outcome.{IsSettled}
-use Rattle.owl_answer.specs.Runs.{IsIllTyped, IsRefusalLine, IsUnsayable, LineFor, SuccessLine, of_bytes, of_saying, of_import, of_no_memory, of_output, of_part, of_read_fault, of_refusal, of_success, of_trial, of_triples, of_two_kinds, of_typing, of_undeclared, of_unsayable, of_weight, of_write_fault}
+use Rattle.owl_answer.specs.Runs.{IsIllTyped, IsRefusalLine, IsUnsayable, LineFor, SuccessLine, of_bytes, of_clash, of_declarations, of_saying, of_import, of_no_memory, of_output, of_part, of_read_fault, of_refusal, of_success, of_trial, of_triples, of_two_kinds, of_typing, of_undeclared, of_unsayable, of_weight, of_write_fault}
 use Rattle.owl_command.specs.declared.status.Status.TheVariants.{ReadFailed}
 use Rattle.owl_messages.proofs.UnsaidLaws.{IsRefusal, unsaid_is_refused}
 use Rattle.owl_messages.specs.Outcome.{Outcome, refusal_outcome}
@@ -19,6 +19,7 @@ no_success : (request : Request) (line : List ℕ) → SuccessLine request ReadF
 no_success (of_main (Translate target) options names) line s = s
 no_success (of_main (Check profile) options names) line s = s
 no_success (of_main Show options names) line s = s
+no_success (of_main (Declare target) options names) line s = s
 no_success (compares first second) line s = s
 no_success (tries size) line s = s
 
@@ -57,6 +58,8 @@ no_unsayable _ of_weight e = cc
 pub fault_in : (request : Request) (IsCause : List ℕ → Type 0) (line : List ℕ) → LineFor request IsCause ReadFailed line → (name : List ℕ) × IsCause name
 fault_in request IsCause line (of_success s) = absurd (no_success request line s)
 fault_in request IsCause line (of_refusal name among r) = absurd (no_refusal_line name line r)
+fault_in request IsCause line (of_clash asks iri e l) = absurd (cc)
+fault_in request IsCause line (of_declarations asks e l) = absurd (cc)
 fault_in request IsCause line (of_typing asks refusal h e l) = absurd (no_typing refusal h e)
 fault_in request IsCause line (of_unsayable asks refusal h e l) = absurd (no_unsayable refusal h e)
 fault_in request IsCause line (of_triples asks e l) = absurd (cc)

@@ -1,7 +1,7 @@
 use Rattle.std.proofs.Common.{subst, sym}
 use Rattle.std.proofs.lemmas.Result.{IfOk-weaker}
 use Rattle.owl_command.specs.declared.command.Action.{Action}
-use Rattle.owl_command.specs.declared.command.Action.TheVariants.{Translate, Check, Show}
+use Rattle.owl_command.specs.declared.command.Action.TheVariants.{Translate, Check, Show, Declare}
 use Rattle.owl_answer.specs.Answers.{IsToldOf}
 use Rattle.owl_messages.specs.declared.answer.Answer.{Answer}
 use Rattle.owl_answer.proofs.Readings.{main_said, main_there}
@@ -11,10 +11,10 @@ use Rattle.owl_messages.specs.Answers.{outcome_of}
 
 pub returns-in-Translate : goal.returns-in-Translate
 returns-in-Translate c =
-    IfOk-weaker c.translate.result _ _ (λ (a : Answer) h documents read.
+    IfOk-weaker c.tell_translation.result _ _ (λ (a : Answer) h documents read.
     let first = main_said documents c.args.closure read.closed c.args.said.items read.say c.index.result.now c.index.ensures in
     subst (λ (action : Action). IsToldOf action documents (outcome_of a)) (sym c.in-Translate.is)
-    (told_of_main (Translate c.in-Translate.target) documents c.args.closure c.args.said.items c.args.asks read c.index.result.now first (outcome_of a) (λ parsed graph. h documents parsed graph))) c.translate.ensures
+    (told_of_main (Translate c.in-Translate.target) documents c.args.closure c.args.said.items c.args.asks read c.index.result.now first (outcome_of a) (λ parsed graph. h documents parsed graph))) c.tell_translation.ensures
 
 pub returns-in-Check : goal.returns-in-Check
 returns-in-Check c =
@@ -29,3 +29,10 @@ returns-in-Show c =
     let first = main_said documents c.args.closure read.closed c.args.said.items read.say c.index-in-Show.result.now c.index-in-Show.ensures in
     subst (λ (action : Action). IsToldOf action documents (outcome_of a)) (sym c.in-Show.is)
     (told_of_main Show documents c.args.closure c.args.said.items c.args.asks read c.index-in-Show.result.now first (outcome_of a) (λ parsed graph. record { is = w; back = λ s. tt }))) c.show.ensures
+
+pub returns-in-Declare : goal.returns-in-Declare
+returns-in-Declare c =
+    IfOk-weaker c.tell_declaration.result _ _ (λ (a : Answer) h documents read.
+    let first = main_said documents c.args.closure read.closed c.args.said.items read.say c.index-in-Declare.result.now c.index-in-Declare.ensures in
+    subst (λ (action : Action). IsToldOf action documents (outcome_of a)) (sym c.in-Declare.is)
+    (told_of_main (Declare c.in-Declare.target) documents c.args.closure c.args.said.items c.args.asks read c.index-in-Declare.result.now first (outcome_of a) (λ parsed graph. h documents parsed))) c.tell_declaration.ensures

@@ -8,8 +8,8 @@ use Rattle.owl_answer.proofs.telling.translate_in_functional.Goals as goal
 
 pub returns-then-asks : goal.returns-then-asks
 returns-then-asks c =
-    from_both c.translate_typed.result _ _ _ (λ (a : Answer) k b documents parsed graph. functional_told documents parsed c.args.kinds.now (said_of c.args.main.now) (outcome_of a) (graph ∙ c.if-asks.true) k b) c.translate_typed.ensures.outcome c.translate_typed.ensures.back
+    from_both c.translate_typed.result _ _ _ (λ (a : Answer) k b parsed graph. functional_told parsed c.args.kinds.now (said_of c.args.main.now) (outcome_of a) (graph ∙ c.if-asks.true) k b) c.translate_typed.ensures.outcome c.translate_typed.ensures.back
 
 pub returns-else-asks : goal.returns-else-asks
 returns-else-asks c =
-    from_both c.translate_to_functional.result _ _ _ (λ (a : Answer) k b documents parsed graph. written_told documents parsed c.args.kinds.now (said_of c.args.main.now) (outcome_of a) (graph ∙ c.if-asks.false) k b) c.translate_to_functional.ensures.outcome c.translate_to_functional.ensures.back
+    from_both c.translate_to_functional.result _ _ _ (λ (a : Answer) k b parsed graph. written_told parsed c.args.kinds.now (said_of c.args.main.now) (outcome_of a) (graph ∙ c.if-asks.false) k b) c.translate_to_functional.ensures.outcome c.translate_to_functional.ensures.back
