@@ -1,0 +1,10 @@
+pub mod Digits
+pub mod WholeDocuments
+pub mod WorkedCases
+pub mod EachRead
+pub mod Finding
+pub mod OntologyBytes
+pub mod Putting
+pub mod PuttingTrees
+pub mod Reading
+pub mod Unambiguous

@@ -1,0 +1,5 @@
+pub mod Bytes
+pub mod Limits
+pub mod Sinks
+pub mod Inputs
+pub mod Readable
