@@ -1,9 +1,9 @@
 mod KnownIris
-mod ReadLines
-mod ReadTerms
-mod ReadsBack
-mod Rows
+pub mod LineLaws
+pub mod ReadBackLaws
+pub mod RowLaws
 mod Spelled
-mod Steps
-mod Stops
+pub mod StepLaws
+pub mod StopLaws
+pub mod TermLaws
 pub mod WorkedCases

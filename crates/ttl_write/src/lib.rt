@@ -5,5 +5,7 @@ mod lines;
 mod terms;
 mod writer;
 
+pub use lines::add_prefixes;
 pub use owl_writing::WriteFault;
+pub use terms::{add_term, known};
 pub use writer::{term_text, triple_text, write};

@@ -28,7 +28,7 @@ pub fn add_graph(draft: &mut Draft, prefixes: &Prefixes, graph: &Graph) -> Resul
 }
 
 /// Adds a line for each prefix.
-fn add_prefixes(draft: &mut Draft, prefixes: &Prefixes) -> Result<(), WriteFault>
+pub fn add_prefixes(draft: &mut Draft, prefixes: &Prefixes) -> Result<(), WriteFault>
     ensures ok { OnOk result (draft.new ≡ draft.old ++ flat_map prefix_line prefixes.now) }
     ensures too_long { IsErrOf result WriteFault.TooLong
         → IsTooLong (draft.old ++ flat_map prefix_line prefixes.now) }

@@ -8,7 +8,7 @@ use Rattle.owl_writing.specs.Tables.{HaveIris, written_prefixes}
 use Rattle.ttl_grammar.specs.Documents.{ReadsTurtle}
 use Rattle.owl_writing.specs.declared.fault.WriteFault.TheVariants.{TooLong}
 use Rattle.ttl_write.specs.Text.{lines_of, turtle_text}
-use Rattle.ttl_write.proofs.ReadsBack.{graph_reads_back}
+use Rattle.ttl_write.proofs.ReadBackLaws.{graph_reads_back}
 use Rattle.ttl_write.proofs.writer.write.Goals as goal
 
 pub returns-in_err-add_graph-clause-too_long : goal.returns-in_err-add_graph-clause-too_long

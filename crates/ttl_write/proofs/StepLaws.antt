@@ -14,7 +14,7 @@ use Rattle.ttl_grammar.specs.States.{State}
 use Rattle.ttl_grammar.specs.Table.{turtle}
 use Rattle.ttl_tokens.specs.TurtleSpellings.{Spells}
 use Rattle.ttl_tokens.specs.declared.token.Token.{Token}
-use Rattle.ttl_write.proofs.Rows.{Has}
+use Rattle.ttl_write.proofs.RowLaws.{Has}
 use Rattle.owl_writing.proofs.CutLaws.{Cuts, cuts_none, cuts_space, cuts_token, cuts_weaker}
 
 abbrev pub first_of : List Token → Option Token

@@ -26,11 +26,11 @@ use Rattle.ttl_tokens.specs.declared.token.Token.TheVariants.{At, Iri, Name, Sym
 use Rattle.ttl_write.specs.Formed.{AreFormed, IsFormedTriple}
 use Rattle.ttl_write.specs.Text.{prefix_line, term_text, triple_line}
 use Rattle.ttl_write.proofs.KnownIris.{iri_is_known}
-use Rattle.ttl_write.proofs.ReadTerms.{names_at, object_of, read, starts_iri, starts_object, starts_subject, state_at}
-use Rattle.ttl_write.proofs.Rows.{document_end, document_more, objects_end, objects_row, predicates_row, statement_prefix, statement_triples, triples_subject, verb_iri, verbs_end}
+use Rattle.ttl_write.proofs.TermLaws.{facts_at, names_at, object_of, read, starts_iri, starts_object, starts_subject, state_at}
+use Rattle.ttl_write.proofs.RowLaws.{document_end, document_more, objects_end, objects_row, predicates_row, statement_prefix, statement_triples, triples_subject, verb_iri, verbs_end}
 use Rattle.ttl_write.proofs.Spelled.{spells_dot, spells_iri, spells_namespace, spells_prefix_word}
-use Rattle.ttl_write.proofs.Steps.{Starts, goes_act, goes_none, goes_token, starts_act, starts_rule, starts_space, starts_token}
-use Rattle.ttl_write.proofs.Stops.{longest_before_stop}
+use Rattle.ttl_write.proofs.StepLaws.{Starts, goes_act, goes_none, goes_token, starts_act, starts_rule, starts_space, starts_token}
+use Rattle.ttl_write.proofs.StopLaws.{longest_before_stop}
 
 -- the triple that is stated of one
 abbrev pub stated_of : Triple → List NodeTriple
@@ -52,7 +52,7 @@ iri_class : (iri : List ℕ) → class_of (Iri (Some iri)) ≡ 0
 unfolding class_of
 iri_class iri = refl
 
-abbrev namespace_of : Prefix → Namespace
+abbrev pub namespace_of : Prefix → Namespace
 namespace_of prefix = record { prefix = prefix.name; iri = prefix.iri }
 
 -- the namespaces behind the lines of prefixes
@@ -62,12 +62,12 @@ declared_behind (p ∷ ps) namespaces = declared_behind ps (namespace_of p ∷ n
 
 module _ (wanted : State → Type 0) where
   -- the dot of a line, and the line end
-  starts_dot : (rest : List ℕ) (ss : List Sign) (state : State) → Starts wanted ss state rest → Starts wanted (Need 16 ∷ ss) state (46 ∷ 10 ∷ rest)
+  pub starts_dot : (rest : List ℕ) (ss : List Sign) (state : State) → Starts wanted ss state rest → Starts wanted (Need 16 ∷ ss) state (46 ∷ 10 ∷ rest)
   starts_dot rest ss state k =
       starts_token wanted (Symbol Dot) (codes ".") (10 ∷ rest) 16 ss state spells_dot (longest_before_stop (Symbol Dot) (codes ".") 10 rest spells_dot refl) dot_class (starts_space wanted 10 rest ss state refl k)
 
   -- a document that goes on with a statement
-  starts_statement : (state : State) (cs : List ℕ) → Starts wanted (Rule 1 ∷ Rule 0 ∷ []) state cs → Starts wanted (Rule 0 ∷ []) state cs
+  pub starts_statement : (state : State) (cs : List ℕ) → Starts wanted (Rule 1 ∷ Rule 0 ∷ []) state cs → Starts wanted (Rule 0 ∷ []) state cs
   starts_statement state cs k = starts_rule wanted 0 (Rule 1 ∷ Rule 0 ∷ []) [] state cs document_more k
 
   pub starts_end : (state : State) → wanted state → Starts wanted (Rule 0 ∷ []) state []
@@ -76,7 +76,7 @@ module _ (wanted : State → Type 0) where
   -- prefixes
 
   module _ (base : Option (List ℕ)) (form : List ℕ) (nest : Nest) (triples : List NodeTriple) where
-    abbrev at_names : List Namespace → List ℕ → State
+    abbrev pub at_names : List Namespace → List ℕ → State
     at_names namespaces declaring = state_at (names_at base namespaces declaring) form None nest triples
 
     prefix_parts : (prefix : Prefix) (rest : List ℕ) → prefix_line prefix ++ rest ≡ codes "@prefix" ++ (32 ∷ ((prefix.name ++ codes ":") ++ (32 ∷ (full_iri prefix.iri ++ (32 ∷ 46 ∷ 10 ∷ rest)))))
@@ -127,7 +127,7 @@ module _ (wanted : State → Type 0) where
         (append_assoc (iri_text written t.predicate) (32 ∷ (term_text written t.object ++ codes " .\n")) rest
         ∙ ap (λ (cs : List ℕ). iri_text written t.predicate ++ 32 ∷ cs) (append_assoc (term_text written t.object) (codes " .\n") rest))
 
-    abbrev between : List ℕ → Nest → List NodeTriple → State
+    abbrev pub between : List ℕ → Nest → List NodeTriple → State
     between form nest triples = state_at (names_at base namespaces declaring) form None nest triples
 
     starts_triple : (t : Triple) (form : List ℕ) (nest : Nest) (triples : List NodeTriple) (rest : List ℕ) → IsSubject t.subject → IsFormedTriple t
@@ -142,21 +142,21 @@ module _ (wanted : State → Type 0) where
         let dot = starts_act wanted 20 (Need 16 ∷ Rule 0 ∷ []) after after end_cs (λ next. refl) (starts_dot rest (Rule 0 ∷ []) after (k new on_predicate)) in
         let verbs = starts_rule wanted 7 [] tail after end_cs verbs_end dot in
         let objects = starts_rule wanted 11 [] (Rule 7 ∷ tail) after end_cs objects_end verbs in
-        starts_act wanted 5 (Rule 11 ∷ Rule 7 ∷ tail) (read base written namespaces table agree wanted declaring on_predicate triples new (Some (object_of t.object))) after end_cs (λ next. refl) objects in
+        starts_act wanted 5 (Rule 11 ∷ Rule 7 ∷ tail) (read base written namespaces table agree wanted declaring (facts_at on_predicate triples) new (Some (object_of t.object))) after end_cs (λ next. refl) objects in
         let object_cs = term_text written t.object ++ 32 ∷ end_cs in
         let object_ss = Act 5 ∷ Rule 11 ∷ Rule 7 ∷ tail in
-        let object_read = starts_object base written namespaces table agree wanted declaring on_predicate triples t.object end_cs form object_ss h.object ended in
+        let object_read = starts_object base written namespaces table agree wanted declaring (facts_at on_predicate triples) t.object end_cs form object_ss h.object ended in
         let objects = starts_rule wanted 10 (Rule 12 ∷ Act 5 ∷ Rule 11 ∷ []) (Rule 7 ∷ tail) (between form on_predicate triples) object_cs objects_row object_read in
         let predicate_ss = Act 4 ∷ Rule 10 ∷ Rule 7 ∷ tail in
         let predicate_term = Some (object.Node (node.Iri t.predicate)) in
         let predicate_known = starts_act wanted 4 (Rule 10 ∷ Rule 7 ∷ tail) (state_at (names_at base namespaces declaring) form predicate_term on_subject triples) (between form on_predicate triples) object_cs (λ next. refl) objects in
         let predicate_cs = iri_text written t.predicate ++ 32 ∷ object_cs in
-        let predicate_read = starts_iri base written namespaces table agree wanted declaring on_subject triples t.predicate object_cs form predicate_ss h.predicate predicate_known in
+        let predicate_read = starts_iri base written namespaces table agree wanted declaring (facts_at on_subject triples) t.predicate object_cs form predicate_ss h.predicate predicate_known in
         let verb = starts_rule wanted 9 (Rule 19 ∷ []) predicate_ss (between form on_subject triples) predicate_cs verb_iri predicate_read in
         let predicates = starts_rule wanted 6 (Rule 9 ∷ Act 4 ∷ Rule 10 ∷ Rule 7 ∷ []) tail (between form on_subject triples) predicate_cs predicates_row verb in
         let subject_known = starts_act wanted 3 (Rule 6 ∷ tail) (state_at (names_at base namespaces declaring) form (Some (object_of t.subject)) nest triples) (between form on_subject triples) predicate_cs (λ next. refl) predicates in
         let subject_cs = term_text written t.subject ++ 32 ∷ predicate_cs in
-        let subject_read = starts_subject base written namespaces table agree wanted declaring nest triples t.subject predicate_cs form (Act 3 ∷ Rule 6 ∷ tail) is_subject h.subject subject_known in
+        let subject_read = starts_subject base written namespaces table agree wanted declaring (facts_at nest triples) t.subject predicate_cs form (Act 3 ∷ Rule 6 ∷ tail) is_subject h.subject subject_known in
         let whole = starts_rule wanted 2 (Rule 5 ∷ Act 3 ∷ Rule 6 ∷ []) tail (between form nest triples) subject_cs triples_subject subject_read in
         let statement = starts_rule wanted 1 (Rule 2 ∷ Act 20 ∷ Need 16 ∷ []) (Rule 0 ∷ []) (between form nest triples) subject_cs statement_triples whole in
         subst (λ (cs : List ℕ). Starts wanted (Rule 0 ∷ []) (between form nest triples) cs) (sym (triple_parts t rest)) (starts_statement (between form nest triples) subject_cs statement)

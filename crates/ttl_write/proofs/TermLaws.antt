@@ -23,7 +23,7 @@ use Rattle.rdf_terms.specs.Literals.{FitsTag, LiteralParts, of_datatype, string,
 use Rattle.ttl_grammar.specs.Classes.{class_number, class_of}
 use Rattle.ttl_grammar.specs.declared.class.Class.TheVariants.{AtBase, AtPrefix, Language}
 use Rattle.ttl_grammar.specs.Documents.{AreNamespaces}
-use Rattle.ttl_grammar.specs.States.{Names, Namespace, State, iri_of, iri_term, literal_term, prefixed_iri, reading, typed_term}
+use Rattle.ttl_grammar.specs.States.{Facts, Names, Namespace, State, iri_of, iri_term, literal_term, prefixed_iri, reading, typed_term}
 use Rattle.lexical_values.proofs.TypedLiteralLaws.{denoted_is_found}
 use Rattle.ttl_grammar.specs.declared.node.Nest.{Nest}
 use Rattle.ttl_grammar.specs.declared.node.Node.TheVariants as node
@@ -37,15 +37,21 @@ use Rattle.ttl_tokens.specs.declared.token.Token.TheVariants.{At, Iri, Label, Na
 use Rattle.ttl_write.specs.Formed.{IsFormedTerm}
 use Rattle.ttl_write.specs.Text.{string_text, term_text}
 use Rattle.ttl_write.proofs.KnownIris.{iri_is_known}
-use Rattle.ttl_write.proofs.Rows.{Has, iri_prefixed, iri_reference, iri_row, literal_text as literal_row, object_iri, object_label, object_literal, subject_iri, subject_label, suffix_plain, suffix_tagged, suffix_typed, tag_base, tag_language, tag_prefix}
+use Rattle.ttl_write.proofs.RowLaws.{Has, iri_prefixed, iri_reference, iri_row, literal_text as literal_row, object_iri, object_label, object_literal, subject_iri, subject_label, suffix_plain, suffix_tagged, suffix_typed, tag_base, tag_language, tag_prefix}
 use Rattle.ttl_write.proofs.Spelled.{spells_carets, spells_iri, spells_label, spells_name, spells_string, spells_tag}
-use Rattle.ttl_write.proofs.Steps.{Goes, Starts, goes_act, goes_rule, goes_token, starts_act, starts_rule, starts_space, starts_token}
-use Rattle.ttl_write.proofs.Stops.{carets_longest, is_stop, longest_before_stop}
+use Rattle.ttl_write.proofs.StepLaws.{Goes, Starts, goes_act, goes_rule, goes_token, starts_act, starts_rule, starts_space, starts_token}
+use Rattle.ttl_write.proofs.StopLaws.{carets_longest, is_stop, longest_before_stop}
 
 -- inside of no brackets and lists
+abbrev pub facts_at : Nest → List NodeTriple → Facts
+facts_at nest triples = record { term = None; nest = nest; outer = []; unlabelled = 0; triples = triples }
+
+-- where this was read, and then this term
+abbrev pub state_in : Names → List ℕ → Option Object → Facts → State
+state_in names form term facts = record { names = names; form = form; facts = record facts { term = term } }
+
 abbrev pub state_at : Names → List ℕ → Option Object → Nest → List NodeTriple → State
-state_at names form term nest triples =
-    record { names = names; form = form; facts = record { term = term; nest = nest; outer = []; unlabelled = 0; triples = triples } }
+state_at names form term nest triples = state_in names form term (facts_at nest triples)
 
 abbrev pub names_at : Option (List ℕ) → List Namespace → List ℕ → Names
 names_at base namespaces declaring = record { base = base; namespaces = namespaces; declaring = declaring }
@@ -123,9 +129,9 @@ module _ (base : Option (List ℕ)) (written : List Prefix) (namespaces : List N
           | inr c ↦ goes_rule wanted 20 (record { mask = iri_prefixed.mask; symbols = Need 1 ∷ [] }) ss state (Some one.token) (spelling ++ 32 ∷ rest) iri_prefixed.among (goes_token wanted one.token spelling (32 ∷ rest) 1 ss state behind.0 one.spells longest c behind.1)
         ]
 
-    module _ (declaring : List ℕ) (nest : Nest) (triples : List NodeTriple) where
+    module _ (declaring : List ℕ) (facts : Facts) where
       abbrev pub read : List ℕ → Option Object → State
-      read form term = state_at (names_at base namespaces declaring) form term nest triples
+      read form term = state_in (names_at base namespaces declaring) form term facts
 
       pub starts_iri : (iri rest form : List ℕ) (ss : List Sign) → IsIri iri → Starts wanted ss (read form (Some (object.Node (node.Iri iri)))) rest → Starts wanted (Rule 19 ∷ ss) (read form None) (iri_text written iri ++ 32 ∷ rest)
       starts_iri iri rest form ss h k =

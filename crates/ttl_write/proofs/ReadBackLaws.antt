@@ -37,8 +37,8 @@ use Rattle.ttl_tokens.specs.TurtleSpellings as tokens
 use Rattle.ttl_tokens.specs.declared.token.Token.{Token}
 use Rattle.ttl_write.specs.Formed.{AreFormed}
 use Rattle.ttl_write.specs.Text.{prefix_line, triple_line, turtle_text}
-use Rattle.ttl_write.proofs.ReadTerms.{object_of}
-use Rattle.ttl_write.proofs.ReadLines.{declared_behind, starts_prefixes, starts_triples, stated_of}
+use Rattle.ttl_write.proofs.TermLaws.{object_of}
+use Rattle.ttl_write.proofs.LineLaws.{declared_behind, starts_prefixes, starts_triples, stated_of}
 
 -- the namespaces
 
@@ -67,7 +67,7 @@ unfolding or_else
 or_nothing None = refl
 or_nothing (Some iri) = refl
 
-declared_agree : (ps : List Prefix) → AreAscending ps → AreNamespaces ps (declared_behind ps [])
+pub declared_agree : (ps : List Prefix) → AreAscending ps → AreNamespaces ps (declared_behind ps [])
 declared_agree ps up = λ name. or_nothing (iri_of ps name) ∙ sym (declared_found ps [] name up)
 
 -- the graph
@@ -100,7 +100,7 @@ graph_again graph is =
 
 -- the text begins with a prefix, and so with no byte order mark
 
-abbrev IsUnmarked : List ℕ → Type 0
+abbrev pub IsUnmarked : List ℕ → Type 0
 IsUnmarked cs = (behind_mark cs ≡ cs) × (mark_size cs ≡ 0)
 
 unmarked_by : (name iri : List ℕ) (p : Prefix) (ps : List Prefix) (o : Ordering) (rest : List ℕ)
@@ -109,11 +109,11 @@ unmarked_by name iri p ps Less rest = (refl, refl)
 unmarked_by name iri p ps Equal rest = (refl, refl)
 unmarked_by name iri p ps Greater rest = (refl, refl)
 
-unmarked : (name iri : List ℕ) (ps : List Prefix) (rest : List ℕ) → IsUnmarked (flat_map prefix_line (with_prefix name iri ps) ++ rest)
+pub unmarked : (name iri : List ℕ) (ps : List Prefix) (rest : List ℕ) → IsUnmarked (flat_map prefix_line (with_prefix name iri ps) ++ rest)
 unmarked name iri [] rest = (refl, refl)
 unmarked name iri (p ∷ ps) rest = unmarked_by name iri p ps (text_cmp name p.name) rest
 
-splits_text : (cs : List ℕ) (placed : List (Placed Token)) → IsUnmarked cs → all_scalars cs ≡ true → SplitsFrom tokens.Spells 0 cs [] placed None → Splits tokens.Spells (encode_utf8_all cs) placed None
+pub splits_text : (cs : List ℕ) (placed : List (Placed Token)) → IsUnmarked cs → all_scalars cs ≡ true → SplitsFrom tokens.Spells 0 cs [] placed None → Splits tokens.Spells (encode_utf8_all cs) placed None
 splits_text cs placed unmarked scalars splits = record {
   characters = cs;
   tail = [];
