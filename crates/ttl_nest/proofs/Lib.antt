@@ -1,0 +1,10 @@
+mod ExistLaws
+mod FormLaws
+mod LineWritingLaws
+mod OnceLaws
+mod OneFormLaws
+mod Parts
+mod TripleLaws
+mod WholeLaws
+mod WithinLaws
+mod WritingLaws

@@ -1,0 +1,2 @@
+pub mod NestedForm
+pub mod Sources
