@@ -128,7 +128,7 @@ hello
 END
 says 'no words' 2  <<'END'
 words
-owl: a command is missing: translate, check, show, same or trial; owl --help says more
+owl: a command is missing: translate, declare, check, show, same or trial; owl --help says more
 END
 says 'another command' 2 convert zoo.ofn <<'END'
 words
@@ -140,19 +140,19 @@ owl: "trnaslate" is no command: is "translate" meant? owl --help says what there
 END
 says 'a command that nobody has' 2 frobnicate zoo.ofn <<'END'
 words
-owl: "frobnicate" is no command: one of translate, check, show, same and trial; owl --help says more
+owl: "frobnicate" is no command: one of translate, declare, check, show, same and trial; owl --help says more
 END
 says 'no command' 2 zoo.ofn <<'END'
 words
-owl: a command is missing in front of "zoo.ofn": translate, check, show or same; owl --help says more
+owl: a command is missing in front of "zoo.ofn": translate, declare, check, show or same; owl --help says more
 END
 says 'a name and no command' 2 --partial show zoo.ofn <<'END'
 words
-owl: "--partial" stands behind a command: translate, check or show is the first word
+owl: "--partial" stands behind a command: translate, declare, check or show is the first word
 END
 says 'an option and no command' 2 --to fss zoo.ofn <<'END'
 words
-owl: "--to" stands behind a command: translate, check or show is the first word
+owl: "--to" stands behind a command: translate, declare, check or show is the first word
 END
 says 'help by another word' 2 help <<'END'
 words
@@ -252,7 +252,7 @@ owl: the name of a document is missing: owl show [--partial] [--guess] [--base I
 END
 says '--guess and no command' 2 --guess show zoo.ofn <<'END'
 words
-owl: "--guess" stands behind a command: translate, check or show is the first word
+owl: "--guess" stands behind a command: translate, declare, check or show is the first word
 END
 says '--base in front of --guess' 2 show --base http://e/ --guess zoo.ofn <<'END'
 words
@@ -272,7 +272,7 @@ owl: "--base" stands once, in front of the names and in this order: owl show [--
 END
 says '--base and no command' 2 --base http://e/ show zoo.ofn <<'END'
 words
-owl: "--base" stands behind a command: translate, check or show is the first word
+owl: "--base" stands behind a command: translate, declare, check or show is the first word
 END
 says '--base and no name' 2 show --base http://e/ <<'END'
 words
@@ -325,6 +325,34 @@ END
 says 'a base and a name that is none' 2 show --base http://e/ zoo <<'END'
 words
 owl: "zoo" is no name of a document: one ends in .ofn, .ttl or .omn
+END
+says 'nothing behind declare' 2 declare <<'END'
+words
+owl: "--to" is missing behind "declare": owl declare --to fss|ttl|omn [--partial] [--guess] [--base IRI] MAIN {IMPORT}
+END
+says 'declare without a target' 2 declare zoo.ofn <<'END'
+words
+owl: "--to" stands right behind "declare", where "zoo.ofn" is: owl declare --to fss|ttl|omn [--partial] [--guess] [--base IRI] MAIN {IMPORT}
+END
+says 'no word for the target of declare' 2 declare --to <<'END'
+words
+owl: a word is missing behind "--to": one of fss, ttl, omn
+END
+says 'another target of declare' 2 declare --to turtle zoo.ofn <<'END'
+words
+owl: "turtle" is none of fss, ttl, omn: is "ttl" meant?
+END
+says 'declare without a name' 2 declare --to ttl <<'END'
+words
+owl: the name of a document is missing: owl declare --to fss|ttl|omn [--partial] [--guess] [--base IRI] MAIN {IMPORT}
+END
+says '--guess in front of --partial of declare' 2 declare --to fss --guess --partial zoo.ofn <<'END'
+words
+owl: "--partial" stands once, in front of the names and in this order: owl declare --to fss|ttl|omn [--partial] [--guess] [--base IRI] MAIN {IMPORT}
+END
+says 'declare with a typing error' 2 decalre --to fss zoo.ofn <<'END'
+words
+owl: "decalre" is no command: is "declare" meant? owl --help says what there is
 END
 says '--to behind the name' 2 show zoo.ofn --to fss <<'END'
 words
@@ -472,7 +500,7 @@ owl: a word is empty: the name of a document stands there
 END
 says 'an empty first word' 2 '' <<'END'
 words
-owl: the first word is empty: a command stands there, as translate, check, show, same or trial
+owl: the first word is empty: a command stands there, as translate, declare, check, show, same or trial
 END
 says 'a word that is no UTF-8' 2 show $'zoo\xff.ofn' <<'END'
 words
@@ -1873,13 +1901,68 @@ END
 of_targets() {
 document zoo.ofn <<'END'
 Prefix(:=<http://e/>)
+Ontology(<http://e/zoo> Import(<http://e/farm>)
+  SubClassOf(:A ObjectSomeValuesFrom(:p :B)))
+END
+document farm.ofn <<'END'
+Prefix(:=<http://e/>)
+Ontology(<http://e/farm> Declaration(Class(:A)))
+END
+says 'declarations are added' 0 declare --to ttl zoo.ofn farm.ofn <<'END'
+declared; added 2; axioms 3; absorbed 0
+END
+holds 'and are those that the import lacks' grep -c -q -x ':p rdf:type owl:ObjectProperty .' "$seen/output"
+says 'declarations where an import is missing' 3 declare --to ttl zoo.ofn <<'END'
+zoo.ofn: MissingImport <http://e/farm>
+owl: zoo.ofn:2:32: no document that is named has the IRI of this import: name it behind the others, or put --partial in front of the names to do without
+    Ontology(<http://e/zoo> Import(<http://e/farm>)
+                                   ^
+END
+says 'declarations where an import may be missing' 0 declare --to omn --partial zoo.ofn <<'END'
+declared; added 3; axioms 4; absorbed 0
+END
+document farm.ofn <<'END'
+Prefix(:=<http://e/>)
+Ontology(<http://e/farm> Declaration(Class(:A)) Declaration(DataProperty(:p)))
+END
+says 'a property that an import declares as another kind' 4 declare --to fss zoo.ofn farm.ofn <<'END'
+typing: TwoKinds <http://e/p>
+owl: zoo.ofn:3:38: :p stands here, or is declared, as two kinds that no IRI may have together, as class and datatype, or as two kinds of properties: take two IRIs
+      SubClassOf(:A ObjectSomeValuesFrom(:p :B)))
+                                         ^
+END
+document farm.ofn <<'END'
+Prefix(:=<http://e/>)
+Ontology(<http://e/farm> SubClassOf(ObjectUnionOf(:A :B) :C))
+END
+says 'what frames cannot say with all declared' 4 declare --to omn farm.ofn <<'END'
+target: UnnamedSubject: SubClassOf(ObjectUnionOf(<http://e/A> <http://e/B>) <http://e/C>)
+owl: farm.ofn:2:26: a frame is of a name: give the class a name by an EquivalentClasses axiom, and say this of the name; --to ttl and --to fss can
+    Ontology(<http://e/farm> SubClassOf(ObjectUnionOf(:A :B) :C))
+                             ^
+END
+document farm.ttl <<'END'
+@prefix : <http://e/> . @prefix owl: <http://www.w3.org/2002/07/owl#> .
+:farm a owl:Ontology . :A a owl:Class ; :note "x" .
+END
+says 'a graph is not declared without a guess' 3 declare --to fss farm.ttl <<'END'
+farm.ttl: Untyped <http://e/A> <http://e/note> "x"
+owl: farm.ttl:2:41: :note is not declared here: say what it is, as by ":note a owl:ObjectProperty ." (or owl:DatatypeProperty, or owl:AnnotationProperty); or put --guess in front of the names to take such properties as annotation properties
+    :farm a owl:Ontology . :A a owl:Class ; :note "x" .
+                                            ^
+END
+says 'a graph is declared with a guess' 0 declare --to fss --guess farm.ttl <<'END'
+declared; added 0; axioms 3; absorbed 0
+END
+document zoo.ofn <<'END'
+Prefix(:=<http://e/>)
 Ontology(
   Declaration(Class(:A)) Declaration(ObjectProperty(:p)) Declaration(DataProperty(:d)) Declaration(DataProperty(:f))
   SubClassOf(:A :B))
 END
 says 'an undeclared class' 4 translate --to ttl zoo.ofn <<'END'
 typing: Undeclared Class <http://e/B>: SubClassOf(<http://e/A> <http://e/B>)
-owl: zoo.ofn:4:17: :B stands here as a class and is declared nowhere: add "Declaration(Class(:B))", or import a document that declares it
+owl: zoo.ofn:4:17: :B stands here as a class and is declared nowhere: "declare" in place of "translate" adds what is missing; or add "Declaration(Class(:B))", or import a document that declares it
       SubClassOf(:A :B))
                     ^
 END
@@ -1891,7 +1974,7 @@ Ontology(
 END
 says 'an undeclared datatype' 4 translate --to ttl zoo.ofn <<'END'
 typing: Undeclared Datatype <http://e/t>: DataPropertyRange(<http://e/d> <http://e/t>)
-owl: zoo.ofn:4:24: :t stands here as a datatype and is declared nowhere: add "Declaration(Datatype(:t))", or import a document that declares it
+owl: zoo.ofn:4:24: :t stands here as a datatype and is declared nowhere: "declare" in place of "translate" adds what is missing; or add "Declaration(Datatype(:t))", or import a document that declares it
       DataPropertyRange(:d :t))
                            ^
 END
@@ -1903,7 +1986,7 @@ Ontology(
 END
 says 'an undeclared object property' 4 translate --to ttl zoo.ofn <<'END'
 typing: Undeclared ObjectProperty <http://e/q>: FunctionalObjectProperty(<http://e/q>)
-owl: zoo.ofn:4:28: :q stands here as an object property and is declared nowhere: add "Declaration(ObjectProperty(:q))", or import a document that declares it
+owl: zoo.ofn:4:28: :q stands here as an object property and is declared nowhere: "declare" in place of "translate" adds what is missing; or add "Declaration(ObjectProperty(:q))", or import a document that declares it
       FunctionalObjectProperty(:q))
                                ^
 END
@@ -1915,7 +1998,7 @@ Ontology(
 END
 says 'an undeclared data property' 4 translate --to ttl zoo.ofn <<'END'
 typing: Undeclared DataProperty <http://e/e>: FunctionalDataProperty(<http://e/e>)
-owl: zoo.ofn:4:26: :e stands here as a data property and is declared nowhere: add "Declaration(DataProperty(:e))", or import a document that declares it
+owl: zoo.ofn:4:26: :e stands here as a data property and is declared nowhere: "declare" in place of "translate" adds what is missing; or add "Declaration(DataProperty(:e))", or import a document that declares it
       FunctionalDataProperty(:e))
                              ^
 END
@@ -1927,7 +2010,7 @@ Ontology(
 END
 says 'an undeclared annotation property' 4 translate --to ttl zoo.ofn <<'END'
 typing: Undeclared AnnotationProperty <http://e/note>: AnnotationAssertion(<http://e/note> <http://e/A> "x")
-owl: zoo.ofn:4:23: :note stands here as an annotation property and is declared nowhere: add "Declaration(AnnotationProperty(:note))", or import a document that declares it
+owl: zoo.ofn:4:23: :note stands here as an annotation property and is declared nowhere: "declare" in place of "translate" adds what is missing; or add "Declaration(AnnotationProperty(:note))", or import a document that declares it
       AnnotationAssertion(:note :A "x"))
                           ^
 END
@@ -1939,7 +2022,7 @@ Ontology(
 END
 says 'an undeclared class, for Manchester Syntax' 4 translate --to omn zoo.ofn <<'END'
 typing: Undeclared Class <http://e/B>: SubClassOf(<http://e/A> <http://e/B>)
-owl: zoo.ofn:4:17: :B stands here as a class and is declared nowhere: add "Declaration(Class(:B))", or import a document that declares it
+owl: zoo.ofn:4:17: :B stands here as a class and is declared nowhere: "declare" in place of "translate" adds what is missing; or add "Declaration(Class(:B))", or import a document that declares it
       SubClassOf(:A :B))
                     ^
 END
@@ -1949,7 +2032,7 @@ Ontology(<http://e/o> Annotation(:note "x"))
 END
 says 'an undeclared property of the header' 4 translate --to ttl zoo.ofn <<'END'
 typing: Undeclared AnnotationProperty <http://e/note>: header
-owl: zoo.ofn:2:34: :note stands here as an annotation property and is declared nowhere: add "Declaration(AnnotationProperty(:note))", or import a document that declares it
+owl: zoo.ofn:2:34: :note stands here as an annotation property and is declared nowhere: "declare" in place of "translate" adds what is missing; or add "Declaration(AnnotationProperty(:note))", or import a document that declares it
     Ontology(<http://e/o> Annotation(:note "x"))
                                      ^
 END
@@ -1962,7 +2045,7 @@ Ontology(
 END
 says 'an undeclared property that is a class first' 4 translate --to ttl zoo.ofn <<'END'
 typing: Undeclared ObjectProperty <http://e/A>: SubClassOf(<http://e/A> ObjectSomeValuesFrom(<http://e/A> <http://e/A>))
-owl: zoo.ofn:5:14: :A stands here as an object property and is declared nowhere: add "Declaration(ObjectProperty(:A))", or import a document that declares it
+owl: zoo.ofn:5:14: :A stands here as an object property and is declared nowhere: "declare" in place of "translate" adds what is missing; or add "Declaration(ObjectProperty(:A))", or import a document that declares it
       SubClassOf(:A ObjectSomeValuesFrom(:A :A)) SubClassOf(:A ObjectSomeV...
                  ^
 END
@@ -2404,10 +2487,15 @@ completes() {
     holds "completions of $line" test "$found" = "$wanted"
 }
 mkdir zoos && cd zoos && touch a.ofn b.ttl c.omn d.txt && mkdir inner
-completes 'owl ' translate check show same trial --help --version --install --build --quiet
+completes 'owl ' translate declare check show same trial --help --version --install --build --quiet
 completes 'owl t' translate trial
 completes 'owl translate ' --to
 completes 'owl translate --to ' fss ttl omn
+completes 'owl d' declare
+completes 'owl declare ' --to
+completes 'owl declare --to ' fss ttl omn
+completes 'owl declare --to ttl --partial --' --guess --base
+completes 'owl declare --to omn ' a.ofn b.ttl c.omn inner
 completes 'owl check --profile ' dl el ql rl
 completes 'owl check --profile dl ' a.ofn b.ttl c.omn inner
 completes 'owl check --profile dl --' --partial --guess --base

@@ -296,6 +296,14 @@ call 'the second document is wrong' 3 '' 'bytes.ofn: item at 9: BadUtf8 at 9
 ' same m.ofn bytes.ofn
 call 'a class is not declared' 4 '' 'typing: Undeclared Class <http://e/B>: SubClassOf(<http://e/A> <http://e/B>)
 ' translate --to ttl a.ofn
+call 'a class that is not declared is added' 0 "Prefix(:=<http://e/>)
+${four}Ontology(<http://e/o> <http://e/v>
+Declaration(Class(:A))
+Declaration(Class(:B))
+SubClassOf(:A :B)
+)
+" 'declared; added 1; axioms 3; absorbed 0
+' declare --to fss a.ofn
 call 'a name is reserved' 4 '' 'target: Reserved <http://www.w3.org/2002/07/owl#Class>: Declaration(Class(<http://www.w3.org/2002/07/owl#Class>))
 ' translate --to ttl reserved.ofn
 call 'a reserved name in Manchester Syntax' 0 "${four_of_frames}Ontology:
@@ -360,6 +368,10 @@ call 'frames of more than 2^27 bytes' 5 '' 'limit: OutputBytes: output
 ' translate --to omn declared.ofn
 call 'a weight of 2^24, and a declaration that frames have' 5 '' 'limit: Weight: output
 ' translate --to omn typed.ofn kinds.ofn
+call 'a weight of 2^24, and a declaration that it needs' 5 '' 'limit: Weight: output
+' declare --to fss heavy.ofn
+call 'a declaration that a text of more than 2^27 bytes needs' 5 '' 'limit: OutputBytes: output
+' declare --to omn lengthy.ofn
 call '2^27 + 1 bytes' 5 '' 'limit: DocumentBytes: big.ofn
 ' translate --to fss big.ofn
 call '2^27 bytes' 0 "$nothing" "$done_line" translate --to fss full.ofn

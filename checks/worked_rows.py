@@ -77,6 +77,11 @@ the word for guesses in front of the target | guesses: the_word_before_the_targe
 a guessed property through all three syntaxes | guesses: a_guess_to_turtle a_guess_to_turtle_back a_guess_to_manchester_syntax
 a base of a document without a base, and of one that sets its own | bases: a_header_that_is_the_base a_base_of_main a_relative_base_of_main
 an import without a base beside a document that has one | bases: an_import_without_a_base
+= declarations that are added
+a restriction of which nothing is declared | declare: a_restriction_to_functional_style_syntax a_restriction_to_turtle a_restriction_to_manchester_syntax
+a property of objects and of data | declare: two_kinds_of_properties
+a class that an import declares | declare: an_import_that_declares_a_class_to_functional_style_syntax
+all kinds, in order | declare: by_kind_and_by_bytes
 = graphs that are refused
 no header, and two | graphs: no_header two_headers
 a list in a circle | graphs: a_list_in_a_circle

@@ -9,12 +9,12 @@ _owl() {
     case $at:${COMP_WORDS[first]-} in
     -*) ;;
     0:*)
-        choices='translate check show same trial --help --version --install --build'
+        choices='translate declare check show same trial --help --version --install --build'
         ((first == 2)) || choices+=' --quiet'
         ;;
-    1:translate) choices=--to ;;
+    1:translate | 1:declare) choices=--to ;;
     1:check) choices=--profile ;;
-    2:translate) choices='fss ttl omn' ;;
+    2:translate | 2:declare) choices='fss ttl omn' ;;
     2:check) choices='dl el ql rl' ;;
     *:trial) ;;
     1:--install)
@@ -24,7 +24,7 @@ _owl() {
     1:--build) choices=--keep ;;
     1:--*) ;;
     *:show) _owl_rest "$word" $((first + 1)) ;;
-    *:translate | *:check) _owl_rest "$word" $((first + 3)) ;;
+    *:translate | *:declare | *:check) _owl_rest "$word" $((first + 3)) ;;
     *) _owl_names "$word" ;;
     esac
     [[ -z $choices ]] || mapfile -t -O "${#COMPREPLY[@]}" COMPREPLY < <(compgen -W "$choices" -- "$word")

@@ -602,11 +602,11 @@ listed() {
     [[ -z $found ]] || printf ' (it has %s)' "$(clean "$found")"
 }
 
-# Says of an IRI that it has two kinds.
+# explain_kinds FILE IRI [IS]: says of an IRI that it has two kinds.
 explain_kinds() {
-    local file=$1 iri=$2
+    local file=$1 iri=$2 is=${3:-is declared}
     find_name "$file" "${iri:1:-1}"
-    say '%s is declared as two kinds that no IRI may have together, as class and datatype, or as two kinds of properties: take two IRIs' "$(named "$iri")"
+    say '%s %s as two kinds that no IRI may have together, as class and datatype, or as two kinds of properties: take two IRIs' "$(named "$iri")" "$is"
 }
 
 # Sets the place to where an IRI is first named.
@@ -726,10 +726,11 @@ explain_target() {
         kind=${BASH_REMATCH[1]} iri=${BASH_REMATCH[2]}
         find_item "$main" "${line#"${BASH_REMATCH[0]}"}" "${iri:1:-1}"
         iri=$(named "$iri")
-        say '%s stands here as %s and is declared nowhere: add "%s", or import a document that declares it' \
+        say '%s stands here as %s and is declared nowhere: "declare" in place of "translate" adds what is missing; or add "%s", or import a document that declares it' \
             "$iri" "$(a_kind "$kind")" "$(declaration "$main" "$kind" "$iri")"
     elif [[ $line =~ $of_kinds ]]; then
-        explain_kinds "$main" "${BASH_REMATCH[1]}"
+        # With what is added, a name is declared as what it stands for.
+        explain_kinds "$main" "${BASH_REMATCH[1]}" "${adds:+stands here, or is declared,}"
     elif [[ $line =~ $of_target ]]; then
         why=${BASH_REMATCH[1]} iri=${BASH_REMATCH[3]-}
         find_item "$main" "${line#"${BASH_REMATCH[0]}"}" "$iri"
@@ -869,14 +870,16 @@ explain_no() {
 }
 
 # Sets `names` to the documents that the words of a command name, `main` to the
-# main one, if there is one, `guesses` where the command guesses, and `base`.
+# main one, if there is one, `adds` where the command adds declarations, `guesses`
+# where it guesses, and `base`.
 name_documents() {
     local command=$1
     names=()
     case $command in
-    translate | check) shift 3 ;;
+    translate | declare | check) shift 3 ;;
     *) shift ;;
     esac
+    [[ $command != declare ]] || adds=yes
     [[ ${1-} != --partial ]] || shift
     [[ ${1-} != --guess ]] || { guesses=yes && shift; }
     [[ ${1-} != --base ]] || { base=$2 && shift 2; }
@@ -886,7 +889,7 @@ name_documents() {
 
 # explain STATUS LINE WORD..: says what people want to know.
 explain() {
-    local status=$1 line=${2%$'\n'} place='' shown='' rest='' ended='' lib=$top/lib name main='' guesses='' base=''
+    local status=$1 line=${2%$'\n'} place='' shown='' rest='' ended='' lib=$top/lib name main='' adds='' guesses='' base=''
     local -a names
     shift 2
     export LC_ALL=C

@@ -2,7 +2,7 @@
 # explain.sh sources it.
 # shellcheck shell=bash
 
-actions=(translate check show same trial)
+actions=(translate declare check show same trial)
 
 # Says what is wrong with the words of a command, from its names on.
 explain_names() {
@@ -195,16 +195,16 @@ explain_same() {
 explain_words() {
     local word=${1-} near
     case $word in
-    translate) explain_option translate --to 'fss ttl omn' "${@:2}" ;;
+    translate | declare) explain_option "$word" --to 'fss ttl omn' "${@:2}" ;;
     check) explain_option check --profile 'dl el ql rl' "${@:2}" ;;
     show) explain_rest "owl show $options" "${@:2}" ;;
     same) explain_same "${@:2}" ;;
     trial) explain_trial "${@:2}" ;;
     '')
         if (($#)); then
-            say 'the first word is empty: a command stands there, as translate, check, show, same or trial'
+            say 'the first word is empty: a command stands there, as translate, declare, check, show, same or trial'
         else
-            say 'a command is missing: translate, check, show, same or trial; owl --help says more'
+            say 'a command is missing: translate, declare, check, show, same or trial; owl --help says more'
         fi
         ;;
     -h | -help | help | -\?) say '"%s" is no command: owl --help says what there is' "$(clean "$word")" ;;
@@ -213,7 +213,7 @@ explain_words() {
     --install) say '"--install" has at most one folder behind it: owl --install [FOLDER]' ;;
     --build) say '"--build" has nothing behind it but --keep: owl --build [--keep]' ;;
     --quiet) say '"--quiet" stands once' ;;
-    --to | --to=* | --profile | --profile=* | --partial | --guess | --base | --base=*) say '"%s" stands behind a command: translate, check or show is the first word' "$(clean "$word")" ;;
+    --to | --to=* | --profile | --profile=* | --partial | --guess | --base | --base=*) say '"%s" stands behind a command: translate, declare, check or show is the first word' "$(clean "$word")" ;;
     *)
         near=$(nearest "$word" "${actions[@]}")
         case $word in
@@ -226,9 +226,9 @@ explain_words() {
         if [[ -n $near ]]; then
             say '"%s" is no command: is "%s" meant? owl --help says what there is' "$(clean "$word")" "$near"
         elif [[ $word == *.* ]]; then
-            say 'a command is missing in front of "%s": translate, check, show or same; owl --help says more' "$(clean "$word")"
+            say 'a command is missing in front of "%s": translate, declare, check, show or same; owl --help says more' "$(clean "$word")"
         else
-            say '"%s" is no command: one of translate, check, show, same and trial; owl --help says more' "$(clean "$word")"
+            say '"%s" is no command: one of translate, declare, check, show, same and trial; owl --help says more' "$(clean "$word")"
         fi
         ;;
     esac
