@@ -19,7 +19,14 @@ use Rattle.rdf_mapping.specs.Entries.{note_links}
 use Rattle.rdf_axioms.specs.AxiomReading.{IsReadBack, IsWellDrawn, main_of}
 use Rattle.rdf_states.specs.Places.{Stand, first_number, stand_node, stands_of}
 
--- The graph holds what is drawn of the ontology, with nodes that have names of their own, and keeps each of its groups of axioms.
+-- The graph holds what is drawn of the ontology, each triple once, with nodes that have names of their own.
+pub record IsDrawnBy (name : ℕ → List ℕ) (g : List Triple) (o : Ontology) : Type 0 where
+  pub differ : AreNamedApart name (made_nodes o)
+  pub apart : AreApart g
+  pub holds : (t : Triple) → Contains g t ↔ Contains (made_triples name o) t
+  pub fresh : (label : List ℕ) → Contains (labels_of o) label → IsForeign name (made_nodes o) (Blank label)
+
+-- and keeps each of the groups of axioms
 pub record IsGraphOf (name : ℕ → List ℕ) (g : List Triple) (o : Ontology) : Type 0 where
   pub differ : AreNamedApart name (made_nodes o)
   pub apart : AreApart g

@@ -5,9 +5,12 @@ pub mod GraphOf
 pub mod GraphStatesLaws
 pub mod HeadLaws
 pub mod KeptLaws
+pub mod LabelStandLaws
 pub mod MainNodeLaws
 pub mod MarkLaws
+pub mod NamedEntryLaws
 pub mod NormalStatesLaws
+pub mod NumberStandLaws
 pub mod OnePlaceLaws
 pub mod OneTripleLaws
 pub mod OntologyLaws
@@ -16,6 +19,8 @@ pub mod OwnKindLaws
 pub mod PartNodeLaws
 pub mod ReadLaws
 pub mod RedundantLaws
+pub mod RenamedDrawingLaws
+pub mod RenamedStatesLaws
 pub mod RoleLaws
 pub mod SetReadLaws
 pub mod SideLaws

@@ -48,11 +48,11 @@ use Rattle.rdf_mapping.proofs.SortLaws.{structural_of_node}
 use Rattle.rdf_mapping.proofs.SpellingLaws.{carried}
 use Rattle.rdf_axioms.specs.AxiomReading.{main_of}
 use Rattle.rdf_states.proofs.CountLaws.{few_labels}
-use Rattle.rdf_states.proofs.GraphOf.{AreReadBack, AreWellDrawn, IsGraphOf, LabelsAreSingle}
+use Rattle.rdf_states.proofs.GraphOf.{AreReadBack, AreWellDrawn, IsDrawnBy, IsGraphOf, LabelsAreSingle}
 use Rattle.rdf_states.proofs.GraphStatesLaws.{entries, graph_is, single as graph_single}
 use Rattle.rdf_states.proofs.MarkLaws.{structural_mark, structural_word}
 use Rattle.rdf_states.proofs.NormalStatesLaws.{form_said}
-use Rattle.rdf_states.proofs.OntologyLaws.{all_drawn, all_read}
+use Rattle.rdf_states.proofs.OntologyLaws.{all_drawn, all_read, fresh_drawn}
 use Rattle.rdf_states.proofs.OwnKindLaws.{own_axioms_typed, own_declarable, own_kinds, own_notes_typed}
 use Rattle.rdf_states.proofs.PartNodeLaws.{part_node, part_sound}
 use Rattle.rdf_states.specs.Places.{IsMade, of_head, of_header_note, of_axiom, at_end, is_main, at_node, at_note, StandsAt, stand_node}
@@ -213,9 +213,9 @@ module _ (k : List Entity) (o : Ontology) (c : CanBeDrawn k o) (name : ℕ → L
     graph_thinned : thinned g ≡ g
     graph_thinned = none_redundant g (λ t m. false_from_ne_true (is_redundant g t) (no_redundant t m))
 
--- The graph of an ontology in normal form of which all can be said is its own thinned graph.
-pub graph_is_thin : (o : Ontology) → IsOntology o → normal_form o ≡ o → CanSayAll o → made_nodes o + length (labels_of o) ≤ 9 * 10 ^ 18 → thinned (graph_of o) ≡ graph_of o
-graph_is_thin o is normal said few =
+-- The graph of an ontology in normal form of which all can be said is its own thinned graph, whatever its nodes are called.
+pub drawing_is_thin : (o : Ontology) (name : ℕ → List ℕ) (g : List Triple) → IsDrawnBy name g o → IsOntology o → normal_form o ≡ o → CanSayAll o → made_nodes o + length (labels_of o) ≤ 9 * 10 ^ 18 → thinned g ≡ g
+drawing_is_thin o name g d is normal said few =
     let k = own_kinds o in
     let c : CanBeDrawn k o = record {
       is_ontology = is;
@@ -225,9 +225,12 @@ graph_is_thin o is normal said few =
       typed_axioms = own_axioms_typed o;
       few = few;
     } in
-    let drawn = all_drawn k o c in
-    let read = all_read k o c in
-    graph_thinned k o c (fresh_name (labels_of o)) (graph_of o) (graph_is k o c drawn) drawn (graph_single k o c drawn) read (entries k o c drawn read) (own_declarable o said kind.Class)
+    let drawn = all_drawn k o c name g d in
+    let read = all_read k o c name g d in
+    graph_thinned k o c name g (graph_is k o c name g d drawn) drawn (graph_single k o c name g d drawn) read (entries k o c name g d drawn read) (own_declarable o said kind.Class)
+
+pub graph_is_thin : (o : Ontology) → IsOntology o → normal_form o ≡ o → CanSayAll o → made_nodes o + length (labels_of o) ≤ 9 * 10 ^ 18 → thinned (graph_of o) ≡ graph_of o
+graph_is_thin o is normal said few = drawing_is_thin o (fresh_name (labels_of o)) (graph_of o) (fresh_drawn o few) is normal said few
 
 -- and so is that of a normal form
 pub form_is_thin : (o : Ontology) → IsOntology o → CanSayAll o → ontology_weight (normal_form o) ≤ heaviest → thinned (graph_of (normal_form o)) ≡ graph_of (normal_form o)

@@ -3,3 +3,4 @@ pub mod PlaceLaws
 pub mod UnderLaws
 pub mod Annotations
 pub mod Stated
+pub mod Renamed
