@@ -2,7 +2,7 @@ mod ExistLaws
 mod FormLaws
 mod LineWritingLaws
 mod OnceLaws
-mod OneFormLaws
+pub mod OneFormLaws
 mod Parts
 mod TripleLaws
 mod WholeLaws
