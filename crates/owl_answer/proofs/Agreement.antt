@@ -7,11 +7,11 @@ use Rattle.owl_close.proofs.ImportsLaws.{missing_once}
 use Rattle.owl_command.specs.declared.command.Options.{Options}
 use Rattle.owl_command.specs.Commands.{Request, compares, names_of, of_main, tries}
 use Rattle.owl_command.specs.declared.command.Action.{Action}
-use Rattle.owl_command.specs.declared.command.Action.TheVariants.{Translate, Check, Show, Declare}
+use Rattle.owl_command.specs.declared.command.Action.TheVariants.{Translate, Check, Show, Declare, Canon, Digest}
 use Rattle.owl_command.specs.declared.command.Profile.{Profile}
 use Rattle.owl_command.specs.declared.command.Target.{Target as Syntax}
 use Rattle.owl_command.specs.declared.command.Target.TheVariants.{Fss, Ttl, Omn}
-use Rattle.owl_documents.specs.Documents.{IsSame, Parsed, Said, a_graph, an_ontology, the_frames}
+use Rattle.owl_documents.specs.Documents.{IsSame, Parsed, Said, a_graph, an_ontology, in_bytes, in_functional, the_frames}
 use Rattle.owl_documents.specs.OneWay.{IsSameParsed, NeverBoth, ReadOneWay, RefusedOneWay}
 use Rattle.owl_declare.proofs.NeedLaws.{needed_once}
 use Rattle.owl_declare.specs.Needed.{with_needs}
@@ -29,6 +29,7 @@ use Rattle.owl_answer.specs.KindsAt.{AreClosureKinds}
 use Rattle.owl_answer.specs.Outcome.{IsComparison, agree, differ, heads_in}
 use Rattle.owl_answer.specs.Runs.{AnswersBy, AnswersWith, Concludes, IsActionOutcome, IsDeclaration, IsToldWith, IsTranslation, clashes, declared_whole, heavy, all_say, misses_import, misses_none, says_nothing}
 use Rattle.owl_answer.specs.UnderKinds.{AllSay, HasKinds, HoldsOfMain, HoldsOfTwo, IsFirstUnsaid, IsReadUnder, IsUnsaidAt, IsUnsaidUnder, SaysAt, SaysUnder}
+use Rattle.owl_answer.proofs.BytesOnce.{canonical_same, digested_same}
 use Rattle.owl_answer.proofs.Checks.{checked_once, checked_there, form_at, reached_stands}
 use Rattle.owl_answer.proofs.Closures.{closure_once, own_once}
 use Rattle.owl_answer.proofs.GuessedDocuments.{guessed_once}
@@ -37,7 +38,7 @@ use Rattle.owl_answer.proofs.Same.{never_says_both, parsed_back, parsed_refl, sa
 use Rattle.owl_answer.proofs.TrialOnce.{trial_once}
 use Rattle.owl_answer.proofs.TurtleOnce.{functional_once, functional_same, same_said, shown_same, translation_alike, translation_once, translation_same}
 use Rattle.owl_answer.proofs.Wanting.{limited_more, limited_once}
-use Rattle.owl_messages.specs.Outcome.{Outcome, declared, missing_import, shown, told_with, translated, translation}
+use Rattle.owl_messages.specs.Outcome.{Outcome, canonical, declared, missing_import, shown, told_with, translated, translation}
 use Rattle.owl_messages.specs.Unsaid.{unsaid_outcome}
 
 -- a document that is read as the same stands at this place, and is read under these kinds
@@ -53,16 +54,19 @@ pub record Agree (request : Request) (ds es : List Parsed) : Type 0 where
 -- what is told of the same is the same
 
 told_same : (target : Syntax) (p q : Parsed) (kinds : List Entity) (a b : Said) (outcome : Outcome) → IsSameParsed p q → IsSame a b → IsTranslation target p kinds a outcome → IsTranslation target q kinds b outcome
-told_same Fss (an_ontology x) (an_ontology y) kinds a b outcome s t h = limited_more _ _ (λ o k. k ∙ translation_same a b t) outcome h
-told_same Fss (an_ontology x) (a_graph y) kinds a b outcome s t h = absurd s
-told_same Fss (a_graph x) (an_ontology y) kinds a b outcome s t h = absurd s
-told_same Fss (an_ontology x) (the_frames y) kinds a b outcome s t h = absurd s
+told_same Fss (an_ontology in_functional x) (an_ontology in_functional y) kinds a b outcome s t h = limited_more _ _ (λ o k. k ∙ translation_same a b t) outcome h
+told_same Fss (an_ontology in_bytes x) (an_ontology in_bytes y) kinds a b outcome s t h = functional_same kinds a b outcome t h
+told_same Fss (an_ontology in_functional x) (an_ontology in_bytes y) kinds a b outcome s t h = let e = s.0 in absurd (cc)
+told_same Fss (an_ontology in_bytes x) (an_ontology in_functional y) kinds a b outcome s t h = let e = s.0 in absurd (cc)
+told_same Fss (an_ontology v x) (a_graph y) kinds a b outcome s t h = absurd s
+told_same Fss (a_graph x) (an_ontology w y) kinds a b outcome s t h = absurd s
+told_same Fss (an_ontology v x) (the_frames y) kinds a b outcome s t h = absurd s
 told_same Fss (a_graph x) (the_frames y) kinds a b outcome s t h = absurd s
-told_same Fss (the_frames x) (an_ontology y) kinds a b outcome s t h = absurd s
+told_same Fss (the_frames x) (an_ontology w y) kinds a b outcome s t h = absurd s
 told_same Fss (the_frames x) (a_graph y) kinds a b outcome s t h = absurd s
 told_same Fss (a_graph x) (a_graph y) kinds a b outcome s t h = functional_same kinds a b outcome t h
 told_same Fss (the_frames x) (the_frames y) kinds a b outcome s t h = functional_same kinds a b outcome t h
-told_same Ttl p q kinds a b outcome s t h = translation_alike kinds kinds a b outcome (λ kind iri. (λ k. k, λ k. k)) t h
+told_same (Ttl layout) p q kinds a b outcome s t h = translation_alike layout kinds kinds a b outcome (λ kind iri. (λ k. k, λ k. k)) t h
 told_same Omn p q kinds a b outcome s t h = manchester_alike kinds kinds a b outcome (λ kind iri. (λ k. k, λ k. k)) t h
 
 comparison_same : (a b c d : Said) → IsSame a c → IsSame b d → (outcome : Outcome) → IsComparison a b outcome → IsComparison c d outcome
@@ -78,11 +82,12 @@ comparison_once a b one other (differ h e) (agree k f) = absurd (h k)
 comparison_once a b one other (differ h e) (differ k f) = e ∙ sym f
 
 translation_told_once : (target : Syntax) (p : Parsed) (kinds : List Entity) (main : Said) (a b : Outcome) → IsTranslation target p kinds main a → IsTranslation target p kinds main b → a ≡ b
-translation_told_once Fss (an_ontology x) kinds main a b h k =
+translation_told_once Fss (an_ontology in_functional x) kinds main a b h k =
     limited_once (λ o. o ≡ translation main) (λ o. o ≡ translation main) (λ x y p q. p ∙ sym q) a b h k
+translation_told_once Fss (an_ontology in_bytes x) kinds main a b h k = functional_once kinds main a b h k
 translation_told_once Fss (a_graph x) kinds main a b h k = functional_once kinds main a b h k
 translation_told_once Fss (the_frames x) kinds main a b h k = functional_once kinds main a b h k
-translation_told_once Ttl p kinds main a b h k = translation_once kinds main a b h k
+translation_told_once (Ttl layout) p kinds main a b h k = translation_once layout kinds main a b h k
 translation_told_once Omn p kinds main a b h k = manchester_once kinds main a b h k
 
 -- what is told with the same in front is one
@@ -96,7 +101,7 @@ module _ (front : List ℕ → List ℕ) where
 -- a document has what it needs declared in one way
 module _ (target : Syntax) (kinds : List Entity) (main : Said) where
   abbrev With : List Entity → List Entity → Outcome → Type 0
-  With needs known = IsToldWith (declared (length needs)) (IsTranslation target (an_ontology (declared_said needs main)) known (declared_said needs main))
+  With needs known = IsToldWith (declared (length needs)) (IsTranslation target (an_ontology in_functional (declared_said needs main)) known (declared_said needs main))
 
   known_once : (needs known others : List Entity) → AreKnown kinds main needs known → AreKnown kinds main needs others → known ≡ others
   known_once needs known others h k =
@@ -125,8 +130,8 @@ module _ (target : Syntax) (kinds : List Entity) (main : Said) where
       let same = needed_once kinds needs others main.ontology h.needed k.needed in
       let alike = known_once others known theirs (subst (λ (es : List Entity). AreKnown kinds main es known) same h) k in
       let moved : With others theirs a = subst (λ (ks : List Entity). With others ks a) alike (subst (λ (es : List Entity). With es known a) same v) in
-      told_with_once (declared (length others)) (IsTranslation target (an_ontology (declared_said others main)) theirs (declared_said others main))
-      (translation_told_once target (an_ontology (declared_said others main)) theirs (declared_said others main)) a b moved w
+      told_with_once (declared (length others)) (IsTranslation target (an_ontology in_functional (declared_said others main)) theirs (declared_said others main))
+      (translation_told_once target (an_ontology in_functional (declared_said others main)) theirs (declared_said others main)) a b moved w
 
 -- what becomes of the same by an action is the same, and one
 
@@ -136,6 +141,8 @@ module _ (ds es : List Parsed) (outcome : Outcome) (checked : (profile : Profile
   acted_same (Check profile) p q kinds a b s t h = checked profile h
   acted_same Show p q kinds a b s t h = limited_more _ _ (λ o k. k ∙ shown_same a b t) outcome h
   acted_same (Declare target) p q kinds a b s t h = subst (λ (x : Said). IsDeclaration target kinds x outcome) (same_said a b t) h
+  acted_same Canon p q kinds a b s t h = limited_more _ _ (λ o k. k ∙ canonical_same a b t) outcome h
+  acted_same Digest p q kinds a b s t h = h ∙ digested_same a b t
 
 acted_once : (documents : List Parsed) (action : Action) (p : Parsed) (kinds : List Entity) (main : Said) (a b : Outcome) → IsActionOutcome action documents p kinds main a → IsActionOutcome action documents p kinds main b → a ≡ b
 acted_once documents (Translate target) p kinds main a b h k =
@@ -144,6 +151,9 @@ acted_once documents (Check profile) p kinds main a b h k = checked_once profile
 acted_once documents Show p kinds main a b h k =
     limited_once (λ o. o ≡ shown main) (λ o. o ≡ shown main) (λ x y e f. e ∙ sym f) a b h k
 acted_once documents (Declare target) p kinds main a b h k = declaration_once target kinds (canonical_said main) a b h k
+acted_once documents Canon p kinds main a b h k =
+    limited_once (λ o. o ≡ canonical main) (λ o. o ≡ canonical main) (λ x y e f. e ∙ sym f) a b h k
+acted_once documents Digest p kinds main a b h k = h ∙ sym k
 
 -- what is concluded of some documents is concluded of others that agree
 

@@ -29,12 +29,12 @@ use Rattle.owl_answer.proofs.GuessedDocuments.{with_heads}
 -- ---- nothing is guessed of what is read
 
 abbrev NoneGuessed : Parsed → Type 0
-NoneGuessed (an_ontology said) = Unit {0}
+NoneGuessed (an_ontology written said) = Unit {0}
 NoneGuessed (a_graph read) = read.guessed ≡ []
 NoneGuessed (the_frames d) = Unit {0}
 
 reads_none : (base : Option (List ℕ)) (name bytes : List ℕ) (parsed : Parsed) → Reads base name bytes parsed → NoneGuessed parsed
-reads_none base name bytes (an_ontology said) h = tt
+reads_none base name bytes (an_ontology written said) h = tt
 reads_none base name bytes (a_graph read) h = h.1.none_guessed
 reads_none base name bytes (the_frames d) h = tt
 
@@ -69,7 +69,7 @@ guessed_entity (name ∷ names) kind iri m =
 
 module _ (kinds : List Entity) where
   declares_with : (parsed : Parsed) → NoneGuessed parsed → (kind : Kind) (iri : List ℕ) → DeclaresAs parsed kind iri → DeclaresAs (with_guesses kinds parsed) kind iri
-  declares_with (an_ontology said) none kind iri h = h
+  declares_with (an_ontology written said) none kind iri h = h
   declares_with (the_frames d) none kind iri h = h
   declares_with (a_graph read) none kind iri h =
       elim (Contains-append_cases (declarations read.triples) (guessed_entities read.guessed) (entity kind iri) h) [
@@ -84,7 +84,7 @@ module _ (kinds : List Entity) where
 
   declares_from : (parsed : Parsed) (kind : Kind) (iri : List ℕ) → DeclaresAs (with_guesses kinds parsed) kind iri →
       DeclaresAs parsed kind iri ⊎ ((kind ≡ AnnotationProperty) × (may_be_guessed kinds iri ≡ true))
-  declares_from (an_ontology said) kind iri h = inl h
+  declares_from (an_ontology written said) kind iri h = inl h
   declares_from (the_frames d) kind iri h = inl h
   declares_from (a_graph read) kind iri h =
       let names = guessed (thinned read.triples) kinds in

@@ -35,7 +35,7 @@ guessed_once (tries size) documents gs hs h k = h ∙ sym k
 -- ---- their heads and their number are those of the documents
 
 head_with : (kinds : List Entity) (parsed : Parsed) → head_in (with_guesses kinds parsed) ≡ head_in parsed
-head_with kinds (an_ontology said) = refl
+head_with kinds (an_ontology written said) = refl
 head_with kinds (a_graph read) = refl
 head_with kinds (the_frames d) = refl
 
@@ -63,10 +63,10 @@ guessed_length request documents gs h =
 -- ---- documents that are read as the same
 
 same_with : (kinds : List Entity) (d e : Parsed) → IsSameParsed d e → IsSameParsed (with_guesses kinds d) (with_guesses kinds e)
-same_with kinds (an_ontology a) (an_ontology b) s = s
-same_with kinds (an_ontology a) (a_graph b) s = absurd s
-same_with kinds (an_ontology a) (the_frames b) s = absurd s
-same_with kinds (a_graph a) (an_ontology b) s = absurd s
+same_with kinds (an_ontology v a) (an_ontology w b) s = s
+same_with kinds (an_ontology v a) (a_graph b) s = absurd s
+same_with kinds (an_ontology v a) (the_frames b) s = absurd s
+same_with kinds (a_graph a) (an_ontology w b) s = absurd s
 same_with kinds (a_graph a) (a_graph b) s = record {
   prefixes = s.prefixes;
   triples = s.triples;
@@ -74,7 +74,7 @@ same_with kinds (a_graph a) (a_graph b) s = record {
   guessed = ap (λ (ts : List Triple). guessed (thinned ts) kinds) s.triples;
 }
 same_with kinds (a_graph a) (the_frames b) s = absurd s
-same_with kinds (the_frames a) (an_ontology b) s = absurd s
+same_with kinds (the_frames a) (an_ontology w b) s = absurd s
 same_with kinds (the_frames a) (a_graph b) s = absurd s
 same_with kinds (the_frames a) (the_frames b) s = s
 

@@ -1,9 +1,11 @@
 pub mod Agreement
 pub mod Answering
 pub mod BreachLists
+pub mod BytesOnce
 pub mod Checks
 pub mod Closures
 pub mod Concluding
+pub mod GraphTextLaws
 pub mod GuessedClashes
 pub mod GuessedDocuments
 pub mod Heads
@@ -15,6 +17,7 @@ pub mod ManchesterOnce
 pub mod Manchesters
 pub mod Proper
 pub mod Readings
+pub mod RenamedGraphs
 pub mod Same
 pub mod Sayings
 pub mod ToldActions

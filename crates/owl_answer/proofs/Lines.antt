@@ -4,16 +4,17 @@ use Rattle.owl_reader.specs.declared.fault.ReadFault.TheVariants as read
 use Rattle.owl_command.specs.declared.command.Options.{Options}
 use Rattle.owl_command.specs.Commands.{IsAmong, Request, compares, names_of, of_main, tries}
 use Rattle.owl_command.specs.declared.command.Action.{Action}
-use Rattle.owl_command.specs.declared.command.Action.TheVariants.{Translate, Check, Show, Declare}
+use Rattle.owl_command.specs.declared.command.Action.TheVariants.{Translate, Check, Show, Declare, Canon, Digest}
 use Rattle.owl_command.specs.declared.command.Profile.{Profile}
 use Rattle.owl_breaches.specs.Sites.{Site}
 use Rattle.owl_kind.specs.Kinds.{Entity}
+use Rattle.owl_command.specs.declared.command.Layout.{Layout}
 use Rattle.owl_command.specs.declared.command.Target.{Target}
 use Rattle.owl_command.specs.declared.command.Target.TheVariants.{Fss, Ttl, Omn}
 use Rattle.owl_command.specs.declared.status.Status.TheVariants.{Done}
-use Rattle.owl_documents.specs.Documents.{Parsed, Said, a_graph, an_ontology, the_frames, IsProperRefusal}
+use Rattle.owl_documents.specs.Documents.{Parsed, Said, a_graph, an_ontology, in_bytes, in_functional, the_frames, IsProperRefusal}
 use Rattle.owl_documents.specs.declared.trouble.Refusal.{Refusal}
-use Rattle.owl_documents.specs.declared.trouble.Refusal.TheVariants.{DocumentBytes, AllBytes, Unreadable, Headless}
+use Rattle.owl_documents.specs.declared.trouble.Refusal.TheVariants.{DocumentBytes, AllBytes, Unreadable, Headless, NotCanon}
 use Rattle.owl_profiles.specs.Profiles.{ProfileRule}
 use Rattle.owl_answer.specs.Outcome.{IsComparison, IsSuccess, agree, differ}
 use Rattle.owl_answer.specs.Checks.{IsChecked}
@@ -21,7 +22,7 @@ use Rattle.owl_messages.specs.Refusals.{two_kinds, undeclared, unsayable}
 use Rattle.owl_messages.specs.Verdicts.{verdict}
 use Rattle.owl_answer.specs.Runs.{AnswersWith, AsksOtherSyntax, AsksTranslation, AsksTurtle, IsDeclaration, IsToldWith, declared_whole, of_clash, of_declarations, AnswersBy, Concludes, IsActionOutcome, IsIllTyped, IsTranslation, IsUnsayable, LineFor, SuccessLine, all_say, misses_import, misses_none, of_bytes, of_import, of_output, of_part, of_refusal, of_saying, of_success, of_trial, of_triples, of_two_kinds, of_typing, of_undeclared, of_unsayable, of_weight, says_nothing}
 use Rattle.owl_answer.specs.ManchesterOutcome.{IsToldInManchester, manchester_form, manchester_translation}
-use Rattle.owl_answer.specs.TurtleOutcome.{IsFormTold, IsGraphTold, IsTold as IsOfTurtle, IsTypingRefusal, canonical_said, clashes, few, graph_translation, heavy, ill_typed, light, many, not_typed, ready, unsaid, untyped, well_typed}
+use Rattle.owl_answer.specs.TurtleOutcome.{IsFormTold, IsGraphTold, IsTold as IsOfTurtle, IsTypingRefusal, canonical_said, clashes, few, heavy, ill_typed, light, many, not_typed, ready, unsaid, untyped, well_typed}
 use Rattle.owl_answer.specs.Answers.{IsProper}
 use Rattle.owl_tree.proofs.OntologyLaws.{canonical_ontology_again, canonical_same_ontology, same_ontology_refl}
 use Rattle.owl_tree.specs.Ontologies.{IsSameOntology, Ontology, canonical_ontology}
@@ -34,7 +35,7 @@ use Rattle.owl_answer.proofs.Proper.{refused_proper, trial_well}
 use Rattle.owl_answer.proofs.Same.{is_proper}
 use Rattle.owl_messages.proofs.UnsaidLaws.{IsRefusal, unsaid_is_refused}
 use Rattle.owl_messages.specs.Unsaid.{IsProperFault, unsaid_outcome}
-use Rattle.owl_messages.specs.Outcome.{IsLimited, Outcome, agreement, counts_line, declared, difference, fits, missing_import, passes, refusal_outcome, shown, too_heavy_output, too_long_output, too_many_triples, told_with, translated, translation}
+use Rattle.owl_messages.specs.Outcome.{IsLimited, Outcome, agreement, canonical, counts_line, declared, difference, digested, fits, missing_import, passes, refusal_outcome, shown, too_heavy_output, too_long_output, too_many_triples, told_with, translated, translation}
 
 pub at_among : (names : List (List ℕ)) (place : ℕ) (name : List ℕ) → slice_get names place ≡ Some name → IsAmong names name
 at_among [] place name e = absurd (cc)
@@ -79,7 +80,7 @@ limited_told request IsWanted told outcome (passes wanted w l e) = subst (IsTold
 
 abbrev IsOther : Target → Type 0
 IsOther Fss = ⊥
-IsOther Ttl = Unit {0}
+IsOther (Ttl layout) = Unit {0}
 IsOther Omn = Unit {0}
 
 -- The text is written, or it is refused: it is not well typed, the syntax can't say it, its graph is too large, or the text too long.
@@ -87,7 +88,7 @@ data Comes (target : Target) (kinds : List Entity) (o : Ontology) (outcome : Out
   written : (text : List ℕ) (axioms absorbed : ℕ) → outcome ≡ record { status = Done; text = text; line = counts_line axioms absorbed } → Comes target kinds o outcome
   ill : (p : Ontology) → IsSameOntology o p → IsTypingRefusal kinds p outcome → Comes target kinds o outcome
   beyond : IsOther target → (refusal : Outcome) → IsUnsayable refusal → outcome ≡ refusal → Comes target kinds o outcome
-  large : target ≡ Ttl → outcome ≡ too_many_triples → Comes target kinds o outcome
+  large : (layout : Layout) → target ≡ Ttl layout → outcome ≡ too_many_triples → Comes target kinds o outcome
   long : outcome ≡ too_long_output → Comes target kinds o outcome
 
 -- what fits is so, if all that is wanted is
@@ -96,18 +97,19 @@ limited_comes target kinds o wanted comes outcome (fits w l) = subst (Comes targ
 limited_comes target kinds o wanted comes outcome (passes other w l e) = long e
 
 module _ (kinds : List Entity) (o : Ontology) where
-  form_comes : (form : Said) (absorbed : ℕ) (outcome : Outcome) → IsFormTold form absorbed outcome → Comes Ttl kinds o outcome
-  form_comes form absorbed outcome (many l e) = large refl e
-  form_comes form absorbed outcome (few l w) = limited_comes Ttl kinds o (graph_translation form absorbed) (written _ _ _ refl) outcome w
+  form_comes : (layout : Layout) (form : Said) (absorbed : ℕ) (outcome : Outcome) → IsFormTold layout form absorbed outcome → Comes (Ttl layout) kinds o outcome
+  form_comes layout form absorbed outcome (many l e) = large layout refl e
+  form_comes layout form absorbed outcome (few l (fits w m)) = written _ _ _ w.told
+  form_comes layout form absorbed outcome (few l (passes wanted w m e)) = long e
 
-  graph_comes : (main : Said) (outcome : Outcome) → IsGraphTold main outcome → Comes Ttl kinds o outcome
-  graph_comes main outcome (heavy l e) = beyond tt too_heavy_output of_weight e
-  graph_comes main outcome (light l w) = form_comes _ _ outcome w
+  graph_comes : (layout : Layout) (main : Said) (outcome : Outcome) → IsGraphTold layout main outcome → Comes (Ttl layout) kinds o outcome
+  graph_comes layout main outcome (heavy l e) = beyond tt too_heavy_output of_weight e
+  graph_comes layout main outcome (light l w) = form_comes layout _ _ outcome w
 
-  turtle_comes : (main : Said) (outcome : Outcome) → IsSameOntology o main.ontology → IsOfTurtle kinds main outcome → Comes Ttl kinds o outcome
-  turtle_comes main outcome s (not_typed h) = ill main.ontology s h
-  turtle_comes main outcome s (unsaid t part why h e) = beyond tt (unsayable part why) (of_part part why) e
-  turtle_comes main outcome s (ready r w) = graph_comes main outcome w
+  turtle_comes : (layout : Layout) (main : Said) (outcome : Outcome) → IsSameOntology o main.ontology → IsOfTurtle layout kinds main outcome → Comes (Ttl layout) kinds o outcome
+  turtle_comes layout main outcome s (not_typed h) = ill main.ontology s h
+  turtle_comes layout main outcome s (unsaid t part why h e) = beyond tt (unsayable part why) (of_part part why) e
+  turtle_comes layout main outcome s (ready r w) = graph_comes layout main outcome w
 
   manchester_comes : (main : Said) (outcome : Outcome) → IsSameOntology o main.ontology → IsToldInManchester kinds main outcome → Comes Omn kinds o outcome
   manchester_comes main outcome s (IsToldInManchester.not_typed h) = ill main.ontology s h
@@ -119,12 +121,14 @@ module _ (kinds : List Entity) (o : Ontology) where
   written_comes main outcome w = limited_comes Fss kinds o (translation main) (written _ _ _ refl) outcome w
 
 translation_comes : (target : Target) (parsed : Parsed) (kinds : List Entity) (main : Said) (outcome : Outcome) → IsTranslation target parsed kinds main outcome → Comes target kinds main.ontology outcome
-translation_comes Fss (an_ontology said) kinds main outcome w = written_comes kinds main.ontology main outcome w
+translation_comes Fss (an_ontology in_functional said) kinds main outcome w = written_comes kinds main.ontology main outcome w
+translation_comes Fss (an_ontology in_bytes said) kinds main outcome (ill_typed h) = ill main.ontology (same_ontology_refl main.ontology) h
+translation_comes Fss (an_ontology in_bytes said) kinds main outcome (well_typed t w) = written_comes kinds main.ontology main outcome w
 translation_comes Fss (a_graph read) kinds main outcome (ill_typed h) = ill main.ontology (same_ontology_refl main.ontology) h
 translation_comes Fss (a_graph read) kinds main outcome (well_typed t w) = written_comes kinds main.ontology main outcome w
 translation_comes Fss (the_frames read) kinds main outcome (ill_typed h) = ill main.ontology (same_ontology_refl main.ontology) h
 translation_comes Fss (the_frames read) kinds main outcome (well_typed t w) = written_comes kinds main.ontology main outcome w
-translation_comes Ttl parsed kinds main outcome w = turtle_comes kinds main.ontology (canonical_said main) outcome (canonical_same_ontology main.ontology) w
+translation_comes (Ttl layout) parsed kinds main outcome w = turtle_comes kinds main.ontology layout (canonical_said main) outcome (canonical_same_ontology main.ontology) w
 translation_comes Omn parsed kinds main outcome w = manchester_comes kinds main.ontology (canonical_said main) outcome (canonical_same_ontology main.ontology) w
 
 -- a refusal is told as it is
@@ -133,7 +137,7 @@ unsayable_kept front _ (of_part part why) = refl
 unsayable_kept front _ of_weight = refl
 
 -- what comes of it is told so
-module _ (request : Request) (target : Target) (front : List ℕ → List ℕ) (other : IsOther target → AsksOtherSyntax request) (turtle : target ≡ Ttl → AsksTurtle request)
+module _ (request : Request) (target : Target) (front : List ℕ → List ℕ) (other : IsOther target → AsksOtherSyntax request) (turtle : (layout : Layout) → target ≡ Ttl layout → AsksTurtle request)
     (done : (axioms absorbed : ℕ) → SuccessLine request Done (front (counts_line axioms absorbed))) (kinds : List Entity) (o : Ontology)
     (refused : (p : Ontology) (inner : Outcome) → IsSameOntology o p → IsTypingRefusal kinds p inner → IsTold request (told_with front inner)) where
   comes_told : (inner : Outcome) → Comes target kinds o inner → IsTold request (told_with front inner)
@@ -142,26 +146,26 @@ module _ (request : Request) (target : Target) (front : List ℕ → List ℕ) (
   comes_told inner (ill p s h) = refused p inner s h
   comes_told inner (beyond b refusal h e) =
       subst (λ (x : Outcome). IsTold request (told_with front x)) (sym e) (subst (IsTold request) (sym (unsayable_kept front refusal h)) (unsayable_told request (other b) refusal h))
-  comes_told inner (large t e) =
-      subst (λ (x : Outcome). IsTold request (told_with front x)) (sym e) (record { proper = record { found = tt; no_text = refl }; line = λ IsCause. of_triples (turtle t) refl refl })
+  comes_told inner (large layout t e) =
+      subst (λ (x : Outcome). IsTold request (told_with front x)) (sym e) (record { proper = record { found = tt; no_text = refl }; line = λ IsCause. of_triples (turtle layout t) refl refl })
   comes_told inner (long e) = subst (λ (x : Outcome). IsTold request (told_with front x)) (sym e) (too_long_told request)
 
 module _ (options : Options) (names : List (List ℕ)) where
   other_asked : (target : Target) → IsOther target → AsksOtherSyntax (of_main (Translate target) options names)
   other_asked Fss b = absurd b
-  other_asked Ttl b = tt
+  other_asked (Ttl layout) b = tt
   other_asked Omn b = tt
 
   other_declared : (target : Target) → IsOther target → AsksOtherSyntax (of_main (Declare target) options names)
   other_declared Fss b = absurd b
-  other_declared Ttl b = tt
+  other_declared (Ttl layout) b = tt
   other_declared Omn b = tt
 
   translation_told : (target : Target) (parsed : Parsed) (kinds : List Entity) (main : Said) (outcome : Outcome) → IsToldWith translated (IsTranslation target parsed kinds main) outcome → IsTold (of_main (Translate target) options names) outcome
   translation_told target parsed kinds main outcome h =
       let request = of_main (Translate target) options names in
       subst (IsTold request) (sym h.told)
-      (comes_told request target translated (other_asked target) (λ t. subst (λ (u : Target). AsksTurtle (of_main (Translate u) options names)) (sym t) tt)
+      (comes_told request target translated (other_asked target) (λ layout t. subst (λ (u : Target). AsksTurtle (of_main (Translate u) options names)) (sym t) tt)
       (λ axioms absorbed. (axioms, absorbed, refl)) kinds main.ontology (λ p inner s k. typing_told request tt translated kinds p inner k) h.wanted (translation_comes target parsed kinds main h.wanted h.is))
 
   -- a document that has all that it needs declared is well typed
@@ -176,9 +180,9 @@ module _ (options : Options) (names : List (List ℕ)) where
         let whole = declared_said needs main in
         let typed = known_typed kinds main canon needs known h apart in
         subst (IsTold request) (sym w.told)
-        (comes_told request target (declared (length needs)) (other_declared target) (λ t. subst (λ (u : Target). AsksTurtle (of_main (Declare u) options names)) (sym t) tt)
+        (comes_told request target (declared (length needs)) (other_declared target) (λ layout t. subst (λ (u : Target). AsksTurtle (of_main (Declare u) options names)) (sym t) tt)
         (λ axioms absorbed. (length needs, axioms, absorbed, refl)) known whole.ontology
-        (λ p inner s k. absurd (refusal_or_typed known p inner k (typed_same known whole.ontology p s typed))) w.wanted (translation_comes target (an_ontology whole) known whole w.wanted w.is))
+        (λ p inner s k. absurd (refusal_or_typed known p inner k (typed_same known whole.ontology p s typed))) w.wanted (translation_comes target (an_ontology in_functional whole) known whole w.wanted w.is))
 
 -- the text and the line of a success
 done_told : (request : Request) (wanted : Outcome) → IsProper wanted → SuccessLine request wanted.status wanted.line → (outcome : Outcome) → outcome ≡ wanted → IsTold request outcome
@@ -205,6 +209,10 @@ acted_told Show options names documents parsed kinds main outcome h =
     limited_told (of_main Show options names) (λ o. o ≡ shown main) (done_told (of_main Show options names) (shown main) (record { found = tt; no_text = tt }) refl) outcome h
 acted_told (Declare target) options names documents parsed kinds main outcome h =
     declaration_told options names target kinds (canonical_said main) (canonical_ontology_again main.ontology) outcome h
+acted_told Canon options names documents parsed kinds main outcome h =
+    limited_told (of_main Canon options names) (λ o. o ≡ canonical main) (done_told (of_main Canon options names) (canonical main) (record { found = tt; no_text = tt }) refl) outcome h
+acted_told Digest options names documents parsed kinds main outcome h =
+    done_told (of_main Digest options names) (digested main) (record { found = tt; no_text = tt }) refl outcome h
 
 answers_told : (request : Request) (documents : List Parsed) (outcome : Outcome) → AnswersWith request documents outcome → IsTold request outcome
 answers_told (of_main action options names) documents outcome w =
@@ -263,6 +271,7 @@ refused_fails name (Headless outline.NoHeader) h = h
 refused_fails name (Headless outline.TwoHeaders) h = h
 refused_fails name (Headless (outline.BadHeader node)) h = h
 refused_fails name (Headless outline.Memory) h = h
+refused_fails name NotCanon h = h
 
 refusal_fails : (o : Outcome) → IsRefusal o → IsSuccess o.status → ⊥
 refusal_fails o (inl e) h = subst (λ (x : Outcome). IsSuccess x.status) e h

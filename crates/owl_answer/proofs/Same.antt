@@ -50,7 +50,7 @@ said_back : (a b : Said) → IsSame a b → IsSame b a
 said_back a b s = record { prefixes = sym s.prefixes; ontology = same_ontology_sym a.ontology b.ontology s.ontology }
 
 pub parsed_refl : (a : Parsed) → IsSameParsed a a
-parsed_refl (an_ontology a) = said_refl a
+parsed_refl (an_ontology v a) = (refl, said_refl a)
 parsed_refl (the_frames d) = refl
 parsed_refl (a_graph a) = record {
   prefixes = λ i. a.prefixes;
@@ -60,36 +60,36 @@ parsed_refl (a_graph a) = record {
 }
 
 pub parsed_back : (a b : Parsed) → IsSameParsed a b → IsSameParsed b a
-parsed_back (an_ontology a) (an_ontology b) s = said_back a b s
-parsed_back (an_ontology a) (a_graph b) s = absurd s
-parsed_back (a_graph a) (an_ontology b) s = absurd s
-parsed_back (an_ontology a) (the_frames b) s = absurd s
+parsed_back (an_ontology v a) (an_ontology w b) s = (sym s.0, said_back a b s.1)
+parsed_back (an_ontology v a) (a_graph b) s = absurd s
+parsed_back (a_graph a) (an_ontology w b) s = absurd s
+parsed_back (an_ontology v a) (the_frames b) s = absurd s
 parsed_back (a_graph a) (the_frames b) s = absurd s
-parsed_back (the_frames a) (an_ontology b) s = absurd s
+parsed_back (the_frames a) (an_ontology w b) s = absurd s
 parsed_back (the_frames a) (a_graph b) s = absurd s
 parsed_back (the_frames a) (the_frames b) s = sym s
 parsed_back (a_graph a) (a_graph b) s =
     record { prefixes = sym s.prefixes; triples = sym s.triples; head = head_back a.head b.head s.head; guessed = sym s.guessed }
 
 pub same_head : (a b : Parsed) → IsSameParsed a b → IsSameHead (head_in a) (head_in b)
-same_head (an_ontology a) (an_ontology b) s = s.ontology.head
-same_head (an_ontology a) (a_graph b) s = absurd s
-same_head (a_graph a) (an_ontology b) s = absurd s
+same_head (an_ontology v a) (an_ontology w b) s = s.1.ontology.head
+same_head (an_ontology v a) (a_graph b) s = absurd s
+same_head (a_graph a) (an_ontology w b) s = absurd s
 same_head (a_graph a) (a_graph b) s = s.head
-same_head (an_ontology a) (the_frames b) s = absurd s
+same_head (an_ontology v a) (the_frames b) s = absurd s
 same_head (a_graph a) (the_frames b) s = absurd s
-same_head (the_frames a) (an_ontology b) s = absurd s
+same_head (the_frames a) (an_ontology w b) s = absurd s
 same_head (the_frames a) (a_graph b) s = absurd s
 same_head (the_frames a) (the_frames b) s =
     subst (λ (d : DocumentTree). IsSameHead (frames.head_in a.head) (frames.head_in d.head)) s (record { name = refl; imports = λ x. (λ h. h, λ h. h) })
 
 pub declares_same_as : (a b : Parsed) → IsSameParsed a b → (kind : Kind) (iri : List ℕ) → DeclaresAs a kind iri → DeclaresAs b kind iri
-declares_same_as (an_ontology a) (an_ontology b) s kind iri h = same_declare a.ontology b.ontology s.ontology kind iri h
-declares_same_as (an_ontology a) (a_graph b) s kind iri h = absurd s
-declares_same_as (a_graph a) (an_ontology b) s kind iri h = absurd s
-declares_same_as (an_ontology a) (the_frames b) s kind iri h = absurd s
+declares_same_as (an_ontology v a) (an_ontology w b) s kind iri h = same_declare a.ontology b.ontology s.1.ontology kind iri h
+declares_same_as (an_ontology v a) (a_graph b) s kind iri h = absurd s
+declares_same_as (a_graph a) (an_ontology w b) s kind iri h = absurd s
+declares_same_as (an_ontology v a) (the_frames b) s kind iri h = absurd s
 declares_same_as (a_graph a) (the_frames b) s kind iri h = absurd s
-declares_same_as (the_frames a) (an_ontology b) s kind iri h = absurd s
+declares_same_as (the_frames a) (an_ontology w b) s kind iri h = absurd s
 declares_same_as (the_frames a) (a_graph b) s kind iri h = absurd s
 declares_same_as (the_frames a) (the_frames b) s kind iri h = subst (λ (d : DocumentTree). IsDeclared (frame_entities d) kind iri) s h
 declares_same_as (a_graph a) (a_graph b) s kind iri h =
@@ -103,13 +103,13 @@ pub record SaysSameAs (kinds : List Entity) (parsed : Parsed) (said : Said) : Ty
   pub same : IsSame said other
 
 pub says_same : (kinds : List Entity) (a b : Parsed) → IsSameParsed a b → (said : Said) → SaysUnder kinds a said → SaysSameAs kinds b said
-says_same kinds (an_ontology a) (an_ontology b) s said h =
-    record { other = b; says = λ i. b; same = subst (λ (x : Said). IsSame x b) (sym h) s }
-says_same kinds (an_ontology a) (a_graph b) s said h = absurd s
-says_same kinds (a_graph a) (an_ontology b) s said h = absurd s
-says_same kinds (an_ontology a) (the_frames b) s said h = absurd s
+says_same kinds (an_ontology v a) (an_ontology w b) s said h =
+    record { other = b; says = λ i. b; same = subst (λ (x : Said). IsSame x b) (sym h) s.1 }
+says_same kinds (an_ontology v a) (a_graph b) s said h = absurd s
+says_same kinds (a_graph a) (an_ontology w b) s said h = absurd s
+says_same kinds (an_ontology v a) (the_frames b) s said h = absurd s
 says_same kinds (a_graph a) (the_frames b) s said h = absurd s
-says_same kinds (the_frames a) (an_ontology b) s said h = absurd s
+says_same kinds (the_frames a) (an_ontology w b) s said h = absurd s
 says_same kinds (the_frames a) (a_graph b) s said h = absurd s
 says_same kinds (the_frames a) (the_frames b) s said h =
     record { other = said; says = subst (λ (d : DocumentTree). SaysUnder kinds (the_frames d) said) s h; same = said_refl said }
@@ -124,12 +124,12 @@ says_same kinds (a_graph a) (a_graph b) s said h = record {
 }
 
 pub unsaid_same : (kinds : List Entity) (a b : Parsed) → IsSameParsed a b → (fault : UnsaidFault) → IsUnsaidUnder kinds a fault → IsUnsaidUnder kinds b fault
-unsaid_same kinds (an_ontology a) (an_ontology b) s fault h = absurd h
-unsaid_same kinds (an_ontology a) (a_graph b) s fault h = absurd s
-unsaid_same kinds (an_ontology a) (the_frames b) s fault h = absurd s
-unsaid_same kinds (a_graph a) (an_ontology b) s fault h = absurd s
+unsaid_same kinds (an_ontology v a) (an_ontology w b) s fault h = absurd h
+unsaid_same kinds (an_ontology v a) (a_graph b) s fault h = absurd s
+unsaid_same kinds (an_ontology v a) (the_frames b) s fault h = absurd s
+unsaid_same kinds (a_graph a) (an_ontology w b) s fault h = absurd s
 unsaid_same kinds (a_graph a) (the_frames b) s fault h = absurd s
-unsaid_same kinds (the_frames a) (an_ontology b) s fault h = absurd s
+unsaid_same kinds (the_frames a) (an_ontology w b) s fault h = absurd s
 unsaid_same kinds (the_frames a) (a_graph b) s fault h = absurd s
 unsaid_same kinds (a_graph a) (a_graph b) s (Graph fault) h =
     subst (λ (ts : List Triple). IsUnsaidWith (thinned ts) kinds b.guessed fault) s.triples
@@ -140,14 +140,14 @@ unsaid_same kinds (the_frames a) (the_frames b) s fault h = subst (λ (d : Docum
 
 -- a document says one thing under kinds, or there is one reason why not, and never both
 pub says_once : (kinds : List Entity) (parsed : Parsed) (a b : Said) → SaysUnder kinds parsed a → SaysUnder kinds parsed b → IsSame a b
-says_once kinds (an_ontology said) a b h k = subst (λ (x : Said). IsSame a x) (h ∙ sym k) (said_refl a)
+says_once kinds (an_ontology written said) a b h k = subst (λ (x : Said). IsSame a x) (h ∙ sym k) (said_refl a)
 says_once kinds (a_graph read) a b h k =
     record { prefixes = h.0 ∙ sym k.0; ontology = said_with_once (thinned read.triples) kinds read.guessed a.ontology b.ontology h.1 k.1 }
 says_once kinds (the_frames d) a b h k =
     record { prefixes = h.0 ∙ sym k.0; ontology = frames_laws.one_ontology d kinds a.ontology b.ontology h.1 k.1 }
 
 pub unsaid_once : (kinds : List Entity) (parsed : Parsed) (e f : UnsaidFault) → IsUnsaidUnder kinds parsed e → IsUnsaidUnder kinds parsed f → e ≡ f
-unsaid_once kinds (an_ontology said) e f h k = absurd h
+unsaid_once kinds (an_ontology written said) e f h k = absurd h
 unsaid_once kinds (a_graph read) (Graph e) (Graph f) h k = ap Graph (unsaid_with_once (thinned read.triples) kinds read.guessed e f h k)
 unsaid_once kinds (a_graph read) (Graph e) (Frames f) h k = absurd k
 unsaid_once kinds (a_graph read) (Graph e) Memory h k = absurd k
@@ -160,7 +160,7 @@ unsaid_once kinds (the_frames d) (Frames e) Memory h k = absurd k
 unsaid_once kinds (the_frames d) Memory f h k = absurd h
 
 pub never_says_both : (kinds : List Entity) (parsed : Parsed) (said : Said) (fault : UnsaidFault) → SaysUnder kinds parsed said → IsUnsaidUnder kinds parsed fault → ⊥
-never_says_both kinds (an_ontology other) said fault h k = k
+never_says_both kinds (an_ontology written other) said fault h k = k
 never_says_both kinds (a_graph read) said (Graph fault) h k = never_both_with (thinned read.triples) kinds read.guessed said.ontology fault h.1 k
 never_says_both kinds (a_graph read) said (Frames fault) h k = k
 never_says_both kinds (a_graph read) said Memory h k = k
@@ -202,7 +202,7 @@ no_want_of_graph g k names f (of_graph h) e = never_first g k steps (subst (λ (
 no_want_of_graph g k names f (of_guesses bare said heavy is) e = let same = sym is ∙ e in cc
 
 pub is_proper : (kinds : List Entity) (parsed : Parsed) (fault : UnsaidFault) → IsUnsaidUnder kinds parsed fault → IsProperFault fault
-is_proper kinds (an_ontology said) fault h = absurd h
+is_proper kinds (an_ontology written said) fault h = absurd h
 is_proper kinds (a_graph read) (Graph fault) h = λ e. no_want_of_graph (thinned read.triples) kinds read.guessed fault h e
 is_proper kinds (a_graph read) (Frames fault) h = absurd h
 is_proper kinds (a_graph read) Memory h = absurd h

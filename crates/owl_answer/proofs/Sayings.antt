@@ -1,5 +1,5 @@
 -- The graph that a translation to Turtle writes says the normal form, and declares what it does.
-use Rattle.std.proofs.Common.{◌≡◌, ◌≤◌, ◌++◌, List, [], ◌∷◌, Contains, ap, map, sym, subst}
+use Rattle.std.proofs.Common.{◌≡◌, ◌≤◌, ◌++◌, ℕ, Option, List, [], ◌∷◌, Contains, ap, map, refl, sym, subst}
 use Rattle.std.specs.List.{AllByRecursion}
 use Rattle.owl_arena.specs.Shared.{heaviest}
 use Rattle.owl_doc.specs.Entities.{AreWellTyped, declarations, declared_in, entities, entities_of}
@@ -15,7 +15,9 @@ use Rattle.rdf_normal.proofs.DeclaredLaws.{DeclaresIn, declared_by, declares_bef
 use Rattle.rdf_normal.specs.NormalForms.{normal_form, unsettled_annotations, unsettled_axioms}
 use Rattle.rdf_normal.proofs.ShapedLaws.{normal_is_ontology}
 use Rattle.rdf_normal.proofs.TidiedLaws.{settled_form}
-use Rattle.rdf_reverse.specs.Reverse.{AreShallow, IsSaid}
+use Rattle.rdf_faults.proofs.FaultLaws as no
+use Rattle.rdf_roles.specs.declared.fault.NodeFault.TheVariants.{Mixed, BadList, Cycle, BadNode, Memory}
+use Rattle.rdf_reverse.specs.Reverse.{AreShallow, IsSaid, IsWithin}
 use Rattle.rdf_reverse.proofs.DeclaringLaws.{declares_stated}
 use Rattle.rdf_reverse.proofs.WithinLaws.{said_within}
 use Rattle.rdf_scans.specs.Outlines.{declarations as graph_declarations}
@@ -24,6 +26,12 @@ use Rattle.rdf_states.proofs.ThinLaws.{form_is_thin}
 use Rattle.rdf_thin.specs.Thinned.{thinned}
 use Rattle.owl_doc.specs.Parts.{of_axiom}
 use Rattle.rdf_sayable.specs.Sayable.{CanSayAll}
+use Rattle.owl_writing.specs.Tables.{written_prefixes}
+use Rattle.ttl_grammar.specs.Documents.{ReadsTurtle}
+use Rattle.owl_command.specs.declared.command.Layout.{Layout}
+use Rattle.owl_command.specs.declared.command.Layout.TheVariants.{Flat, Nested}
+use Rattle.owl_answer.proofs.RenamedGraphs.{is_renaming, renamed_graph}
+use Rattle.owl_answer.specs.GraphTexts.{HaveRoles}
 use Rattle.owl_answer.specs.Outcome.{IsSuccess}
 use Rattle.owl_answer.specs.Typing.{DeclareSame, IsWellTyped}
 use Rattle.owl_answer.specs.TurtleOutcome.{IsReady, IsTold, IsToldBack, IsTurtleTranslation, IsTyped, ReadsGraph, ReadsSaid, canonical_said, heavy, light, not_typed, ready, turtle_form, unsaid}
@@ -85,47 +93,78 @@ module _ (kinds : List Entity) (o : Ontology) (form : canonical_ontology o ≡ o
   form_said is said weighs =
       form_says kinds o is said weighs typed.no_clash (form_notes_typed kinds o notes_typed axioms_typed) (form_axioms_typed kinds o notes_typed axioms_typed)
 
+-- what a graph says an ontology by has nodes with roles
+roles_said : (g : List Triple) (kinds : List Entity) (o : Ontology) → Says g kinds o → HaveRoles g
+roles_said g kinds o says (Mixed label) n h = no.no_mixed g kinds o says label h.holds
+roles_said g kinds o says (BadList label) n h = no.no_bad_cell g kinds o says label h.1.holds
+roles_said g kinds o says (Cycle label) n h = no.no_cyclic g kinds o says label h.2.holds
+roles_said g kinds o says (BadNode label) n h = no.no_bad_node g kinds o says label h.3.holds
+roles_said g kinds o says Memory n h = n refl
+
+pub have_roles : (kinds : List Entity) (o : Ontology) → canonical_ontology o ≡ o → IsTyped kinds o → IsOntology o → CanSayAll o → ontology_weight (normal_form o) ≤ heaviest → HaveRoles (graph_of (normal_form o))
+have_roles kinds o form typed is said weighs = roles_said (graph_of (normal_form o)) kinds (normal_form o) (form_said kinds o form typed is said weighs)
+
 -- a document that was translated
 record IsTranslatable (kinds : List Entity) (o : Ontology) : Type 0 where
   ready : IsReady kinds o
   light : ontology_weight (normal_form o) ≤ heaviest
 
-form_told : (kinds : List Entity) (main : Said) (outcome : Outcome) → IsTold kinds main outcome → IsSuccess outcome.status → IsTranslatable kinds main.ontology
-form_told kinds main outcome (not_typed h) s = absurd (typing_fails kinds main.ontology outcome h s)
-form_told kinds main outcome (unsaid t part why h f) s = absurd (subst (λ (x : Outcome). IsSuccess x.status) f s)
-form_told kinds main outcome (ready r (heavy l f)) s = absurd (subst (λ (x : Outcome). IsSuccess x.status) f s)
-form_told kinds main outcome (ready r (light l w)) s = record { ready = r; light = l }
+form_told : (layout : Layout) (kinds : List Entity) (main : Said) (outcome : Outcome) → IsTold layout kinds main outcome → IsSuccess outcome.status → IsTranslatable kinds main.ontology
+form_told layout kinds main outcome (not_typed h) s = absurd (typing_fails kinds main.ontology outcome h s)
+form_told layout kinds main outcome (unsaid t part why h f) s = absurd (subst (λ (x : Outcome). IsSuccess x.status) f s)
+form_told layout kinds main outcome (ready r (heavy l f)) s = absurd (subst (λ (x : Outcome). IsSuccess x.status) f s)
+form_told layout kinds main outcome (ready r (light l w)) s = record { ready = r; light = l }
 
--- the graph of the normal form of what was translated says it, within the limits
-pub form_is_said : (kinds : List Entity) (main : Said) (outcome : Outcome) → IsOntology main.ontology → canonical_ontology main.ontology ≡ main.ontology → IsTurtleTranslation kinds main outcome → IsSuccess outcome.status → AreShallow (turtle_form (canonical_said main)).ontology → IsSaid (graph_of (turtle_form (canonical_said main)).ontology) kinds (turtle_form (canonical_said main)).ontology
-form_is_said kinds main outcome is canonical told s shallow =
-    let o = canonical_ontology main.ontology in
-    let own : IsOntology o = subst IsOntology (sym canonical) is in
-    let its = form_told kinds (canonical_said main) outcome told s in
-    let says = form_said kinds o (ap canonical_ontology canonical) its.ready.typed own its.ready.sayable its.light in
-    said_within (graph_of (normal_form o)) kinds (normal_form o) says (record { is = normal_is_ontology o own; shallow = shallow; light = its.light })
+-- What was translated, of a document in canonical form.
+module _ (layout : Layout) (kinds : List Entity) (main : Said) (outcome : Outcome) (is : IsOntology main.ontology) (canonical : canonical_ontology main.ontology ≡ main.ontology) (told : IsTurtleTranslation layout kinds main outcome) (s : IsSuccess outcome.status) where
+  abbrev source : Ontology
+  source = canonical_ontology main.ontology
 
--- and none of its triples is redundant
-pub written_is_thin : (kinds : List Entity) (main : Said) (outcome : Outcome) → IsOntology main.ontology → canonical_ontology main.ontology ≡ main.ontology → IsTurtleTranslation kinds main outcome → IsSuccess outcome.status → thinned (graph_of (turtle_form (canonical_said main)).ontology) ≡ graph_of (turtle_form (canonical_said main)).ontology
-written_is_thin kinds main outcome is canonical told s =
-    let its = form_told kinds (canonical_said main) outcome told s in
-    form_is_thin (canonical_ontology main.ontology) (subst IsOntology (sym canonical) is) its.ready.sayable its.light
+  its : IsTranslatable kinds source
+  its = form_told layout kinds (canonical_said main) outcome told s
 
--- what is read back to the graph of a normal form says it
-said_back : (kinds : List Entity) (main : Said) (outcome : Outcome) → IsOntology main.ontology → canonical_ontology main.ontology ≡ main.ontology → IsTurtleTranslation kinds main outcome → IsSuccess outcome.status → ReadsGraph outcome.text (turtle_form (canonical_said main)) → ReadsSaid kinds outcome.text (turtle_form (canonical_said main))
-said_back kinds main outcome is canonical told s reads =
-    let o = canonical_ontology main.ontology in
-    let own : IsOntology o = subst IsOntology (sym canonical) is in
-    let its = form_told kinds (canonical_said main) outcome told s in
-    let form = ap canonical_ontology canonical in
-    let says = form_said kinds o form its.ready.typed own its.ready.sayable its.light in
-    record {
-      graph = graph_of (normal_form o);
-      reads = reads.reads;
-      declares = says_declares (graph_of (normal_form o)) kinds (normal_form o) says;
-      typed = form_typed kinds o form its.ready.typed;
-      says = subst (λ (g : List Triple). IsSaid g kinds (normal_form o)) (sym (written_is_thin kinds main outcome is canonical told s)) (form_is_said kinds main outcome is canonical told s reads.shallow);
-    }
+  own : IsOntology source
+  own = subst IsOntology (sym canonical) is
 
-pub in_turtle : (kinds : List Entity) (main : Said) (outcome : Outcome) → IsOntology main.ontology → canonical_ontology main.ontology ≡ main.ontology → IsToldBack (IsTurtleTranslation kinds main) (turtle_form (canonical_said main)) outcome → IsInTurtle kinds main outcome
-in_turtle kinds main outcome is canonical h = record { is = h.is; back = λ s. said_back kinds main outcome is canonical h.is s (h.back s) }
+  form_says_it : Says (graph_of (normal_form source)) kinds (normal_form source)
+  form_says_it = form_said kinds source (ap canonical_ontology canonical) its.ready.typed own its.ready.sayable its.light
+
+  within : AreShallow (normal_form source) → IsWithin (normal_form source)
+  within shallow = record { is = normal_is_ontology source own; shallow = shallow; light = its.light }
+
+  -- the graph of its normal form says it, within the limits
+  pub form_is_said : AreShallow (turtle_form (canonical_said main)).ontology → IsSaid (graph_of (turtle_form (canonical_said main)).ontology) kinds (turtle_form (canonical_said main)).ontology
+  form_is_said shallow = said_within (graph_of (normal_form source)) kinds (normal_form source) form_says_it (within shallow)
+
+  -- and none of its triples is redundant
+  pub written_is_thin : thinned (graph_of (turtle_form (canonical_said main)).ontology) ≡ graph_of (turtle_form (canonical_said main)).ontology
+  written_is_thin = form_is_thin source own its.ready.sayable its.light
+
+  -- a graph that says it, without redundant triples, to which the text is read back
+  read_back : (g : List Triple) → ((base : Option (List ℕ)) → ReadsTurtle base outcome.text (written_prefixes main.prefixes) g) → Says g kinds (normal_form source) → thinned g ≡ g → AreShallow (normal_form source) → ReadsSaid kinds outcome.text (turtle_form (canonical_said main))
+  read_back g reads says thin shallow = record {
+    graph = g;
+    reads = reads;
+    declares = says_declares g kinds (normal_form source) says;
+    typed = form_typed kinds source (ap canonical_ontology canonical) its.ready.typed;
+    says = subst (λ (h : List Triple). IsSaid h kinds (normal_form source)) (sym thin) (said_within g kinds (normal_form source) says (within shallow));
+  }
+
+  flat_back : ReadsGraph Flat outcome.text (turtle_form (canonical_said main)) → ReadsSaid kinds outcome.text (turtle_form (canonical_said main))
+  flat_back back = read_back (graph_of (normal_form source)) back.reads form_says_it written_is_thin back.shallow
+
+  nested_back : ReadsGraph Nested outcome.text (turtle_form (canonical_said main)) → ReadsSaid kinds outcome.text (turtle_form (canonical_said main))
+  nested_back back =
+      let g = graph_of (normal_form source) in
+      let form = ap canonical_ontology canonical in
+      let notes = notes_typed kinds source form its.ready.typed in
+      let axioms = axioms_typed kinds source form its.ready.typed in
+      let renaming = is_renaming kinds source own its.ready.sayable its.light its.ready.typed.no_clash (form_notes_typed kinds source notes axioms) (form_axioms_typed kinds source notes axioms) outcome.text (written_prefixes main.prefixes) back.reads in
+      read_back (renamed_graph back.reads.rename g) back.reads.reads renaming.says renaming.thin back.shallow
+
+said_back : (layout : Layout) (kinds : List Entity) (main : Said) (outcome : Outcome) → IsOntology main.ontology → canonical_ontology main.ontology ≡ main.ontology → IsTurtleTranslation layout kinds main outcome → IsSuccess outcome.status → ReadsGraph layout outcome.text (turtle_form (canonical_said main)) → ReadsSaid kinds outcome.text (turtle_form (canonical_said main))
+said_back Flat kinds main outcome is canonical told s back = flat_back Flat kinds main outcome is canonical told s back
+said_back Nested kinds main outcome is canonical told s back = nested_back Nested kinds main outcome is canonical told s back
+
+pub in_turtle : (layout : Layout) (kinds : List Entity) (main : Said) (outcome : Outcome) → IsOntology main.ontology → canonical_ontology main.ontology ≡ main.ontology → IsToldBack layout (IsTurtleTranslation layout kinds main) (turtle_form (canonical_said main)) outcome → IsInTurtle layout kinds main outcome
+in_turtle layout kinds main outcome is canonical h = record { is = h.is; back = λ s. said_back layout kinds main outcome is canonical h.is s (h.back s) }

@@ -13,7 +13,7 @@ use Rattle.owl_doc.specs.Closures.{ImportClosure}
 use Rattle.owl_doc.specs.declared.item.Breach.{Breach}
 use Rattle.owl_doc.specs.Documents as doc
 use Rattle.owl_doc.specs.Documents.{ontology_of}
-use Rattle.owl_documents.specs.Documents.{Parsed, Said, a_graph, an_ontology, said_of, the_frames}
+use Rattle.owl_documents.specs.Documents.{Parsed, Said, a_graph, an_ontology, in_bytes, in_functional, said_of, the_frames}
 use Rattle.owl_kind.specs.Kinds.{Entity}
 use Rattle.owl_messages.specs.Outcome.{IsLimited, Outcome, translation, told_with, translated}
 use Rattle.owl_messages.specs.Verdicts.{verdict}
@@ -31,12 +31,14 @@ use Rattle.owl_answer.proofs.Readings.{all_forms}
 
 -- a translation to Functional-Style Syntax, of another document and of what is written in it
 pub functional_told : (parsed : Parsed) (kinds : List Entity) (main : Said) (outcome : Outcome) → asks_types parsed ≡ true → IsFunctionalTranslation kinds main outcome → (IsSuccess outcome.status → ReadsIn Fss kinds outcome.text (normal_form Fss kinds main)) → IsTranslated Fss parsed kinds main outcome
-functional_told (an_ontology said) kinds main outcome e h back = absurd (cc)
+functional_told (an_ontology in_functional said) kinds main outcome e h back = absurd (cc)
+functional_told (an_ontology in_bytes said) kinds main outcome e h back = record { is = h; back = back }
 functional_told (a_graph read) kinds main outcome e h back = record { is = h; back = back }
 functional_told (the_frames d) kinds main outcome e h back = record { is = h; back = back }
 
 pub written_told : (parsed : Parsed) (kinds : List Entity) (main : Said) (outcome : Outcome) → asks_types parsed ≡ false → IsLimited (λ wanted. wanted ≡ translation main) outcome → (IsSuccess outcome.status → ReadsIn Fss kinds outcome.text (normal_form Fss kinds main)) → IsTranslated Fss parsed kinds main outcome
-written_told (an_ontology said) kinds main outcome e h back = record { is = h; back = back }
+written_told (an_ontology in_functional said) kinds main outcome e h back = record { is = h; back = back }
+written_told (an_ontology in_bytes said) kinds main outcome e h back = absurd (cc)
 written_told (a_graph read) kinds main outcome e h back = absurd (cc)
 written_told (the_frames d) kinds main outcome e h back = absurd (cc)
 

@@ -7,7 +7,7 @@ use Rattle.owl_declare.specs.Needed.{AreNeeded, DeclaresWhole, IsTooHeavy, Knows
 use Rattle.owl_declare.specs.declared.fault.DeclareFault.TheVariants.{TwoKinds}
 use Rattle.owl_doc.specs.Documents.{Document, ontology_of}
 use Rattle.owl_doc.specs.Entities.{AddsAll}
-use Rattle.owl_documents.specs.Documents.{Parsed, Said, an_ontology, said_of}
+use Rattle.owl_documents.specs.Documents.{Parsed, Said, an_ontology, in_functional, said_of}
 use Rattle.owl_kind.specs.Kinds.{Entity}
 use Rattle.owl_tree.specs.Ontologies.{Ontology, canonical_ontology}
 use Rattle.owl_messages.specs.Outcome.{Outcome, declared, told_with, too_heavy_output}
@@ -55,7 +55,7 @@ module _ (target : Target) (kinds : List Entity) (main : Document) (canon : cano
     is_declared : IsDeclaration target kinds (said_of main) outcome
     is_declared = declared_whole d.needs known known_too d.apart.apart d.light (record {
       wanted = h.wanted;
-      is = subst (λ (s : Said). IsTranslation target (an_ontology s) known s h.wanted) whole_said h.translated.is;
+      is = subst (λ (s : Said). IsTranslation target (an_ontology in_functional s) known s h.wanted) whole_said h.translated.is;
       told = h.told ∙ ap (λ (n : ℕ). told_with (declared n) h.wanted) counted;
     })
 

@@ -4,16 +4,17 @@ use Rattle.std.proofs.lemmas.Slice.Zip.{AllZip-long}
 use Rattle.breach_lists.specs.Telling.{Tells, ontologies_of}
 use Rattle.owl_atom.specs.declared.prefixes.Prefix.{Prefix}
 use Rattle.owl_command.specs.Commands.{IsTrialSize}
+use Rattle.owl_command.specs.declared.command.Layout.TheVariants.{Flat}
 use Rattle.owl_command.specs.declared.command.Profile.{Profile}
 use Rattle.owl_command.specs.declared.status.Status.TheVariants.{Done}
 use Rattle.owl_doc.specs.Closures.{ImportClosure}
 use Rattle.owl_doc.specs.Counts.{axiom_count, distinct_count}
 use Rattle.owl_doc.specs.Documents.{Document, ontology_of}
 use Rattle.owl_doc.specs.declared.item.Breach.{Breach}
-use Rattle.owl_documents.specs.Documents.{AreFew, Parsed, Said, a_graph, an_ontology, defective, of_functional, of_header, of_manchester, of_turtle, syntax_of, the_frames}
+use Rattle.owl_documents.specs.Documents.{AreFew, Parsed, Said, a_graph, an_ontology, defective, in_bytes, in_functional, of_bytes, of_functional, of_header, of_manchester, of_turtle, syntax_of, the_frames}
 use Rattle.owl_documents.specs.Reading.{AreReadUnder, IsDefectUnder, IsProper as IsProperTrouble}
 use Rattle.owl_documents.specs.declared.document.Syntax.{Syntax}
-use Rattle.owl_documents.specs.declared.document.Syntax.TheVariants.{Functional, Turtle, Manchester}
+use Rattle.owl_documents.specs.declared.document.Syntax.TheVariants.{Functional, Turtle, Manchester, Canonical}
 use Rattle.owl_documents.specs.declared.trouble.Trouble.{Trouble}
 use Rattle.owl_documents.specs.declared.trouble.Trouble.TheVariants.{ReadFailed, Refused, Memory}
 use Rattle.owl_documents.proofs.Graphs.{no_fault}
@@ -58,13 +59,15 @@ module _ (bytes : List ℕ) (p : List Prefix) (g : List Triple) (kinds : List En
   turtle_whole name _ s proper (of_functional fault t d) = absurd (cc)
   turtle_whole name _ s proper (of_turtle fault t d) = defect_is_of_none None bytes fault p g d (reads None)
   turtle_whole name _ s proper (of_manchester fault t d) = absurd (cc)
+  turtle_whole name _ s proper (of_bytes t n) = absurd (cc)
   turtle_whole name _ s proper (of_header fault q h t r n f) =
       let same = (ttl.read_one_way None bytes q p h g r (reads None)).0 in
       let header = said.says.states in
       no_fault g fault header.header header.said header.one_header header.is_head n (subst (λ (x : List Triple). IsOutlineFault x fault) same f)
 
   turtle_back : (parsed : Parsed) → AreReadUnder Turtle bytes parsed → IsSaidBack kinds o (length g) parsed
-  turtle_back (an_ontology s) r = let n = (r (codes "m.ttl") refl).0 in absurd (cc)
+  turtle_back (an_ontology in_functional s) r = let n = (r (codes "m.ttl") refl).0 in absurd (cc)
+  turtle_back (an_ontology in_bytes s) r = let n = (r (codes "m.ttl") refl).0 in absurd (cc)
   turtle_back (the_frames d) r = let n = (r (codes "m.ttl") refl).0 in absurd (cc)
   turtle_back (a_graph graph) r =
       let same : g ≡ graph.triples = (ttl.read_one_way None bytes p graph.prefixes g graph.triples (reads None) (r (codes "m.ttl") refl).1.reads).0 in
@@ -83,12 +86,12 @@ module _ (bytes : List ℕ) (p : List Prefix) (g : List Triple) (kinds : List En
   turtle_reads = record { no_defect = turtle_whole; back = turtle_back }
 
 -- what was translated to Turtle
-pub turtle_again : (kinds : List Entity) (main : Said) (outcome : Outcome) → IsOntology main.ontology → canonical_ontology main.ontology ≡ main.ontology → IsToldBack (IsTurtleTranslation kinds main) (turtle_form (canonical_said main)) outcome → outcome.status ≡ Done → ReadsBack Turtle kinds outcome.text (turtle_form (canonical_said main)).ontology (length (graph_of (turtle_form (canonical_said main)).ontology))
+pub turtle_again : (kinds : List Entity) (main : Said) (outcome : Outcome) → IsOntology main.ontology → canonical_ontology main.ontology ≡ main.ontology → IsToldBack Flat (IsTurtleTranslation Flat kinds main) (turtle_form (canonical_said main)) outcome → outcome.status ≡ Done → ReadsBack Turtle kinds outcome.text (turtle_form (canonical_said main)).ontology (length (graph_of (turtle_form (canonical_said main)).ontology))
 turtle_again kinds main outcome is canonical told done =
     let success = subst IsSuccess (sym done) tt in
     let back = told.back success in
     turtle_reads outcome.text _ (graph_of (turtle_form (canonical_said main)).ontology) kinds (turtle_form (canonical_said main)).ontology back.reads
-    (form_is_said kinds main outcome is canonical told.is success back.shallow) (written_is_thin kinds main outcome is canonical told.is success)
+    (form_is_said Flat kinds main outcome is canonical told.is success back.shallow) (written_is_thin Flat kinds main outcome is canonical told.is success)
 
 -- a text in Manchester Syntax
 
@@ -107,9 +110,11 @@ module _ (bytes : List ℕ) (d : DocumentTree) (kinds : List Entity) (o : Ontolo
   manchester_whole name _ s proper (of_turtle fault t e) = absurd (cc)
   manchester_whole name _ s proper (of_manchester fault t e) = man.defect_is_of_none bytes fault d e reads
   manchester_whole name _ s proper (of_header fault q h t r n f) = absurd (cc)
+  manchester_whole name _ s proper (of_bytes t n) = absurd (cc)
 
   manchester_back : (parsed : Parsed) → AreReadUnder Manchester bytes parsed → IsSaidBack kinds o 0 parsed
-  manchester_back (an_ontology s) r = let n = (r (codes "m.omn") refl).0 in absurd (cc)
+  manchester_back (an_ontology in_functional s) r = let n = (r (codes "m.omn") refl).0 in absurd (cc)
+  manchester_back (an_ontology in_bytes s) r = let n = (r (codes "m.omn") refl).0 in absurd (cc)
   manchester_back (a_graph graph) r = let n = (r (codes "m.omn") refl).0 in absurd (cc)
   manchester_back (the_frames e) r =
       let same = man.read_one_way bytes d e reads (r (codes "m.omn") refl).1.reads in
@@ -146,8 +151,9 @@ module _ (kinds : List Entity) (said : Said) (canonical : canonical_ontology sai
 -- the document of a trial
 
 -- what is read in Functional-Style Syntax is an ontology
-pub an_ontology_read : (bytes : List ℕ) (parsed : Parsed) → AreReadUnder Functional bytes parsed → (said : Said) × (parsed ≡ an_ontology said)
-an_ontology_read bytes (an_ontology said) r = (said, refl)
+pub an_ontology_read : (bytes : List ℕ) (parsed : Parsed) → AreReadUnder Functional bytes parsed → (said : Said) × (parsed ≡ an_ontology in_functional said)
+an_ontology_read bytes (an_ontology in_functional said) r = (said, refl)
+an_ontology_read bytes (an_ontology in_bytes said) r = let n = (r trial_name refl).0 in absurd (cc)
 an_ontology_read bytes (a_graph graph) r = let n = (r trial_name refl).0 in absurd (cc)
 an_ontology_read bytes (the_frames d) r = let n = (r trial_name refl).0 in absurd (cc)
 
@@ -175,6 +181,7 @@ named_in : (syntax : Syntax) → (name : List ℕ) × (syntax_of name ≡ syntax
 named_in Functional = (codes "m.ofn", refl)
 named_in Turtle = (codes "m.ttl", refl)
 named_in Manchester = (codes "m.omn", refl)
+named_in Canonical = (codes "m.owc", refl)
 
 -- a text without a defect has no trouble but want of memory
 pub no_trouble : (syntax : Syntax) (bytes : List ℕ) (trouble : Trouble) → HasNoDefect syntax bytes → IsDefectUnder syntax bytes trouble → IsProperTrouble trouble → trouble ≢ ReadFailed → trouble ≢ Memory → ⊥

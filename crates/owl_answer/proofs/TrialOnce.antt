@@ -4,7 +4,7 @@ use Rattle.owl_breaches.specs.Sites.{Ontologies, Site, sites}
 use Rattle.owl_breaches.proofs.ThoseLaws.{those_once}
 use Rattle.owl_command.specs.declared.command.Profile.{Profile}
 use Rattle.owl_command.specs.declared.status.Status.TheVariants.{Done}
-use Rattle.owl_documents.specs.Documents.{IsSame, Said, an_ontology}
+use Rattle.owl_documents.specs.Documents.{IsSame, Said, an_ontology, in_functional}
 use Rattle.owl_documents.specs.OneWay.{NeverBoth, ReadOneWay, RefusedOneWay}
 use Rattle.owl_kind.specs.Kinds.{Entity}
 use Rattle.owl_messages.specs.Outcome.{Outcome, refusal_outcome}
@@ -14,6 +14,7 @@ use Rattle.owl_messages.specs.declared.trial.Findings.{Findings}
 use Rattle.owl_profiles.specs.Profiles.{Breaks, ProfileRule}
 use Rattle.owl_answer.specs.Checks.{rules_of}
 use Rattle.owl_answer.specs.Trials.{AreBreachCounts, AreFindings, HasBreaches, IsTrialOutcome, IsTried, both, no_manchester, no_turtle, not_read, read, trial_contents, trial_name, trial_source}
+use Rattle.owl_command.specs.declared.command.Layout.TheVariants.{Flat}
 use Rattle.owl_answer.specs.TurtleOutcome.{IsTold, canonical_said}
 use Rattle.owl_answer.proofs.Closures.{own_alike, own_once}
 use Rattle.owl_answer.proofs.ManchesterOnce as manchester
@@ -54,8 +55,8 @@ same_status : (a b : Outcome) → a ≡ b → b.status ≡ Done → a.status ≡
 same_status a b e d = ap (λ (o : Outcome). o.status) e ∙ d
 
 module _ (kinds : List Entity) (main : Said) where
-  turtle_once : (a b : Outcome) → IsTold kinds main a → IsTold kinds main b → a ≡ b
-  turtle_once a b h k = told_once kinds main a b h k
+  turtle_once : (a b : Outcome) → IsTold Flat kinds main a → IsTold Flat kinds main b → a ≡ b
+  turtle_once a b h k = told_once Flat kinds main a b h k
 
   pub tried_once : (a b : Outcome) → IsTried kinds main a → IsTried kinds main b → a ≡ b
   tried_once a b (no_turtle h n) (no_turtle k m) = turtle_once a b h k
@@ -75,12 +76,12 @@ module _ (read_way : ReadOneWay) (refused_way : RefusedOneWay) (never : NeverBot
   trial_once size a b (not_read refusal n f e) (not_read other m g d) =
       e ∙ ap (refusal_outcome trial_name) (refused_way (trial_contents size) (trial_source ∷ []) trial_source trial_source refusal other f g).1 ∙ sym d
   trial_once size a b (not_read refusal n f e) (read said r kinds own t) =
-      absurd (never (trial_contents size) (trial_source ∷ []) (an_ontology said ∷ []) trial_source refusal r f)
+      absurd (never (trial_contents size) (trial_source ∷ []) (an_ontology in_functional said ∷ []) trial_source refusal r f)
   trial_once size a b (read said r kinds own t) (not_read refusal n f e) =
-      absurd (never (trial_contents size) (trial_source ∷ []) (an_ontology said ∷ []) trial_source refusal r f)
+      absurd (never (trial_contents size) (trial_source ∷ []) (an_ontology in_functional said ∷ []) trial_source refusal r f)
   trial_once size a b (read said r kinds own t) (read other s others theirs u) =
-      let same : IsSame said other = (read_way (trial_contents size) (trial_source ∷ []) (an_ontology said ∷ []) (an_ontology other ∷ []) r s).0 in
-      let declared : kinds ≡ others = own_once (an_ontology other) kinds others (own_alike (an_ontology said) (an_ontology other) kinds same own) theirs in
+      let same : IsSame said other = (read_way (trial_contents size) (trial_source ∷ []) (an_ontology in_functional said ∷ []) (an_ontology in_functional other ∷ []) r s).0.1 in
+      let declared : kinds ≡ others = own_once (an_ontology in_functional other) kinds others (own_alike (an_ontology in_functional said) (an_ontology in_functional other) kinds (refl, same) own) theirs in
       let form : canonical_said said ≡ canonical_said other = same_said said other same in
       let there = subst (λ (main : Said). IsTried others main a) form (subst (λ (k : List Entity). IsTried k (canonical_said said) a) declared t) in
       tried_once others (canonical_said other) a b there u

@@ -4,8 +4,13 @@ use Rattle.std.specs.List.{sum_by}
 use Rattle.std.specs.Str.{encode_utf8_all}
 use Rattle.fss_write.specs.Text.{text_of}
 use Rattle.owl_atom.specs.declared.prefixes.Prefix.{Prefix}
+use Rattle.owl_command.specs.declared.command.Layout.{Layout}
+use Rattle.owl_command.specs.declared.command.Layout.TheVariants.{Flat, Nested}
 use Rattle.owl_command.specs.declared.status.Status.TheVariants.{Done}
-use Rattle.owl_doc.specs.Counts.{subtrees_of}
+use Rattle.rdf_graph.specs.declared.triple.Triple.{Triple}
+use Rattle.rdf_mapping.specs.Graphs.{graph_of}
+use Rattle.ttl_nest.proofs.OneFormLaws.{one_text}
+use Rattle.owl_doc.specs.Counts.{axiom_count, subtrees_of}
 use Rattle.owl_kind.specs.Kinds.{Entity}
 use Rattle.owl_list.specs.Ascending.{ascending}
 use Rattle.owl_tree.specs.Ontologies.{IsSameOntology, Ontology, canonical_ontology}
@@ -20,7 +25,7 @@ use Rattle.owl_messages.specs.Summary.{count_line, name_lines}
 use Rattle.owl_answer.specs.Typing.{DeclareSame}
 use Rattle.owl_kind.proofs.OrderLaws.{clash_once}
 use Rattle.owl_answer.proofs.TypingLaws.{not_all_typed, same_kinds_apart, same_kinds_clash, same_kinds_typed, same_kinds_untyped, same_ontology_typed, same_ontology_untyped, untyped_once}
-use Rattle.owl_answer.specs.TurtleOutcome.{IsFormTold, IsFunctionalTranslation, IsGraphTold, IsTold, IsTurtleTranslation, IsTyped, IsTypingRefusal, canonical_said, clashes, few, graph_translation, heavy, ill_typed, light, many, not_typed, ready, turtle_form, unsaid, untyped, well_typed}
+use Rattle.owl_answer.specs.TurtleOutcome.{IsFormTold, IsFunctionalTranslation, IsGraphTold, IsGraphText, IsGraphTranslation, IsTold, IsTurtleTranslation, IsTyped, IsTypingRefusal, canonical_said, clashes, few, heavy, ill_typed, light, many, not_typed, ready, turtle_form, unsaid, untyped, well_typed}
 use Rattle.owl_answer.proofs.Wanting.{limited_more, limited_once}
 use Rattle.owl_messages.specs.Outcome.{Outcome, counts_line, shown, translation}
 
@@ -92,40 +97,49 @@ functional_same kinds main other a s (well_typed t w) =
     well_typed (typed_same kinds main.ontology other.ontology s.ontology t) (limited_more _ _ (λ o k. k ∙ translation_same main other s) a w)
 
 -- what becomes of a document in Turtle
-form_once : (form : Said) (absorbed : ℕ) (a b : Outcome) → IsFormTold form absorbed a → IsFormTold form absorbed b → a ≡ b
-form_once form absorbed a b (many l e) (many m f) = e ∙ sym f
-form_once form absorbed a b (many l e) (few m w) = absurd (omega arith)
-form_once form absorbed a b (few l v) (many m f) = absurd (omega arith)
-form_once form absorbed a b (few l v) (few m w) =
-    limited_once (λ o. o ≡ graph_translation form absorbed) (λ o. o ≡ graph_translation form absorbed) (λ x y p q. p ∙ sym q) a b v w
+text_once : (layout : Layout) (prefixes : List Prefix) (g : List Triple) (text other : List ℕ) → IsGraphText layout prefixes g text → IsGraphText layout prefixes g other → text ≡ other
+text_once Flat prefixes g text other h k = h ∙ sym k
+text_once Nested prefixes g text other h k = one_text prefixes g text other h k
 
-graph_once : (main : Said) (a b : Outcome) → IsGraphTold main a → IsGraphTold main b → a ≡ b
-graph_once main a b (heavy l e) (heavy m f) = e ∙ sym f
-graph_once main a b (heavy l e) (light m w) = absurd (omega arith)
-graph_once main a b (light l v) (heavy m f) = absurd (omega arith)
-graph_once main a b (light l v) (light m w) = form_once (turtle_form main) (absorbed_count main.ontology) a b v w
+module _ (layout : Layout) where
+  written_once : (form : Said) (absorbed : ℕ) (a b : Outcome) → IsGraphTranslation layout form absorbed a → IsGraphTranslation layout form absorbed b → a ≡ b
+  written_once form absorbed a b h k =
+      h.told ∙ ap (λ (text : List ℕ). record { status = Done; text = encode_utf8_all text; line = counts_line (axiom_count form.ontology) absorbed }) (text_once layout form.prefixes (graph_of form.ontology) h.text k.text h.is k.is) ∙ sym k.told
 
-pub told_once : (kinds : List Entity) (main : Said) (a b : Outcome) → IsTold kinds main a → IsTold kinds main b → a ≡ b
-told_once kinds main a b (not_typed h) (not_typed k) = refusal_once kinds main.ontology a b h k
-told_once kinds main a b (not_typed h) (unsaid t part why k f) = absurd (refusal_or_typed kinds main.ontology a h t)
-told_once kinds main a b (not_typed h) (ready r w) = absurd (refusal_or_typed kinds main.ontology a h r.typed)
-told_once kinds main a b (unsaid t part why h e) (not_typed k) = absurd (refusal_or_typed kinds main.ontology b k t)
-told_once kinds main a b (unsaid t part why h e) (unsaid u other because k f) =
-    let same = unsayable_once main.ontology part other why because h k in
-    e ∙ (λ i. unsayable (same.0 i) (same.1 i)) ∙ sym f
-told_once kinds main a b (unsaid t part why h e) (ready r w) = absurd (not_all_said main.ontology part why h r.sayable)
-told_once kinds main a b (ready r v) (not_typed k) = absurd (refusal_or_typed kinds main.ontology b k r.typed)
-told_once kinds main a b (ready r v) (unsaid t part why k f) = absurd (not_all_said main.ontology part why k r.sayable)
-told_once kinds main a b (ready r v) (ready s w) = graph_once main a b v w
+  form_once : (form : Said) (absorbed : ℕ) (a b : Outcome) → IsFormTold layout form absorbed a → IsFormTold layout form absorbed b → a ≡ b
+  form_once form absorbed a b (many l e) (many m f) = e ∙ sym f
+  form_once form absorbed a b (many l e) (few m w) = absurd (omega arith)
+  form_once form absorbed a b (few l v) (many m f) = absurd (omega arith)
+  form_once form absorbed a b (few l v) (few m w) =
+      limited_once (IsGraphTranslation layout form absorbed) (IsGraphTranslation layout form absorbed) (λ x y p q. written_once form absorbed x y p q) a b v w
 
-pub translation_once : (kinds : List Entity) (main : Said) (a b : Outcome) → IsTurtleTranslation kinds main a → IsTurtleTranslation kinds main b → a ≡ b
-translation_once kinds main a b h k = told_once kinds (canonical_said main) a b h k
+  graph_once : (main : Said) (a b : Outcome) → IsGraphTold layout main a → IsGraphTold layout main b → a ≡ b
+  graph_once main a b (heavy l e) (heavy m f) = e ∙ sym f
+  graph_once main a b (heavy l e) (light m w) = absurd (omega arith)
+  graph_once main a b (light l v) (heavy m f) = absurd (omega arith)
+  graph_once main a b (light l v) (light m w) = form_once (turtle_form main) (absorbed_count main.ontology) a b v w
 
-told_alike : (kinds others : List Entity) (main : Said) (a : Outcome) → DeclareSame kinds others → IsTold kinds main a → IsTold others main a
-told_alike kinds others main a same (not_typed h) = not_typed (refusal_alike kinds others main.ontology a same h)
-told_alike kinds others main a same (unsaid t part why h e) = unsaid (typed_alike kinds others main.ontology same t) part why h e
-told_alike kinds others main a same (ready r w) = ready (record { typed = typed_alike kinds others main.ontology same r.typed; sayable = r.sayable }) w
+  pub told_once : (kinds : List Entity) (main : Said) (a b : Outcome) → IsTold layout kinds main a → IsTold layout kinds main b → a ≡ b
+  told_once kinds main a b (not_typed h) (not_typed k) = refusal_once kinds main.ontology a b h k
+  told_once kinds main a b (not_typed h) (unsaid t part why k f) = absurd (refusal_or_typed kinds main.ontology a h t)
+  told_once kinds main a b (not_typed h) (ready r w) = absurd (refusal_or_typed kinds main.ontology a h r.typed)
+  told_once kinds main a b (unsaid t part why h e) (not_typed k) = absurd (refusal_or_typed kinds main.ontology b k t)
+  told_once kinds main a b (unsaid t part why h e) (unsaid u other because k f) =
+      let same = unsayable_once main.ontology part other why because h k in
+      e ∙ (λ i. unsayable (same.0 i) (same.1 i)) ∙ sym f
+  told_once kinds main a b (unsaid t part why h e) (ready r w) = absurd (not_all_said main.ontology part why h r.sayable)
+  told_once kinds main a b (ready r v) (not_typed k) = absurd (refusal_or_typed kinds main.ontology b k r.typed)
+  told_once kinds main a b (ready r v) (unsaid t part why k f) = absurd (not_all_said main.ontology part why k r.sayable)
+  told_once kinds main a b (ready r v) (ready s w) = graph_once main a b v w
 
-pub translation_alike : (kinds others : List Entity) (main other : Said) (a : Outcome) → DeclareSame kinds others → IsSame main other → IsTurtleTranslation kinds main a → IsTurtleTranslation others other a
-translation_alike kinds others main other a same s h =
-    subst (λ (x : Said). IsTold others x a) (same_said main other s) (told_alike kinds others (canonical_said main) a same h)
+  pub translation_once : (kinds : List Entity) (main : Said) (a b : Outcome) → IsTurtleTranslation layout kinds main a → IsTurtleTranslation layout kinds main b → a ≡ b
+  translation_once kinds main a b h k = told_once kinds (canonical_said main) a b h k
+
+  told_alike : (kinds others : List Entity) (main : Said) (a : Outcome) → DeclareSame kinds others → IsTold layout kinds main a → IsTold layout others main a
+  told_alike kinds others main a same (not_typed h) = not_typed (refusal_alike kinds others main.ontology a same h)
+  told_alike kinds others main a same (unsaid t part why h e) = unsaid (typed_alike kinds others main.ontology same t) part why h e
+  told_alike kinds others main a same (ready r w) = ready (record { typed = typed_alike kinds others main.ontology same r.typed; sayable = r.sayable }) w
+
+  pub translation_alike : (kinds others : List Entity) (main other : Said) (a : Outcome) → DeclareSame kinds others → IsSame main other → IsTurtleTranslation layout kinds main a → IsTurtleTranslation layout others other a
+  translation_alike kinds others main other a same s h =
+      subst (λ (x : Said). IsTold layout others x a) (same_said main other s) (told_alike kinds others (canonical_said main) a same h)

@@ -7,10 +7,11 @@ use Rattle.owl_tree.specs.Ontologies.{Head, Ontology}
 use Rattle.owl_close.specs.Imports.{IsFirstMissing}
 use Rattle.owl_command.specs.Commands.{AsksImports, Request, Source, names_of}
 use Rattle.owl_command.specs.declared.command.Action.{Action}
+use Rattle.owl_command.specs.declared.command.Layout.{Layout}
 use Rattle.owl_command.specs.declared.command.Target.{Target as Syntax}
 use Rattle.owl_command.specs.declared.status.Status.{Status}
 use Rattle.owl_command.specs.declared.status.Status.TheVariants.{Done, No, Words, Document as NoDocument, Target, Limit, ReadFailed, WriteFailed, Memory}
-use Rattle.owl_documents.specs.Documents.{Contents, Parsed, Said, an_ontology}
+use Rattle.owl_documents.specs.Documents.{Contents, Parsed, Said, an_ontology, in_functional}
 use Rattle.owl_documents.specs.Shelves.{IsFaulty, IsFirstFaulty, Rises, Shelves}
 use Rattle.owl_answer.specs.KindsAt.{AreClosureKinds}
 use Rattle.owl_answer.specs.ManchesterOutcome.{IsManchesterTranslation, ReadsForm, manchester_form}
@@ -47,7 +48,7 @@ pub record IsTranslated (target : Syntax) (parsed : Parsed) (kinds : List Entity
 pub record IsToldWhole (added : ℕ) (target : Syntax) (kinds : List Entity) (whole : Said) (outcome : Outcome) : Type 0 where
   pub ordered : AreOrdered kinds
   pub wanted : Outcome
-  pub translated : IsTranslated target (an_ontology whole) kinds whole wanted
+  pub translated : IsTranslated target (an_ontology in_functional whole) kinds whole wanted
   pub told : outcome ≡ told_with (declared added) wanted
 
 -- what becomes by an action of the main one of these documents, which says this under these kinds, with its text
@@ -66,8 +67,8 @@ pub record IsToldOf (action : Action) (documents : List Parsed) (outcome : Outco
   pub told : IsToldOfMain action documents parsed kinds main outcome
 
 -- what becomes of a document of which a graph is written, and the text says its normal form
-pub record IsInTurtle (kinds : List Entity) (main : Said) (outcome : Outcome) : Type 0 where
-  pub is : IsTurtleTranslation kinds main outcome
+pub record IsInTurtle (layout : Layout) (kinds : List Entity) (main : Said) (outcome : Outcome) : Type 0 where
+  pub is : IsTurtleTranslation layout kinds main outcome
   pub back : IsSuccess outcome.status → ReadsSaid kinds outcome.text (turtle_form (canonical_said main))
 
 -- what becomes of a document that is written in frames, and the text says its normal form

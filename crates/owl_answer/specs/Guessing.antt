@@ -9,7 +9,7 @@ use Rattle.owl_answer.specs.KindsAt.{AreClosureKinds}
 
 -- the document, with those that are guessed of its graph where IRIs have these kinds
 abbrev pub with_guesses : List Entity → Parsed → Parsed
-with_guesses kinds (an_ontology said) = an_ontology said
+with_guesses kinds (an_ontology written said) = an_ontology written said
 with_guesses kinds (a_graph read) =
     a_graph (record { prefixes = read.prefixes; triples = read.triples; head = read.head; guessed = guessed (thinned read.triples) kinds })
 with_guesses kinds (the_frames d) = the_frames d

@@ -2,6 +2,7 @@ pub mod Answers
 pub mod Asked
 pub mod Checking
 pub mod Checks
+pub mod GraphTexts
 pub mod Guessing
 pub mod InProfile
 pub mod KindsAt

@@ -2,7 +2,7 @@
 use Rattle.std.specs.Prelude.{◌≡◌, ◌≢◌, ◌⊎◌, ◌++◌, ℕ, Bool, true, false, List, [], ◌∷◌, Some, Contains, slice_get}
 use Rattle.std.specs.List.{AllByRecursion, AllZip}
 use Rattle.owl_doc.specs.Documents as doc
-use Rattle.owl_documents.specs.Documents.{Parsed, Said, a_graph, an_ontology, said_of, the_frames}
+use Rattle.owl_documents.specs.Documents.{Parsed, Said, a_graph, an_ontology, in_bytes, in_functional, said_of, the_frames}
 use Rattle.owl_kind.specs.Kinds.{Entity}
 use Rattle.owl_messages.specs.declared.unsaid.UnsaidFault.{UnsaidFault}
 use Rattle.owl_messages.specs.declared.unsaid.UnsaidFault.TheVariants.{Memory}
@@ -86,7 +86,8 @@ pub record IsFirstFault (documents : List Parsed) (kinds : List Entity) (places 
 
 -- What is written in Functional-Style Syntax may be written in it again as it is. Of another document each name is to have its kind.
 abbrev pub asks_types : Parsed → Bool
-asks_types (an_ontology said) = false
+asks_types (an_ontology in_functional said) = false
+asks_types (an_ontology in_bytes said) = true
 asks_types (a_graph read) = true
 asks_types (the_frames d) = true
 

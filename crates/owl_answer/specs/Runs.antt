@@ -1,6 +1,7 @@
 -- What a run answers, for its words and the contents of its documents.
 use Rattle.std.specs.Prelude.{◌≡◌, ◌<◌, ◌≤◌, ℕ, Some, List, ◌++◌, length, slice_get, take, codes}
 use Rattle.owl_arena.specs.Shared.{heaviest}
+use Rattle.owl_canon.specs.Limits.{ReadsCanonical}
 use Rattle.owl_declare.specs.Needed.{AreNeeded, with_needs}
 use Rattle.owl_kind.specs.Kinds.{Entity, IsFirstClash}
 use Rattle.owl_tree.specs.Ontologies.{ontology_weight}
@@ -10,12 +11,12 @@ use Rattle.owl_doc.specs.Parts.{Part}
 use Rattle.sayable_parts.specs.Reasons.{Objection}
 use Rattle.owl_command.specs.Commands.{AsksImports, Asks, HasNoCommand, IsAmong, Request, Source, compares, names_of, of_main, sources_of, tries}
 use Rattle.owl_command.specs.declared.command.Action.{Action}
-use Rattle.owl_command.specs.declared.command.Action.TheVariants.{Translate, Check, Show, Declare}
+use Rattle.owl_command.specs.declared.command.Action.TheVariants.{Translate, Check, Show, Declare, Canon, Digest}
 use Rattle.owl_command.specs.declared.command.Target.{Target as Syntax}
 use Rattle.owl_command.specs.declared.command.Target.TheVariants.{Fss, Ttl, Omn}
 use Rattle.owl_command.specs.declared.status.Status.{Status}
 use Rattle.owl_command.specs.declared.status.Status.TheVariants.{Done, No, Words, Document as NoDocument, Limit, ReadFailed, WriteFailed, Memory}
-use Rattle.owl_documents.specs.Documents.{AreRead, Contents, IsFirstRefused, Parsed, Said, a_graph, an_ontology, the_frames, IsProperRefusal}
+use Rattle.owl_documents.specs.Documents.{AreRead, Contents, IsFirstRefused, Parsed, Said, a_graph, an_ontology, in_bytes, in_functional, the_frames, IsProperRefusal}
 use Rattle.owl_documents.specs.declared.trouble.Refusal.{Refusal}
 use Rattle.owl_messages.specs.declared.unsaid.UnsaidFault.{UnsaidFault}
 use Rattle.owl_answer.specs.Outcome.{IsComparison, IsSettled, IsSuccess, IsTheOutcome, heads_in}
@@ -28,13 +29,13 @@ use Rattle.owl_answer.specs.UnderKinds.{AllSay, HoldsOfMain, HoldsOfTwo, IsFirst
 use Rattle.owl_answer.specs.ManchesterOutcome.{IsManchesterTranslation, ReadsForm, manchester_form}
 use Rattle.owl_answer.specs.Trials.{IsTrialOutcome}
 use Rattle.owl_answer.specs.TurtleOutcome.{HasNoClash, IsFunctionalTranslation, IsTurtleTranslation, ReadsSaid, canonical_said, turtle_form}
-use Rattle.owl_messages.specs.Outcome.{IsLimited, Outcome, counts_line, declared, functional_form, missing_import, refusal_outcome, refused, shown, too_heavy_output, too_long_output, too_many_triples, told_with, translated, translation}
+use Rattle.owl_messages.specs.Outcome.{IsLimited, Outcome, canonical, counts_line, declared, digested, functional_form, missing_import, refusal_outcome, refused, shown, too_heavy_output, too_long_output, too_many_triples, told_with, translated, translation}
 use Rattle.owl_messages.specs.Unsaid.{IsProperFault, unsaid_outcome}
 
 -- The normal form that a syntax has for what a document says, where IRIs have these kinds.
 abbrev pub normal_form : Syntax → List Entity → Said → Said
 normal_form Fss kinds said = functional_form said
-normal_form Ttl kinds said = turtle_form (canonical_said said)
+normal_form (Ttl layout) kinds said = turtle_form (canonical_said said)
 normal_form Omn kinds said = manchester_form kinds (canonical_said said)
 
 -- where each import has to be there, it is
@@ -44,10 +45,11 @@ HasImports request documents = AsksImports request → MissesNone (heads_in docu
 -- What becomes of the main document where it is translated, by what it says under these kinds. What is written in Functional-Style Syntax
 -- is translated to it as it is.
 abbrev pub IsTranslation : Syntax → Parsed → List Entity → Said → Outcome → Type 0
-IsTranslation Fss (an_ontology said) kinds main outcome = IsLimited (λ wanted. wanted ≡ translation main) outcome
+IsTranslation Fss (an_ontology in_functional said) kinds main outcome = IsLimited (λ wanted. wanted ≡ translation main) outcome
+IsTranslation Fss (an_ontology in_bytes said) kinds main outcome = IsFunctionalTranslation kinds main outcome
 IsTranslation Fss (a_graph read) kinds main outcome = IsFunctionalTranslation kinds main outcome
 IsTranslation Fss (the_frames d) kinds main outcome = IsFunctionalTranslation kinds main outcome
-IsTranslation Ttl parsed kinds main outcome = IsTurtleTranslation kinds main outcome
+IsTranslation (Ttl layout) parsed kinds main outcome = IsTurtleTranslation layout kinds main outcome
 IsTranslation Omn parsed kinds main outcome = IsManchesterTranslation kinds main outcome
 
 -- It is one of these, whose line is told so where it is a success.
@@ -62,7 +64,7 @@ pub data IsDeclaration (target : Syntax) (kinds : List Entity) (main : Said) (ou
   clashes : (needs : List Entity) → AreNeeded kinds main.ontology needs → (iri : List ℕ) → IsFirstClash (kinds ++ needs) iri → outcome ≡ two_kinds iri → IsDeclaration target kinds main outcome
   heavy : (needs : List Entity) → AreNeeded kinds main.ontology needs → HasNoClash (kinds ++ needs) → heaviest < ontology_weight (with_needs needs main.ontology) → outcome ≡ too_heavy_output → IsDeclaration target kinds main outcome
   declared_whole : (needs known : List Entity) → AreKnown kinds main needs known → HasNoClash (kinds ++ needs) → ontology_weight (with_needs needs main.ontology) ≤ heaviest →
-      IsToldWith (declared (length needs)) (IsTranslation target (an_ontology (declared_said needs main)) known (declared_said needs main)) outcome → IsDeclaration target kinds main outcome
+      IsToldWith (declared (length needs)) (IsTranslation target (an_ontology in_functional (declared_said needs main)) known (declared_said needs main)) outcome → IsDeclaration target kinds main outcome
 
 -- What becomes by an action of the main one of these documents, by what it says under these kinds. A check is of all that it reaches.
 abbrev pub IsActionOutcome : Action → List Parsed → Parsed → List Entity → Said → Outcome → Type 0
@@ -70,6 +72,8 @@ IsActionOutcome (Translate target) documents parsed kinds main outcome = IsToldW
 IsActionOutcome (Check profile) documents parsed kinds main outcome = IsChecked profile documents outcome
 IsActionOutcome Show documents parsed kinds main outcome = IsLimited (λ wanted. wanted ≡ shown main) outcome
 IsActionOutcome (Declare target) documents parsed kinds main outcome = IsDeclaration target kinds (canonical_said main) outcome
+IsActionOutcome Canon documents parsed kinds main outcome = IsLimited (λ wanted. wanted ≡ canonical main) outcome
+IsActionOutcome Digest documents parsed kinds main outcome = outcome ≡ digested main
 
 -- What becomes of documents that all say something: of the main one, or of two. A trial has a document of its own.
 abbrev pub AnswersWith : Request → List Parsed → Outcome → Type 0
@@ -106,6 +110,8 @@ ActionLine (Declare target) Done line = (added axioms absorbed : ℕ) × (line �
 ActionLine (Check profile) Done line = line ≡ yes_line profile
 ActionLine (Check profile) No line = (breaches : ℕ) × (line ≡ no_line profile breaches)
 ActionLine Show Done line = line ≡ codes "shown\n"
+ActionLine Canon Done line = line ≡ codes "canonical\n"
+ActionLine Digest Done line = line ≡ codes "digested\n"
 ActionLine action status line = ⊥
 
 -- the line of a success
@@ -143,16 +149,16 @@ AsksDeclarations request = ⊥
 
 -- a translation to another syntax than Functional-Style Syntax, which can say all
 abbrev pub AsksOtherSyntax : Request → Type 0
-AsksOtherSyntax (of_main (Translate Ttl) options names) = Unit {0}
+AsksOtherSyntax (of_main (Translate (Ttl layout)) options names) = Unit {0}
 AsksOtherSyntax (of_main (Translate Omn) options names) = Unit {0}
-AsksOtherSyntax (of_main (Declare Ttl) options names) = Unit {0}
+AsksOtherSyntax (of_main (Declare (Ttl layout)) options names) = Unit {0}
 AsksOtherSyntax (of_main (Declare Omn) options names) = Unit {0}
 AsksOtherSyntax request = ⊥
 
 -- a translation to Turtle
 abbrev pub AsksTurtle : Request → Type 0
-AsksTurtle (of_main (Translate Ttl) options names) = Unit {0}
-AsksTurtle (of_main (Declare Ttl) options names) = Unit {0}
+AsksTurtle (of_main (Translate (Ttl layout)) options names) = Unit {0}
+AsksTurtle (of_main (Declare (Ttl layout)) options names) = Unit {0}
 AsksTurtle request = ⊥
 
 -- The lines of a status for what is asked for. A read fault names a document that has this cause, and a trial has the line of its outcome.
@@ -179,7 +185,7 @@ pub data IsLine (words : List (List ℕ)) (IsCause : Request → List ℕ → Ty
 -- the bytes are this in a syntax, under these kinds
 abbrev pub ReadsIn : Syntax → List Entity → List ℕ → Said → Type 0
 ReadsIn Fss kinds text said = ReadsFunctional text said.prefixes said.ontology
-ReadsIn Ttl kinds text said = ReadsSaid kinds text said
+ReadsIn (Ttl layout) kinds text said = ReadsSaid kinds text said
 ReadsIn Omn kinds text said = ReadsForm kinds text said
 
 -- With the declarations that it needs the main document is written, and the text reads back to the normal form of that, under kinds that have
@@ -190,12 +196,15 @@ pub record IsDeclaredText (target : Syntax) (kinds : List Entity) (main : Said) 
   pub are : AreKnown kinds main needs known
   pub reads : ReadsIn target known text (normal_form target known (declared_said needs main))
 
--- What the text of an action is: that of a translation reads back to the normal form of what the main document says, under the same kinds.
+-- What the text of an action is: that of a translation reads back to the normal form of what the main document says, under the same kinds, and
+-- canonical bytes to what it says.
 abbrev pub IsActionText : Action → List Entity → Said → List ℕ → Type 0
 IsActionText (Translate target) kinds main text = ReadsIn target kinds text (normal_form target kinds main)
 IsActionText (Check profile) kinds main text = Unit {0}
 IsActionText Show kinds main text = Unit {0}
 IsActionText (Declare target) kinds main text = IsDeclaredText target kinds (canonical_said main) text
+IsActionText Canon kinds main text = ReadsCanonical text main.ontology
+IsActionText Digest kinds main text = Unit {0}
 
 -- the text is that of the action, by what the main document says
 abbrev pub IsBack : Request → List Parsed → List ℕ → Type 0

@@ -1,6 +1,6 @@
 -- What is read back of the texts that a trial makes.
 use Rattle.std.specs.Prelude.{◌≡◌, ℕ, None, List, length}
-use Rattle.owl_documents.specs.Documents.{IsDefect, IsProperRefusal, Parsed, Said, a_graph, an_ontology, syntax_of}
+use Rattle.owl_documents.specs.Documents.{IsDefect, IsProperRefusal, Parsed, Said, a_graph, an_ontology, in_functional, syntax_of}
 use Rattle.owl_documents.specs.Reading.{AreReadUnder}
 use Rattle.owl_documents.specs.declared.document.Syntax.{Syntax}
 use Rattle.owl_documents.specs.declared.trouble.Refusal.{Refusal}
@@ -43,7 +43,7 @@ pub record ReadsSome (syntax : Syntax) (kinds : List Entity) (bytes : List ℕ) 
 -- this becomes of a document, which is an ontology
 pub record IsTriedAs (parsed : Parsed) (outcome : Outcome) : Type 0 where
   pub said : Said
-  pub is : parsed ≡ an_ontology said
+  pub is : parsed ≡ an_ontology in_functional said
   pub kinds : List Entity
   pub own : AreOwnKinds parsed kinds
   pub tried : IsTried kinds (canonical_said said) outcome

@@ -2,11 +2,12 @@
 use Rattle.std.specs.Prelude.{◌≡◌, ◌≢◌, ◌↔◌, ℕ, IsTrue, List, [], ◌∷◌, None, Some, codes, length}
 use Rattle.owl_breaches.specs.Sites.{Ontologies, Site}
 use Rattle.owl_command.specs.Commands.{Source}
+use Rattle.owl_command.specs.declared.command.Layout.TheVariants.{Flat}
 use Rattle.owl_command.specs.declared.command.Profile.{Profile}
 use Rattle.owl_command.specs.declared.command.Profile.TheVariants.{Dl, El, Ql, Rl}
 use Rattle.owl_command.specs.declared.status.Status.TheVariants.{Done}
 use Rattle.owl_doc.specs.Counts.{axiom_count, distinct_count}
-use Rattle.owl_documents.specs.Documents.{AreRead, Contents, IsFirstRefused, IsProperRefusal, Said, an_ontology}
+use Rattle.owl_documents.specs.Documents.{AreRead, Contents, IsFirstRefused, IsProperRefusal, Said, an_ontology, in_functional}
 use Rattle.owl_documents.specs.declared.trouble.Refusal.{Refusal}
 use Rattle.owl_kind.specs.Kinds.{Entity}
 use Rattle.owl_messages.specs.Outcome.{IsLimited, Outcome, refusal_outcome}
@@ -51,9 +52,9 @@ pub record AreFindings (kinds : List Entity) (main : Said) (f : Findings) : Type
 
 -- What becomes of a document in canonical form: the first translation that is refused, or what is found out.
 pub data IsTried (kinds : List Entity) (main : Said) (outcome : Outcome) : Type 0 where
-  no_turtle : IsTold kinds main outcome → outcome.status ≢ Done → IsTried kinds main outcome
-  no_manchester : (turtle : Outcome) → IsTold kinds main turtle → turtle.status ≡ Done → IsToldInManchester kinds main outcome → outcome.status ≢ Done → IsTried kinds main outcome
-  both : (turtle manchester : Outcome) → IsTold kinds main turtle → turtle.status ≡ Done → IsToldInManchester kinds main manchester → manchester.status ≡ Done → (f : Findings) → AreFindings kinds main f → IsLimited (λ wanted. wanted ≡ tried f) outcome → IsTried kinds main outcome
+  no_turtle : IsTold Flat kinds main outcome → outcome.status ≢ Done → IsTried kinds main outcome
+  no_manchester : (turtle : Outcome) → IsTold Flat kinds main turtle → turtle.status ≡ Done → IsToldInManchester kinds main outcome → outcome.status ≢ Done → IsTried kinds main outcome
+  both : (turtle manchester : Outcome) → IsTold Flat kinds main turtle → turtle.status ≡ Done → IsToldInManchester kinds main manchester → manchester.status ≡ Done → (f : Findings) → AreFindings kinds main f → IsLimited (λ wanted. wanted ≡ tried f) outcome → IsTried kinds main outcome
 
 -- the contents that a trial has: its document, under the name `trial`
 abbrev pub trial_name : List ℕ
@@ -69,4 +70,4 @@ trial_contents size name = Some (trial_document size)
 -- What becomes of a trial with so many classes.
 pub data IsTrialOutcome (size : ℕ) (outcome : Outcome) : Type 0 where
   not_read : (refusal : Refusal) → IsProperRefusal refusal → IsFirstRefused (trial_contents size) (trial_source ∷ []) trial_source refusal → outcome ≡ refusal_outcome trial_name refusal → IsTrialOutcome size outcome
-  read : (said : Said) → AreRead (trial_contents size) (trial_source ∷ []) (an_ontology said ∷ []) → (kinds : List Entity) → AreOwnKinds (an_ontology said) kinds → IsTried kinds (canonical_said said) outcome → IsTrialOutcome size outcome
+  read : (said : Said) → AreRead (trial_contents size) (trial_source ∷ []) (an_ontology in_functional said ∷ []) → (kinds : List Entity) → AreOwnKinds (an_ontology in_functional said) kinds → IsTried kinds (canonical_said said) outcome → IsTrialOutcome size outcome

@@ -8,6 +8,7 @@ use Rattle.owl_doc.specs.Counts.{axiom_count}
 use Rattle.owl_doc.specs.Entities.{declared_in}
 use Rattle.owl_writing.specs.Tables.{written_prefixes}
 use Rattle.rdf_graph.specs.Graphs.{most_triples}
+use Rattle.rdf_graph.specs.declared.term.Term.TheVariants.{Blank}
 use Rattle.rdf_graph.specs.declared.triple.Triple.{Triple}
 use Rattle.owl_doc.specs.Parts.{Part}
 use Rattle.sayable_parts.specs.Reasons.{Objection}
@@ -19,6 +20,12 @@ use Rattle.rdf_thin.specs.Thinned.{thinned}
 use Rattle.rdf_scans.specs.Outlines.{declarations}
 use Rattle.ttl_grammar.specs.Documents.{ReadsTurtle}
 use Rattle.ttl_write.specs.Text.{turtle_text}
+use Rattle.ttl_levels.specs.Nested.{IsNested}
+use Rattle.ttl_nest.specs.NestedForm.{IsNestedText}
+use Rattle.ttl_nested.specs.Renaming.{ReadsRenamed}
+use Rattle.owl_atom.specs.declared.prefixes.Prefix.{Prefix}
+use Rattle.owl_command.specs.declared.command.Layout.{Layout}
+use Rattle.owl_command.specs.declared.command.Layout.TheVariants.{Flat, Nested}
 use Rattle.owl_command.specs.declared.status.Status.TheVariants.{Done}
 use Rattle.owl_documents.specs.Documents.{Said}
 use Rattle.owl_answer.specs.Outcome.{IsSuccess}
@@ -34,17 +41,25 @@ canonical_said said = record { prefixes = said.prefixes; ontology = canonical_on
 abbrev pub turtle_form : Said → Said
 turtle_form said = record { prefixes = said.prefixes; ontology = normal_form said.ontology }
 
--- A translation writes the graph of the normal form, and counts the axioms that it has, and those that are absorbed.
-abbrev pub graph_translation : Said → ℕ → Outcome
-graph_translation form absorbed = record {
-  status = Done;
-  text = encode_utf8_all (turtle_text form.prefixes (graph_of form.ontology));
-  line = counts_line (axiom_count form.ontology) absorbed;
-}
+-- the text of a graph: a line for each triple, or with brackets and collections
+abbrev pub IsGraphText : Layout → List Prefix → List Triple → List ℕ → Type 0
+IsGraphText Flat prefixes g text = text ≡ turtle_text prefixes g
+IsGraphText Nested prefixes g text = IsNestedText prefixes g text
 
--- against whatever base IRI, the bytes are read in Turtle to the graph of this form, of which no tree is too deep
-pub record ReadsGraph (text : List ℕ) (form : Said) : Type 0 where
-  pub reads : (base : Option (List ℕ)) → ReadsTurtle base text (written_prefixes form.prefixes) (graph_of form.ontology)
+-- A translation writes the graph of the normal form, and counts the axioms that it has, and those that are absorbed.
+pub record IsGraphTranslation (layout : Layout) (form : Said) (absorbed : ℕ) (outcome : Outcome) : Type 0 where
+  pub text : List ℕ
+  pub is : IsGraphText layout form.prefixes (graph_of form.ontology) text
+  pub told : outcome ≡ record { status = Done; text = encode_utf8_all text; line = counts_line (axiom_count form.ontology) absorbed }
+
+-- Against whatever base IRI, the bytes are read in Turtle to this graph, where nodes stand in brackets under other labels.
+abbrev pub ReadsLaidOut : Layout → List ℕ → List Prefix → List Triple → Type 0
+ReadsLaidOut Flat bytes prefixes g = (base : Option (List ℕ)) → ReadsTurtle base bytes prefixes g
+ReadsLaidOut Nested bytes prefixes g = ReadsRenamed (λ label. IsNested g (Blank label)) bytes prefixes g
+
+-- so they are read to the graph of this form, of which no tree is too deep
+pub record ReadsGraph (layout : Layout) (text : List ℕ) (form : Said) : Type 0 where
+  pub reads : ReadsLaidOut layout text (written_prefixes form.prefixes) (graph_of form.ontology)
   pub shallow : AreShallow form.ontology
 
 -- no IRI has two kinds that no IRI may share
@@ -71,14 +86,14 @@ pub record IsReady (kinds : List Entity) (o : Ontology) : Type 0 where
   pub sayable : CanSayAll o
 
 -- What becomes of a normal form, which a graph has to say.
-pub data IsFormTold (form : Said) (absorbed : ℕ) (outcome : Outcome) : Type 0 where
-  many : most_triples < length (graph_of form.ontology) → outcome ≡ too_many_triples → IsFormTold form absorbed outcome
-  few : length (graph_of form.ontology) ≤ most_triples → IsLimited (λ wanted. wanted ≡ graph_translation form absorbed) outcome → IsFormTold form absorbed outcome
+pub data IsFormTold (layout : Layout) (form : Said) (absorbed : ℕ) (outcome : Outcome) : Type 0 where
+  many : most_triples < length (graph_of form.ontology) → outcome ≡ too_many_triples → IsFormTold layout form absorbed outcome
+  few : length (graph_of form.ontology) ≤ most_triples → IsLimited (IsGraphTranslation layout form absorbed) outcome → IsFormTold layout form absorbed outcome
 
 -- What becomes of a document of which all can be said.
-pub data IsGraphTold (main : Said) (outcome : Outcome) : Type 0 where
-  heavy : heaviest < ontology_weight (normal_form main.ontology) → outcome ≡ too_heavy_output → IsGraphTold main outcome
-  light : ontology_weight (normal_form main.ontology) ≤ heaviest → IsFormTold (turtle_form main) (absorbed_count main.ontology) outcome → IsGraphTold main outcome
+pub data IsGraphTold (layout : Layout) (main : Said) (outcome : Outcome) : Type 0 where
+  heavy : heaviest < ontology_weight (normal_form main.ontology) → outcome ≡ too_heavy_output → IsGraphTold layout main outcome
+  light : ontology_weight (normal_form main.ontology) ≤ heaviest → IsFormTold layout (turtle_form main) (absorbed_count main.ontology) outcome → IsGraphTold layout main outcome
 
 -- How an ontology is refused that is not well typed: the first IRI with a clash, or the first part with an entity that is not declared.
 pub data IsTypingRefusal (kinds : List Entity) (o : Ontology) (outcome : Outcome) : Type 0 where
@@ -91,16 +106,16 @@ pub data IsFunctionalTranslation (kinds : List Entity) (main : Said) (outcome : 
   well_typed : IsTyped kinds main.ontology → IsLimited (λ wanted. wanted ≡ translation main) outcome → IsFunctionalTranslation kinds main outcome
 
 -- What becomes of a document in canonical form: the first condition that fails, or what becomes of its graph.
-pub data IsTold (kinds : List Entity) (main : Said) (outcome : Outcome) : Type 0 where
-  not_typed : IsTypingRefusal kinds main.ontology outcome → IsTold kinds main outcome
-  unsaid : IsTyped kinds main.ontology → (part : Part) (why : Objection) → IsFirstUnsayable main.ontology part why → outcome ≡ unsayable part why → IsTold kinds main outcome
-  ready : IsReady kinds main.ontology → IsGraphTold main outcome → IsTold kinds main outcome
+pub data IsTold (layout : Layout) (kinds : List Entity) (main : Said) (outcome : Outcome) : Type 0 where
+  not_typed : IsTypingRefusal kinds main.ontology outcome → IsTold layout kinds main outcome
+  unsaid : IsTyped kinds main.ontology → (part : Part) (why : Objection) → IsFirstUnsayable main.ontology part why → outcome ≡ unsayable part why → IsTold layout kinds main outcome
+  ready : IsReady kinds main.ontology → IsGraphTold layout main outcome → IsTold layout kinds main outcome
 
 -- What becomes of a document.
-abbrev pub IsTurtleTranslation : List Entity → Said → Outcome → Type 0
-IsTurtleTranslation kinds main outcome = IsTold kinds (canonical_said main) outcome
+abbrev pub IsTurtleTranslation : Layout → List Entity → Said → Outcome → Type 0
+IsTurtleTranslation layout kinds main outcome = IsTold layout kinds (canonical_said main) outcome
 
 -- It is such an outcome, and the text of a success reads back to the graph of this form.
-pub record IsToldBack (IsOne : Outcome → Type 0) (form : Said) (outcome : Outcome) : Type 0 where
+pub record IsToldBack (layout : Layout) (IsOne : Outcome → Type 0) (form : Said) (outcome : Outcome) : Type 0 where
   pub is : IsOne outcome
-  pub back : IsSuccess outcome.status → ReadsGraph outcome.text form
+  pub back : IsSuccess outcome.status → ReadsGraph layout outcome.text form

@@ -15,7 +15,7 @@ use Rattle.owl_answer.specs.Outcome.{heads_in}
 -- What the document says under these kinds. The redundant triples of a graph are passed over, and the annotation properties that are guessed of
 -- it are declared.
 abbrev pub SaysUnder : List Entity → Parsed → Said → Type 0
-SaysUnder kinds (an_ontology said) other = other ≡ said
+SaysUnder kinds (an_ontology written said) other = other ≡ said
 SaysUnder kinds (a_graph read) other = (other.prefixes ≡ read.prefixes) × IsSaidWith (thinned read.triples) kinds read.guessed other.ontology
 SaysUnder kinds (the_frames d) other = (other.prefixes ≡ d.prefixes) × FramesMean d kinds other.ontology
 

@@ -80,6 +80,6 @@ fn asks_types(doc: &Document) -> bool
 {
     match doc {
         Document::Ontology(_) => false,
-        Document::Graph(_) | Document::Frames(_) => true,
+        Document::Canonical(_) | Document::Graph(_) | Document::Frames(_) => true,
     }
 }

@@ -64,7 +64,7 @@ fn guess_of(alloc: Global, document: Document, kinds: &Kinds) -> Result<Document
 {
     match document {
         Document::Graph(graph) => Ok(Document::Graph(guess_of_graph(alloc, graph, kinds)?)),
-        Document::Ontology(_) | Document::Frames(_) => Ok(document),
+        Document::Ontology(_) | Document::Canonical(_) | Document::Frames(_) => Ok(document),
     }
 }
 

@@ -43,7 +43,7 @@ fn document_head(alloc: Global, doc: &Document) -> Result<Head, NoMemory>
     ensures { IfOk result (λ head. head_of head ≡ head_in (parsed_of doc.now)) }
 {
     match doc {
-        Document::Ontology(doc) => doc.head().copy(alloc),
+        Document::Ontology(doc) | Document::Canonical(doc) => doc.head().copy(alloc),
         Document::Graph(graph) => graph.head.copy(alloc),
         Document::Frames(frames) => man_resolve::head(alloc, frames),
     }

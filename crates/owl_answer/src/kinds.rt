@@ -2,7 +2,7 @@
 
 ghost use Rattle.std.specs.Prelude.{◌<◌, [], IfOk, OnOk, map};
 ghost use Rattle.owl_doc.specs.Entities.{AddsAll};
-ghost use Rattle.owl_documents.specs.Documents.{an_ontology, guessed_entities, parsed_of, said_of};
+ghost use Rattle.owl_documents.specs.Documents.{an_ontology, guessed_entities, in_functional, parsed_of, said_of};
 ghost use Rattle.owl_documents.specs.declared.document.Document.TheVariants.{Graph};
 ghost use Rattle.owl_close.specs.Imports.{AreReached};
 ghost use Rattle.owl_answer.specs.KindsAt.{AddsAt, AddsOf, AreClosureKinds, AreDeclaredAt, AreOwnKinds};
@@ -43,7 +43,7 @@ pub fn own_kinds(alloc: Global, doc: &Document) -> Result<Kinds, NoMemory>
 
 /// The kinds that an ontology itself declares.
 pub fn ontology_kinds(alloc: Global, doc: &Doc) -> Result<Kinds, NoMemory>
-    ensures { IfOk result (AreOwnKinds (an_ontology (said_of doc.now))) }
+    ensures { IfOk result (AreOwnKinds (an_ontology in_functional (said_of doc.now))) }
 {
     let mut kinds = Kinds::new(alloc);
     declared(doc, &mut kinds)?;
@@ -99,7 +99,7 @@ fn declare(doc: &Document, kinds: &mut Kinds) -> Result<(), NoMemory>
     ensures { OnOk result (AddsOf (parsed_of doc.now) kinds.old kinds.new) }
 {
     match doc {
-        Document::Ontology(doc) => declared(doc, kinds),
+        Document::Ontology(doc) | Document::Canonical(doc) => declared(doc, kinds),
         Document::Graph(document) => declare_document(document, kinds),
         Document::Frames(document) => man_resolve::declared(document, kinds),
     }

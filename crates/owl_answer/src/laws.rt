@@ -2,6 +2,7 @@
 
 ghost use Rattle.std.specs.Prelude.{◌≡◌, ◌↔◌, ℕ, List};
 ghost use Rattle.owl_command.specs.Commands.{Source};
+ghost use Rattle.owl_command.specs.declared.command.Layout.{Layout};
 ghost use Rattle.owl_answer.specs.Guessing.{AreWithGuesses};
 ghost use Rattle.owl_answer.specs.KindsAt.{AreClosureKinds};
 ghost use Rattle.owl_answer.specs.ManchesterOutcome.{IsManchesterTranslation};
@@ -68,12 +69,13 @@ pub fn typing_depends_on_what_is_declared()
 /// ontology up to structural equivalence (Structural Specification, section
 /// 2.1), and on nothing else.
 pub fn turtle_translations_are_one()
-    ensures once { (kinds : List Entity) (main : Said) (outcome other : Outcome) →
-        IsTurtleTranslation kinds main outcome → IsTurtleTranslation kinds main other →
-        outcome ≡ other }
-    ensures same { (kinds others : List Entity) (main other : Said) (outcome : Outcome) →
-        DeclareSame kinds others → IsSame main other →
-        IsTurtleTranslation kinds main outcome → IsTurtleTranslation others other outcome }
+    ensures once { (layout : Layout) (kinds : List Entity) (main : Said) (outcome other : Outcome)
+        → IsTurtleTranslation layout kinds main outcome
+        → IsTurtleTranslation layout kinds main other → outcome ≡ other }
+    ensures same { (layout : Layout) (kinds others : List Entity) (main other : Said)
+        (outcome : Outcome) → DeclareSame kinds others → IsSame main other
+        → IsTurtleTranslation layout kinds main outcome
+        → IsTurtleTranslation layout others other outcome }
 {}
 
 /// Laws: one thing at most becomes of a document that is translated to Manchester

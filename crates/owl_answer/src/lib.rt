@@ -2,11 +2,13 @@
 #![tactic(auto)]
 
 mod asked;
+mod canonical;
 mod checking;
 mod closure;
 mod comparison;
 mod conclusion;
 mod declaring;
+mod graph_texts;
 mod guessing;
 mod imports;
 mod kinds;

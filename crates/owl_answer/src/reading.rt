@@ -120,7 +120,7 @@ fn read_whole(alloc: Global, document: Document, kinds: &Kinds) -> Result<Doc, U
     ensures fault { IfErr result (IsFaultUnder kinds.now (parsed_of document)) }
 {
     match document {
-        Document::Ontology(doc) => Ok(doc),
+        Document::Ontology(doc) | Document::Canonical(doc) => Ok(doc),
         Document::Graph(graph) => read_graph(alloc, &graph, kinds),
         Document::Frames(frames) => read_frames(alloc, &frames, kinds),
     }
@@ -137,7 +137,7 @@ pub fn read_under<'a>(
     ensures fault { IfErr result (IsFaultUnder kinds.now (parsed_of doc.now)) }
 {
     match doc {
-        Document::Ontology(doc) => Ok(Saying::Held(doc)),
+        Document::Ontology(doc) | Document::Canonical(doc) => Ok(Saying::Held(doc)),
         Document::Graph(graph) => Ok(Saying::Read(read_graph(alloc, graph, kinds)?)),
         Document::Frames(frames) => Ok(Saying::Read(read_frames(alloc, frames, kinds)?)),
     }

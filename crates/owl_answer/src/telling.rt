@@ -1,7 +1,6 @@
 //! What is told of documents by what they say.
 
 ghost use Rattle.std.specs.Prelude.{◌≡◌, ◌<◌, List, IfOk, length};
-ghost use Rattle.std.specs.Str.{encode_utf8_all};
 ghost use Rattle.fss_terms.specs.Functional.{ReadsFunctional};
 ghost use Rattle.owl_doc.specs.Documents.{ontology_of};
 ghost use Rattle.owl_documents.specs.Documents.{Parsed, said_of};
@@ -13,6 +12,7 @@ ghost use Rattle.owl_answer.specs.TurtleOutcome.{IsFunctionalTranslation};
 ghost use Rattle.owl_messages.specs.Answers.{outcome_of};
 ghost use Rattle.owl_messages.specs.Outcome.{IsLimited, shown, translation};
 
+use crate::canonical::{tell_canonical, tell_digest};
 use crate::checking::check;
 use crate::closure::Closure;
 use crate::declaring::tell_declaration;
@@ -22,7 +22,7 @@ use crate::typing::typing_refusal;
 use crate::written::translated;
 use fss_write::{WriteFault, write};
 use owl_characters::{MOST_BYTES, NoMemory};
-use owl_command::{Action, Status, Target};
+use owl_command::{Action, Layout, Status, Target};
 use owl_doc::Doc;
 use owl_messages::{Answer, summary, told, told_as_translated, too_long_output};
 use owl_tree::Kinds;
@@ -50,6 +50,8 @@ pub fn tell_closure(
         Action::Check(profile) => check(alloc, profile, closure, said),
         Action::Show => show(alloc, &said[0]),
         Action::Declare(target) => tell_declaration(alloc, target, closure, &said[0]),
+        Action::Canon => tell_canonical(alloc, &said[0]),
+        Action::Digest => tell_digest(alloc, &said[0]),
     }
 }
 
@@ -82,7 +84,7 @@ pub fn translate(
 {
     match target {
         Target::Fss => translate_in_functional(alloc, asks, kinds, main),
-        Target::Ttl => translate_in_turtle(alloc, kinds, main),
+        Target::Ttl(layout) => translate_in_turtle(alloc, layout, kinds, main),
         Target::Omn => translate_to_manchester(alloc, main, kinds),
     }
 }
@@ -110,7 +112,7 @@ fn translate_typed(alloc: Global, kinds: &Kinds, main: &Doc) -> Result<Answer, N
     ensures outcome { IfOk result (λ answer.
         IsFunctionalTranslation kinds.now (said_of main.now) (outcome_of answer)) }
     ensures back { IfOk result (λ answer. IsSuccess answer.status →
-        ReadsFunctional (encode_utf8_all answer.text) (declared_prefixes main.now.prefixes)
+        ReadsFunctional (outcome_of answer).text (declared_prefixes main.now.prefixes)
         (ontology_of main.now)) }
 {
     match typing_refusal(alloc, kinds, main)? {
@@ -124,7 +126,7 @@ fn translate_to_functional(alloc: Global, doc: &Doc) -> Result<Answer, NoMemory>
     ensures outcome { IfOk result (λ answer.
         IsLimited (λ wanted. wanted ≡ translation (said_of doc.now)) (outcome_of answer)) }
     ensures back { IfOk result (λ answer. IsSuccess answer.status →
-        ReadsFunctional (encode_utf8_all answer.text) (declared_prefixes doc.now.prefixes)
+        ReadsFunctional (outcome_of answer).text (declared_prefixes doc.now.prefixes)
         (ontology_of doc.now)) }
 {
     // What is known of every document.
@@ -137,13 +139,18 @@ fn translate_to_functional(alloc: Global, doc: &Doc) -> Result<Answer, NoMemory>
 }
 
 /// The translation of a document to Turtle.
-fn translate_in_turtle(alloc: Global, kinds: &Kinds, main: &Doc) -> Result<Answer, NoMemory>
+fn translate_in_turtle(
+    alloc: Global,
+    layout: Layout,
+    kinds: &Kinds,
+    main: &Doc,
+) -> Result<Answer, NoMemory>
     ensures { IfOk result (λ answer.
-        IsInTurtle kinds.now (said_of main.now) (outcome_of answer)) }
+        IsInTurtle layout kinds.now (said_of main.now) (outcome_of answer)) }
 {
     // What is known of every document.
     main.notes();
-    translate_to_turtle(alloc, main, kinds)
+    translate_to_turtle(alloc, layout, main, kinds)
 }
 
 /// What a document counts.

@@ -1,11 +1,10 @@
 //! What is answered to a trial.
 
 ghost use Rattle.std.specs.Prelude.{◌≡◌, ◌↔◌, ℕ, IsTrue, IfOk, length};
-ghost use Rattle.std.specs.Str.{encode_utf8_all};
 ghost use Rattle.breach_lists.specs.Telling.{ontologies_of};
 ghost use Rattle.owl_command.specs.Commands.{IsTrialSize};
 ghost use Rattle.owl_doc.specs.Documents.{ontology_of};
-ghost use Rattle.owl_documents.specs.Documents.{Said, an_ontology, parsed_of, said_of};
+ghost use Rattle.owl_documents.specs.Documents.{Said, an_ontology, in_functional, parsed_of, said_of};
 ghost use Rattle.owl_documents.specs.Reading.{AreReadUnder};
 ghost use Rattle.owl_documents.specs.declared.document.Syntax.TheVariants as syntax;
 ghost use Rattle.owl_messages.specs.Answers.{outcome_of};
@@ -25,8 +24,8 @@ use crate::manchester::translate_to_manchester;
 use crate::reading::read_under;
 use crate::trial_document::trial_document;
 use crate::turtle::translate_to_turtle;
-use owl_characters::{MOST_BYTES, NoMemory, Text};
-use owl_command::{Profile, Status};
+use owl_characters::{MOST_BYTES, NoMemory};
+use owl_command::{Layout, Profile, Status};
 use owl_doc::{Closure, Counts, Doc};
 use owl_documents::{Document, Syntax, Trouble, read_text};
 use owl_messages::{
@@ -61,19 +60,19 @@ pub fn answer_trial(alloc: Global, size: u32) -> Result<Answer, NoMemory>
 
 /// What becomes of the document of a trial.
 fn try_document(alloc: Global, document: Document) -> Result<Answer, NoMemory>
-    requires { (said : Said) × (parsed_of document ≡ an_ontology said) }
+    requires { (said : Said) × (parsed_of document ≡ an_ontology in_functional said) }
     ensures { IfOk result (λ answer. IsTriedAs (parsed_of document) (outcome_of answer)) }
 {
     match document {
         Document::Ontology(doc) => try_alone(alloc, doc),
-        Document::Graph(_) | Document::Frames(_) => unreachable!(),
+        Document::Canonical(_) | Document::Graph(_) | Document::Frames(_) => unreachable!(),
     }
 }
 
 /// What becomes of an ontology under the kinds that it declares itself.
 fn try_alone(alloc: Global, doc: Doc) -> Result<Answer, NoMemory>
     ensures { IfOk result (λ answer.
-        IsTriedAs (an_ontology (said_of doc)) (outcome_of answer)) }
+        IsTriedAs (an_ontology in_functional (said_of doc)) (outcome_of answer)) }
 {
     let kinds = ontology_kinds(alloc, &doc)?;
     try_ontology(alloc, doc, kinds)
@@ -87,7 +86,7 @@ fn try_ontology(alloc: Global, doc: Doc, kinds: Kinds) -> Result<Answer, NoMemor
 {
     // A document is in canonical form.
     doc.notes();
-    let turtle = translate_to_turtle(alloc, &doc, &kinds)?;
+    let turtle = translate_to_turtle(alloc, Layout::Flat, &doc, &kinds)?;
     if turtle.status != Status::Done {
         return Ok(turtle);
     }
@@ -95,7 +94,9 @@ fn try_ontology(alloc: Global, doc: Doc, kinds: Kinds) -> Result<Answer, NoMemor
     if manchester.status != Status::Done {
         return Ok(manchester);
     }
-    let findings = find(alloc, doc, kinds, &turtle.text, &manchester.text)?;
+    let turtle = turtle.output.as_bytes();
+    let manchester = manchester.output.as_bytes();
+    let findings = find(alloc, doc, kinds, turtle, manchester)?;
     report(alloc, &findings)
 }
 
@@ -118,13 +119,13 @@ fn find(
     alloc: Global,
     doc: Doc,
     kinds: Kinds,
-    turtle: &Text,
-    manchester: &Text,
+    turtle: &[u8],
+    manchester: &[u8],
 ) -> Result<Findings, NoMemory>
-    requires turtle { ReadsBack syntax.Turtle kinds (encode_utf8_all turtle.now)
+    requires turtle { ReadsBack syntax.Turtle kinds turtle.now
         (turtle_form (canonical_said (said_of doc))).ontology
         (length (graph_of (turtle_form (canonical_said (said_of doc))).ontology)) }
-    requires manchester { ReadsBack syntax.Manchester kinds (encode_utf8_all manchester.now)
+    requires manchester { ReadsBack syntax.Manchester kinds manchester.now
         (manchester_form kinds (canonical_said (said_of doc))).ontology 0 }
     ensures { IfOk result (AreFindings kinds (canonical_said (said_of doc))) }
 {
@@ -152,16 +153,16 @@ fn find(
 fn read_again(
     alloc: Global,
     syntax: Syntax,
-    text: &Text,
+    text: &[u8],
     kinds: &Kinds,
     doc: &Doc,
 ) -> Result<ReadAgain, NoMemory>
-    requires { ReadsSome syntax kinds.now (encode_utf8_all text.now) }
+    requires { ReadsSome syntax kinds.now text.now }
     ensures same { IfOk result (λ again. (o : Ontology) (triples : ℕ)
-        → ReadsBack syntax kinds.now (encode_utf8_all text.now) o triples
+        → ReadsBack syntax kinds.now text.now o triples
         → IsTrue again.same ↔ IsSameOntology o (ontology_of doc.now)) }
     ensures triples { IfOk result (λ again. (o : Ontology) (triples : ℕ)
-        → ReadsBack syntax kinds.now (encode_utf8_all text.now) o triples
+        → ReadsBack syntax kinds.now text.now o triples
         → again.triples ≡ triples) }
 {
     let document = read_whole_text(alloc, syntax, text)?;
@@ -172,12 +173,11 @@ fn read_again(
 }
 
 /// The document that a text is which has no defect.
-fn read_whole_text(alloc: Global, syntax: Syntax, text: &Text) -> Result<Document, NoMemory>
-    requires { HasNoDefect syntax (encode_utf8_all text.now) }
-    ensures { IfOk result (λ document.
-        AreReadUnder syntax (encode_utf8_all text.now) (parsed_of document)) }
+fn read_whole_text(alloc: Global, syntax: Syntax, text: &[u8]) -> Result<Document, NoMemory>
+    requires { HasNoDefect syntax text.now }
+    ensures { IfOk result (λ document. AreReadUnder syntax text.now (parsed_of document)) }
 {
-    match read_text(alloc, syntax, text.as_str().as_bytes()) {
+    match read_text(alloc, syntax, text) {
         Ok(document) => Ok(document),
         Err(Trouble::Memory) => Err(NoMemory),
         Err(Trouble::Refused(_) | Trouble::ReadFailed) => unreachable!(),
@@ -190,7 +190,7 @@ fn triple_count(document: &Document) -> u64
 {
     match document {
         Document::Graph(graph) => graph.graph.len() as u64,
-        Document::Ontology(_) | Document::Frames(_) => 0,
+        Document::Ontology(_) | Document::Canonical(_) | Document::Frames(_) => 0,
     }
 }
 

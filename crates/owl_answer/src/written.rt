@@ -11,7 +11,7 @@ ghost use Rattle.owl_messages.specs.Outcome.{counts_line};
 use owl_characters::{NoMemory, Text};
 use owl_command::Status;
 use owl_doc::Doc;
-use owl_messages::{Answer, counts_line};
+use owl_messages::{Answer, Output, counts_line};
 use std::alloc::Global;
 
 /// The answer with this text of the document, for which so many axioms were
@@ -26,7 +26,7 @@ pub fn translated(alloc: Global, doc: &Doc, absorbed: u64, text: Text) -> Result
     let line = counts_line(alloc, doc.axioms().len() as u64, absorbed)?;
     Ok(Answer {
         status: Status::Done,
-        text,
+        output: Output::Text(text),
         line,
     })
 }

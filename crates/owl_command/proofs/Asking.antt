@@ -11,10 +11,10 @@ use Rattle.std.proofs.lemmas.Str.{chars-encodes, encodes-chars}
 use Rattle.owl_characters.proofs.Characters.{scalars_of}
 use Rattle.owl_characters.specs.Iri.{IsIri}
 use Rattle.owl_command.specs.Commands.{AreNames, IsAmong, Asks, HasNoCommand, IsName, action_words, compares, flag_word, flag_words, of_main, tries}
-use Rattle.owl_command.proofs.CommandsLaws.{action_is_not_same, action_is_not_trial, actions_once, flags_front, option_is_no_name, trial_is_not_same, verb}
-use Rattle.owl_command.specs.WordParts.{AreTwoNames, IsOneSize, IsStripped, NameAgainst, NameNone, NameNoneAgainst, NameWith, fault_of_iri}
+use Rattle.owl_command.proofs.CommandsLaws.{action_ends, action_is_not_same, action_is_not_trial, actions_once, flags_front, option_is_no_name, trial_is_not_same, verb}
+use Rattle.owl_command.specs.WordParts.{AreTwoNames, IsOneSize, IsStripped, NameAgainst, NameNoVerb, NameNone, NameNoneAgainst, NamesAction, NameWith, fault_of_iri}
 use Rattle.owl_command.specs.declared.command.Action.{Action}
-use Rattle.owl_command.specs.declared.command.Action.TheVariants.{Translate, Check, Show, Declare}
+use Rattle.owl_command.specs.declared.command.Action.TheVariants.{Translate, Check, Show, Declare, Canon, Digest}
 use Rattle.owl_command.specs.declared.command.Options.{Options}
 use Rattle.owl_command.specs.declared.command.Profile.{Profile}
 use Rattle.owl_command.specs.declared.command.Target.{Target}
@@ -97,11 +97,17 @@ module _ (word : List ℕ) (utf8 : IsUtf8 word) (others : List (List ℕ)) where
   }
 
 -- words that begin with those of no action
-pub no_action : (words : List (List ℕ)) → ((target : Target) (others : List (List ℕ)) → words ≢ action_words (Translate target) ++ others) → ((profile : Profile) (others : List (List ℕ)) → words ≢ action_words (Check profile) ++ others) → ((target : Target) (others : List (List ℕ)) → words ≢ action_words (Declare target) ++ others) → ((others : List (List ℕ)) → words ≢ codes "show" ∷ others) → (action : Action) (others : List (List ℕ)) → words ≢ action_words action ++ others
-no_action words t k d s (Translate target) others e = t target others e
-no_action words t k d s (Check profile) others e = k profile others e
-no_action words t k d s Show others e = s others e
-no_action words t k d s (Declare target) others e = d target others e
+pub no_action : (words : List (List ℕ)) → ((target : Target) (others : List (List ℕ)) → words ≢ action_words (Translate target) ++ others) → ((profile : Profile) (others : List (List ℕ)) → words ≢ action_words (Check profile) ++ others) → ((target : Target) (others : List (List ℕ)) → words ≢ action_words (Declare target) ++ others) → NameNoVerb words → (action : Action) (others : List (List ℕ)) → words ≢ action_words action ++ others
+no_action words t k d v (Translate target) others e = t target others e
+no_action words t k d v (Check profile) others e = k profile others e
+no_action words t k d v Show others e = v.show others e
+no_action words t k d v (Declare target) others e = d target others e
+no_action words t k d v Canon others e = v.canon others e
+no_action words t k d v Digest others e = v.digest others e
+
+pub none_more : {X : Type 0} (found : Option X) (P Q : Type 0) → (P → Q) → IfNone found P → IfNone found Q
+none_more None P Q f p = f p
+none_more (Some x) P Q f p = tt
 
 -- what the words behind the first ones name is what the words ask for
 module _ (words others : List (List ℕ)) where
@@ -109,13 +115,13 @@ module _ (words others : List (List ℕ)) where
   asks_action action options names e n =
       record { allowed = n.right; are = e ∙ ap (λ (ws : List (List ℕ)). action_words action ++ ws) n.are }
 
-  pub no_names : (action : Action) → words ≡ action_words action ++ others → NameNone others → HasNoCommand words
+  pub no_names : (action : Action) → NamesAction words action others → NameNone others → HasNoCommand words
   no_names action e none (of_main other options names) a =
-      let one = actions_once action other others (flag_words options ++ names) (sym e ∙ a.are) in
+      let one = actions_once action other others (flag_words options ++ names) e.whole (action_ends names a.allowed.named.named other options) (sym e.are ∙ a.are) in
       none options names (record { right = a.allowed; are = one.1 })
   no_names action e none (compares first second) a =
-      action_is_not_same action others (first ∷ second ∷ []) (sym e ∙ a.are)
-  no_names action e none (tries size) a = action_is_not_trial action others (decimal size ∷ []) (sym e ∙ a.are)
+      action_is_not_same action others (first ∷ second ∷ []) (sym e.are ∙ a.are)
+  no_names action e none (tries size) a = action_is_not_trial action others (decimal size ∷ []) (sym e.are ∙ a.are)
 
   pub no_comparison : words ≡ codes "same" ∷ others → (AreTwoNames others → ⊥) → HasNoCommand words
   no_comparison e none (of_main action options names) a =

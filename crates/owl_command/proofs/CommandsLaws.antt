@@ -6,12 +6,14 @@ use Rattle.std.specs.Str.{chars, encode_utf8_all}
 use Rattle.std.proofs.lemmas.Fmt.{decimal_injective}
 use Rattle.std.proofs.lemmas.List.{append_assoc}
 use Rattle.std.proofs.lemmas.Str.{chars-encodes}
-use Rattle.owl_command.specs.Commands.{AreDistinct, AreDocuments, Asks, IsAbsolute, IsAllowed, IsName, IsTrialSize, Request, action_words, base_words, compares, flag_word, flag_words, names_of, of_main, profile_word, target_word, tries, words_of}
+use Rattle.owl_command.specs.Commands.{AreDistinct, AreDocuments, Asks, IsAbsolute, IsAllowed, IsName, IsTrialSize, Request, action_words, base_words, compares, flag_word, flag_words, names_of, of_main, profile_word, target_words, tries, words_of}
 use Rattle.owl_command.specs.declared.command.Action.{Action}
-use Rattle.owl_command.specs.declared.command.Action.TheVariants.{Translate, Check, Show, Declare}
+use Rattle.owl_command.specs.declared.command.Action.TheVariants.{Translate, Check, Show, Declare, Canon, Digest}
 use Rattle.owl_command.specs.declared.command.Options.{Options}
 use Rattle.owl_command.specs.declared.command.Profile.{Profile}
 use Rattle.owl_command.specs.declared.command.Profile.TheVariants.{Dl, El, Ql, Rl}
+use Rattle.owl_command.specs.WordParts.{EndsAction, EndsTarget}
+use Rattle.owl_command.specs.declared.command.Layout.TheVariants.{Flat, Nested}
 use Rattle.owl_command.specs.declared.command.Target.{Target}
 use Rattle.owl_command.specs.declared.command.Target.TheVariants.{Fss, Ttl, Omn}
 
@@ -87,18 +89,26 @@ abbrev first_letter : List ℕ → ℕ
 first_letter [] = 0
 first_letter (c ∷ cs) = c
 
--- the target whose word has this first letter
-abbrev target_by : ℕ → Target
-target_by c = if nat_eq c 102 then Fss else if nat_eq c 116 then Ttl else Omn
+-- whether the first word begins with this letter
+abbrev begins : ℕ → List (List ℕ) → Bool
+begins letter [] = false
+begins letter ([] ∷ words) = false
+begins letter ((c ∷ cs) ∷ words) = nat_eq c letter
 
-by_target : (target : Target) → target_by (first_letter (target_word target)) ≡ target
-by_target Fss = refl
-by_target Ttl = refl
-by_target Omn = refl
-
--- so a word names one target
-pub target_once : (one other : Target) → target_word one ≡ target_word other → one ≡ other
-target_once one other e = sym (by_target one) ∙ (ap (λ (word : List ℕ). target_by (first_letter word)) e ∙ by_target other)
+-- words begin with one target, where what stands behind doesn't belong to it
+pub target_once : (one other : Target) (behind rest : List (List ℕ)) → EndsTarget one behind → EndsTarget other rest → target_words one ++ behind ≡ target_words other ++ rest → (one ≡ other) × (behind ≡ rest)
+target_once Fss Fss behind rest h k e = (refl, cc)
+target_once Omn Omn behind rest h k e = (refl, cc)
+target_once (Ttl Flat) (Ttl Flat) behind rest h k e = (refl, cc)
+target_once (Ttl Nested) (Ttl Nested) behind rest h k e = (refl, cc)
+target_once (Ttl Flat) (Ttl Nested) behind rest h k e = let more : behind ≡ codes "--nest" ∷ rest = cc in absurd (h rest more)
+target_once (Ttl Nested) (Ttl Flat) behind rest h k e = let more : rest ≡ codes "--nest" ∷ behind = cc in absurd (k behind more)
+target_once Fss Omn behind rest h k e = let b : true ≡ false = ap (begins 102) e in absurd (cc)
+target_once Fss (Ttl layout) behind rest h k e = let b : true ≡ false = ap (begins 102) e in absurd (cc)
+target_once Omn Fss behind rest h k e = let b : true ≡ false = ap (begins 111) e in absurd (cc)
+target_once Omn (Ttl layout) behind rest h k e = let b : true ≡ false = ap (begins 111) e in absurd (cc)
+target_once (Ttl layout) Fss behind rest h k e = let b : true ≡ false = ap (begins 116) e in absurd (cc)
+target_once (Ttl layout) Omn behind rest h k e = let b : true ≡ false = ap (begins 116) e in absurd (cc)
 
 -- the profile whose word has this first letter
 abbrev by_letter : ℕ → Profile
@@ -114,19 +124,69 @@ by_word Rl = refl
 pub profile_once : (one other : Profile) → profile_word one ≡ profile_word other → one ≡ other
 profile_once one other e = sym (by_word one) ∙ (ap (λ (word : List ℕ). by_letter (first_letter word)) e ∙ by_word other)
 
+-- whether the second letter is that of `canon`, or of `digest`
+abbrev is_canon : List ℕ → Bool
+is_canon (c ∷ d ∷ cs) = nat_eq d 97
+is_canon cs = false
+
+abbrev is_digest : List ℕ → Bool
+is_digest (c ∷ d ∷ cs) = nat_eq d 105
+is_digest cs = false
+
+canon_is_not_check : codes "canon" ≡ codes "check" → ⊥
+canon_is_not_check e = let h : true ≡ false = ap is_canon e in absurd (cc)
+
+digest_is_not_declare : codes "digest" ≡ codes "declare" → ⊥
+digest_is_not_declare e = let h : true ≡ false = ap is_digest e in absurd (cc)
+
 -- first words are those of one action, with what stands behind them
-pub actions_once : (one other : Action) (behind rest : List (List ℕ)) → action_words one ++ behind ≡ action_words other ++ rest → (one ≡ other) × (behind ≡ rest)
-actions_once (Translate s) (Translate t) behind rest e =
-    let word : target_word s ≡ target_word t = cc in
-    (ap Translate (target_once s t word), cc)
-actions_once (Check p) (Check q) behind rest e =
+pub actions_once : (one other : Action) (behind rest : List (List ℕ)) → EndsAction one behind → EndsAction other rest → action_words one ++ behind ≡ action_words other ++ rest → (one ≡ other) × (behind ≡ rest)
+actions_once (Translate s) (Translate t) behind rest h k e =
+    let words : target_words s ++ behind ≡ target_words t ++ rest = cc in
+    let once = target_once s t behind rest h k words in
+    (ap Translate once.0, once.1)
+actions_once (Check p) (Check q) behind rest h k e =
     let word : profile_word p ≡ profile_word q = cc in
     (ap Check (profile_once p q word), cc)
-actions_once Show Show behind rest e = (refl, cc)
-actions_once (Declare s) (Declare t) behind rest e =
-    let word : target_word s ≡ target_word t = cc in
-    (ap Declare (target_once s t word), cc)
-actions_once _ _ behind rest e = absurd (cc)
+actions_once Show Show behind rest h k e = (refl, cc)
+actions_once (Declare s) (Declare t) behind rest h k e =
+    let words : target_words s ++ behind ≡ target_words t ++ rest = cc in
+    let once = target_once s t behind rest h k words in
+    (ap Declare once.0, once.1)
+actions_once Canon Canon behind rest h k e = (refl, cc)
+actions_once Digest Digest behind rest h k e = (refl, cc)
+actions_once Canon (Check q) behind rest h k e = absurd (canon_is_not_check (ap verb e))
+actions_once (Check p) Canon behind rest h k e = absurd (canon_is_not_check (ap verb (sym e)))
+actions_once Digest (Declare t) behind rest h k e = absurd (digest_is_not_declare (ap verb e))
+actions_once (Declare s) Digest behind rest h k e = absurd (digest_is_not_declare (ap verb (sym e)))
+actions_once _ _ behind rest h k e = absurd (cc)
+
+-- whether the third letter is that of `--nest`
+abbrev is_nest : List ℕ → Bool
+is_nest (c ∷ d ∷ e ∷ cs) = nat_eq e 110
+is_nest cs = false
+
+-- the words of options and names belong to no action
+module _ (names : List (List ℕ)) (named : AllByRecursion IsName names) where
+  no_nest : (partial guess : Bool) (base : Option (List ℕ)) (behind : List (List ℕ)) → flag_word (codes "--partial") partial ++ (flag_word (codes "--guess") guess ++ (base_words base ++ names)) ≢ codes "--nest" ∷ behind
+  no_nest true guess base behind e = cc
+  no_nest false true base behind e = cc
+  no_nest false false None behind e = no_option (codes "-nest") names behind named e
+  no_nest false false (Some iri) behind e = let b : false ≡ true = ap (λ ws. is_nest (verb ws)) e in absurd (cc)
+
+  target_ends : (target : Target) (options : Options) → EndsTarget target (flag_words options ++ names)
+  target_ends (Ttl Flat) options = λ behind e. no_nest options.partial options.guess options.base behind (sym (flags_front options names) ∙ e)
+  target_ends (Ttl Nested) options = tt
+  target_ends Fss options = tt
+  target_ends Omn options = tt
+
+  pub action_ends : (action : Action) (options : Options) → EndsAction action (flag_words options ++ names)
+  action_ends (Translate target) options = target_ends target options
+  action_ends (Declare target) options = target_ends target options
+  action_ends (Check profile) options = tt
+  action_ends Show options = tt
+  action_ends Canon options = tt
+  action_ends Digest options = tt
 
 -- and no comparison's
 pub action_is_not_same : (action : Action) (behind rest : List (List ℕ)) → action_words action ++ behind ≡ codes "same" ∷ rest → ⊥
@@ -134,6 +194,8 @@ action_is_not_same (Translate target) behind rest e = cc
 action_is_not_same (Check profile) behind rest e = cc
 action_is_not_same Show behind rest e = show_is_not_same (ap verb e)
 action_is_not_same (Declare target) behind rest e = cc
+action_is_not_same Canon behind rest e = cc
+action_is_not_same Digest behind rest e = cc
 
 -- whether the third letter is that of `trial`
 abbrev is_trial : List ℕ → Bool
@@ -149,6 +211,8 @@ action_is_not_trial (Translate target) behind rest e = let h : false ≡ true = 
 action_is_not_trial (Check profile) behind rest e = let h : false ≡ true = ap (λ ws. is_trial (verb ws)) e in absurd (cc)
 action_is_not_trial Show behind rest e = let h : false ≡ true = ap (λ ws. is_trial (verb ws)) e in absurd (cc)
 action_is_not_trial (Declare target) behind rest e = let h : false ≡ true = ap (λ ws. is_trial (verb ws)) e in absurd (cc)
+action_is_not_trial Canon behind rest e = let h : false ≡ true = ap (λ ws. is_trial (verb ws)) e in absurd (cc)
+action_is_not_trial Digest behind rest e = let h : false ≡ true = ap (λ ws. is_trial (verb ws)) e in absurd (cc)
 
 size_once : (one other : ℕ) → IsTrialSize one → IsTrialSize other → decimal one ≡ decimal other → one ≡ other
 size_once one other h k e = decimal_injective one other (omega (arith, h.few)) (omega (arith, k.few)) e
@@ -164,7 +228,7 @@ asks_once words one other h k = by_words one other h.allowed k.allowed (sym h.ar
   where
     by_words : (one other : Request) → IsAllowed one → IsAllowed other → words_of one ≡ words_of other → one ≡ other
     by_words (of_main a p names) (of_main b q others) h k e =
-        let action = actions_once a b (flag_words p ++ names) (flag_words q ++ others) e in
+        let action = actions_once a b (flag_words p ++ names) (flag_words q ++ others) (action_ends names h.named.named a p) (action_ends others k.named.named b q) e in
         let once = flags_once p q names others h k action.1 in
         cc
     by_words (of_main a p names) (compares first second) h k e =

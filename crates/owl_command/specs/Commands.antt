@@ -4,12 +4,14 @@ use Rattle.std.specs.Fmt.{decimal}
 use Rattle.std.specs.List.{AllByRecursion}
 use Rattle.std.specs.Str.{all_scalars, encode_utf8_all}
 use Rattle.owl_characters.specs.Iri.{IsIri}
+use Rattle.owl_command.specs.declared.command.Layout.{Layout}
+use Rattle.owl_command.specs.declared.command.Layout.TheVariants.{Flat, Nested}
 use Rattle.owl_command.specs.declared.command.Target.{Target}
 use Rattle.owl_command.specs.declared.command.Target.TheVariants.{Fss, Ttl, Omn}
 use Rattle.owl_command.specs.declared.command.Profile.{Profile}
 use Rattle.owl_command.specs.declared.command.Profile.TheVariants.{Dl, El, Ql, Rl}
 use Rattle.owl_command.specs.declared.command.Action.{Action}
-use Rattle.owl_command.specs.declared.command.Action.TheVariants.{Translate, Check, Show, Declare}
+use Rattle.owl_command.specs.declared.command.Action.TheVariants.{Translate, Check, Show, Declare, Canon, Digest}
 use Rattle.owl_command.specs.declared.command.Command.{Command}
 use Rattle.owl_command.specs.declared.command.Command.TheVariants.{OfMain, Same, Trial}
 use Rattle.owl_command.specs.declared.command.Options.{Options}
@@ -20,9 +22,10 @@ pub record EndsIn (suffix name : List ℕ) : Type 0 where
   pub some : 0 < length front
   pub ends : name ≡ front ++ suffix
 
--- it ends in `.ofn` (Functional-Style Syntax), `.ttl` (Turtle) or `.omn` (Manchester Syntax)
+-- it ends in `.ofn` (Functional-Style Syntax), `.ttl` (Turtle), `.omn` (Manchester Syntax) or `.owc` (canonical bytes)
 abbrev pub HasSuffix : List ℕ → Type 0
-HasSuffix name = EndsIn (codes ".ofn") name ⊎ (EndsIn (codes ".ttl") name ⊎ EndsIn (codes ".omn") name)
+HasSuffix name =
+    EndsIn (codes ".ofn") name ⊎ (EndsIn (codes ".ttl") name ⊎ (EndsIn (codes ".omn") name ⊎ EndsIn (codes ".owc") name))
 
 -- a document's name, which doesn't begin with `-`
 pub record IsName (name : List ℕ) : Type 0 where
@@ -120,11 +123,15 @@ Guesses (of_main action options names) = options.guess ≡ true
 Guesses (compares first second) = ⊥
 Guesses (tries size) = ⊥
 
--- the word of a target
-abbrev pub target_word : Target → List ℕ
-target_word Fss = codes "fss"
-target_word Ttl = codes "ttl"
-target_word Omn = codes "omn"
+-- the words of a target
+abbrev pub layout_words : Layout → List (List ℕ)
+layout_words Flat = []
+layout_words Nested = codes "--nest" ∷ []
+
+abbrev pub target_words : Target → List (List ℕ)
+target_words Fss = codes "fss" ∷ []
+target_words (Ttl layout) = codes "ttl" ∷ layout_words layout
+target_words Omn = codes "omn" ∷ []
 
 -- the word of a profile
 abbrev pub profile_word : Profile → List ℕ
@@ -135,10 +142,12 @@ profile_word Rl = codes "rl"
 
 -- the first words of an action
 abbrev pub action_words : Action → List (List ℕ)
-action_words (Translate target) = codes "translate" ∷ codes "--to" ∷ target_word target ∷ []
+action_words (Translate target) = codes "translate" ∷ codes "--to" ∷ target_words target
 action_words (Check profile) = codes "check" ∷ codes "--profile" ∷ profile_word profile ∷ []
 action_words Show = codes "show" ∷ []
-action_words (Declare target) = codes "declare" ∷ codes "--to" ∷ target_word target ∷ []
+action_words (Declare target) = codes "declare" ∷ codes "--to" ∷ target_words target
+action_words Canon = codes "canon" ∷ []
+action_words Digest = codes "digest" ∷ []
 
 -- a word that is there or not
 abbrev pub flag_word : List ℕ → Bool → List (List ℕ)

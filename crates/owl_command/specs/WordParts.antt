@@ -1,9 +1,15 @@
 -- What the first words of the command line leave to those behind them.
-use Rattle.std.specs.Prelude.{◌≡◌, ◌≢◌, ◌==◌, ◌&&◌, ℕ, Bool, false, get_or, not, Option, IfSome, List, [], ◌∷◌, ◌++◌}
+use Rattle.std.specs.Prelude.{◌≡◌, ◌≢◌, ◌==◌, ◌&&◌, ℕ, Bool, false, true, get_or, not, Option, IfSome, List, [], ◌∷◌, ◌++◌, codes}
 use Rattle.std.specs.Fmt.{decimal}
 use Rattle.std.specs.Str.{all_ascii_digits}
-use Rattle.owl_command.specs.Commands.{AreDocuments, AreNames, IsAbsolute, IsTrialSize, base_words, flag_word, flag_words}
+use Rattle.owl_command.specs.Commands.{AreDocuments, AreNames, IsAbsolute, IsTrialSize, action_words, base_words, flag_word, flag_words, target_words}
+use Rattle.owl_command.specs.declared.command.Action.{Action}
+use Rattle.owl_command.specs.declared.command.Action.TheVariants.{Translate, Check, Show, Declare, Canon, Digest}
+use Rattle.owl_command.specs.declared.command.Layout.{Layout}
+use Rattle.owl_command.specs.declared.command.Layout.TheVariants.{Flat, Nested}
 use Rattle.owl_command.specs.declared.command.Options.{Options}
+use Rattle.owl_command.specs.declared.command.Target.{Target}
+use Rattle.owl_command.specs.declared.command.Target.TheVariants.{Fss, Ttl, Omn}
 use Rattle.owl_command.specs.declared.command.WordsFault.{WordsFault}
 use Rattle.owl_command.specs.declared.command.WordsFault.TheVariants.{Words, Memory}
 use Rattle.rdf_terms.specs.declared.fault.IriFault.{IriFault}
@@ -32,6 +38,42 @@ pub record NameWith (words : List (List ℕ)) (options : Options) (names : List 
 -- no names of documents
 abbrev pub NameNone : List (List ℕ) → Type 0
 NameNone words = (options : Options) (names : List (List ℕ)) → NameWith words options names → ⊥
+
+-- whether the word `--nest` is there
+abbrev pub chosen_layout : Bool → Layout
+chosen_layout false = Flat
+chosen_layout true = Nested
+
+-- what stands behind a target doesn't belong to it
+abbrev pub EndsTarget : Target → List (List ℕ) → Type 0
+EndsTarget (Ttl Flat) others = (rest : List (List ℕ)) → others ≢ codes "--nest" ∷ rest
+EndsTarget target others = Unit {0}
+
+-- the words begin with those of a target, and these stand behind it
+pub record NamesTarget (words : List (List ℕ)) (target : Target) (others : List (List ℕ)) : Type 0 where
+  pub are : words ≡ target_words target ++ others
+  pub whole : EndsTarget target others
+
+-- the words begin with those of no target
+abbrev pub NameNoTarget : List (List ℕ) → Type 0
+NameNoTarget words = (target : Target) (others : List (List ℕ)) → words ≢ target_words target ++ others
+
+-- what stands behind an action doesn't belong to it
+abbrev pub EndsAction : Action → List (List ℕ) → Type 0
+EndsAction (Translate target) others = EndsTarget target others
+EndsAction (Declare target) others = EndsTarget target others
+EndsAction action others = Unit {0}
+
+-- the words begin with those of an action, and these stand behind it
+pub record NamesAction (words : List (List ℕ)) (action : Action) (others : List (List ℕ)) : Type 0 where
+  pub are : words ≡ action_words action ++ others
+  pub whole : EndsAction action others
+
+-- the words begin with no action of one word
+pub record NameNoVerb (words : List (List ℕ)) : Type 0 where
+  pub show : (others : List (List ℕ)) → words ≢ codes "show" ∷ others
+  pub canon : (others : List (List ℕ)) → words ≢ codes "canon" ∷ others
+  pub digest : (others : List (List ℕ)) → words ≢ codes "digest" ∷ others
 
 -- two names of documents
 pub record AreTwoNames (words : List (List ℕ)) : Type 0 where

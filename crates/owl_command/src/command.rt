@@ -3,8 +3,8 @@
 ghost use Rattle.std.specs.Prelude.{◌≡◌, ◌≢◌, ◌∷◌, ◌++◌, ◌<◌, ◌↔◌, List, ℕ, Some, length, map, slice_get, string_bytes, IsTrue, IfOk, IfSome, IfNone, IsErrOf, codes};
 ghost use Rattle.std.specs.Option.{option_copied, option_map};
 ghost use Rattle.std.specs.Str.{encode_utf8_all};
-ghost use Rattle.owl_command.specs.Commands.{AsksImports, Guesses, HasNoCommand, IsCommand, action_words, names_of, profile_word, request_of, sources_of, target_word};
-ghost use Rattle.owl_command.specs.WordParts.{AreTwoNames, IsOneSize, IsStripped, NameAgainst, NameNone, NameNoneAgainst};
+ghost use Rattle.owl_command.specs.Commands.{AsksImports, Guesses, HasNoCommand, IsCommand, action_words, names_of, profile_word, request_of, sources_of};
+ghost use Rattle.owl_command.specs.WordParts.{AreTwoNames, IsOneSize, IsStripped, NameAgainst, NameNoTarget, NamesAction, NamesTarget, chosen_layout, NameNoVerb, NameNone, NameNoneAgainst};
 
 use crate::names::{are_names, is_word, texts_of};
 use crate::size::trial_size;
@@ -13,13 +13,22 @@ use rdf_terms::{Iri, IriFault};
 use std::alloc::Global;
 use thiserror::Error;
 
+/// How a graph stands in Turtle.
+#[derive(Clone, Copy, Debug, PartialEq, Eq)]
+pub enum Layout {
+    /// A line for each triple.
+    Flat,
+    /// With brackets and collections.
+    Nested,
+}
+
 /// The syntax of a translation.
 #[derive(Clone, Copy, Debug, PartialEq, Eq)]
 pub enum Target {
     /// Functional-Style Syntax.
     Fss,
     /// Turtle.
-    Ttl,
+    Ttl(Layout),
     /// Manchester Syntax.
     Omn,
 }
@@ -62,6 +71,10 @@ pub enum Action {
     Show,
     /// `declare --to TARGET`
     Declare(Target),
+    /// `canon`
+    Canon,
+    /// `digest`
+    Digest,
 }
 
 /// How the documents of an action are read.
@@ -213,43 +226,35 @@ fn strip<'a>(words: &'a [String], word: &str) -> Option<&'a [String]>
     }
 }
 
-/// The syntax that a word names.
-fn named_target(word: &str) -> Option<Target>
-    ensures some { IfSome result (λ target. word.now ≡ target_word target) }
-    ensures none { IfNone result ((target : Target) → word.now ≢ target_word target) }
-{
-    if is_word(word, "fss") {
-        Some(Target::Fss)
-    } else if is_word(word, "ttl") {
-        Some(Target::Ttl)
-    } else if is_word(word, "omn") {
-        Some(Target::Omn)
-    } else {
-        None
-    }
-}
-
-/// The syntax that a word behind `--to` names, and what stands behind it.
+/// The syntax that the words behind `--to` name, and what stands behind them.
 fn strip_target(words: &[String]) -> Option<(Target, &[String])>
     ensures some { IfSome result (λ found.
-        map string_bytes words.now ≡ target_word found.0 ∷ map string_bytes found.1.now) }
-    ensures none { IfNone result ((target : Target) (others : List (List ℕ)) →
-        map string_bytes words.now ≢ target_word target ∷ others) }
+        NamesTarget (map string_bytes words.now) found.0 (map string_bytes found.1.now)) }
+    ensures none { IfNone result (NameNoTarget (map string_bytes words.now)) }
 {
-    match words {
-        [word, others @ ..] => {
-            let target = named_target(word.as_str())?;
-            Some((target, others))
-        }
-        [] => None,
+    if let Some(others) = strip(words, "fss") {
+        return Some((Target::Fss, others));
     }
+    if let Some(others) = strip(words, "omn") {
+        return Some((Target::Omn, others));
+    }
+    let others = strip(words, "ttl")?;
+    let (nest, others) = strip_flag(others, "--nest");
+    Some((Target::Ttl(chosen_layout(nest)), others))
+}
+
+/// How a graph stands, by whether it is to be nested.
+fn chosen_layout(nest: bool) -> Layout
+    ensures { result ≡ chosen_layout nest }
+{
+    if nest { Layout::Nested } else { Layout::Flat }
 }
 
 /// The syntax that the words of a translation name, and what stands behind
 /// them.
 fn strip_translation(words: &[String]) -> Option<(Target, &[String])>
-    ensures some { IfSome result (λ found. map string_bytes words.now
-        ≡ action_words (Action.Translate found.0) ++ map string_bytes found.1.now) }
+    ensures some { IfSome result (λ found. NamesAction (map string_bytes words.now)
+        (Action.Translate found.0) (map string_bytes found.1.now)) }
     ensures none { IfNone result ((target : Target) (others : List (List ℕ)) →
         map string_bytes words.now ≢ action_words (Action.Translate target) ++ others) }
 {
@@ -260,8 +265,8 @@ fn strip_translation(words: &[String]) -> Option<(Target, &[String])>
 /// The syntax that the words of a declaration name, and what stands behind
 /// them.
 fn strip_declaration(words: &[String]) -> Option<(Target, &[String])>
-    ensures some { IfSome result (λ found. map string_bytes words.now
-        ≡ action_words (Action.Declare found.0) ++ map string_bytes found.1.now) }
+    ensures some { IfSome result (λ found. NamesAction (map string_bytes words.now)
+        (Action.Declare found.0) (map string_bytes found.1.now)) }
     ensures none { IfNone result ((target : Target) (others : List (List ℕ)) →
         map string_bytes words.now ≢ action_words (Action.Declare target) ++ others) }
 {
@@ -305,8 +310,8 @@ fn strip_profile(words: &[String]) -> Option<(Profile, &[String])>
 
 /// The profile that the words of a check name, and what stands behind them.
 fn strip_check(words: &[String]) -> Option<(Profile, &[String])>
-    ensures some { IfSome result (λ found. map string_bytes words.now
-        ≡ action_words (Action.Check found.0) ++ map string_bytes found.1.now) }
+    ensures some { IfSome result (λ found. NamesAction (map string_bytes words.now)
+        (Action.Check found.0) (map string_bytes found.1.now)) }
     ensures none { IfNone result ((profile : Profile) (others : List (List ℕ)) →
         map string_bytes words.now ≢ action_words (Action.Check profile) ++ others) }
 {
@@ -314,10 +319,26 @@ fn strip_check(words: &[String]) -> Option<(Profile, &[String])>
     strip_profile(others)
 }
 
+/// The action that one word names, and what stands behind it.
+fn strip_verb(words: &[String]) -> Option<(Action, &[String])>
+    ensures some { IfSome result (λ found. NamesAction (map string_bytes words.now)
+        found.0 (map string_bytes found.1.now)) }
+    ensures none { IfNone result (NameNoVerb (map string_bytes words.now)) }
+{
+    if let Some(others) = strip(words, "show") {
+        return Some((Action::Show, others));
+    }
+    if let Some(others) = strip(words, "canon") {
+        return Some((Action::Canon, others));
+    }
+    let others = strip(words, "digest")?;
+    Some((Action::Digest, others))
+}
+
 /// The action that the first words name, and what stands behind them.
 fn strip_action(words: &[String]) -> Option<(Action, &[String])>
-    ensures some { IfSome result (λ found. map string_bytes words.now
-        ≡ action_words found.0 ++ map string_bytes found.1.now) }
+    ensures some { IfSome result (λ found. NamesAction (map string_bytes words.now)
+        found.0 (map string_bytes found.1.now)) }
     ensures none { IfNone result ((action : Action) (others : List (List ℕ)) →
         map string_bytes words.now ≢ action_words action ++ others) }
 {
@@ -330,8 +351,7 @@ fn strip_action(words: &[String]) -> Option<(Action, &[String])>
     if let Some((target, others)) = strip_declaration(words) {
         return Some((Action::Declare(target), others));
     }
-    let others = strip(words, "show")?;
-    Some((Action::Show, others))
+    strip_verb(words)
 }
 
 /// Whether this word stands first, and the words behind it.

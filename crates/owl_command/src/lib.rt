@@ -6,5 +6,5 @@ mod names;
 mod size;
 mod status;
 
-pub use command::{Action, Command, Options, Profile, Target, WordsFault, words};
+pub use command::{Action, Command, Layout, Options, Profile, Target, WordsFault, words};
 pub use status::Status;

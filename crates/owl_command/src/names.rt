@@ -15,7 +15,7 @@ const MOST_NAMES: usize = 64;
 fn has_suffix(word: &str) -> bool
     ensures { IsTrue result ↔ HasSuffix word.now }
 {
-    ends_in(word, ".ofn") || ends_in(word, ".ttl") || ends_in(word, ".omn")
+    ends_in(word, ".ofn") || ends_in(word, ".ttl") || ends_in(word, ".omn") || ends_in(word, ".owc")
 }
 
 /// Whether a word is a document's name: it ends in the suffix of a syntax, and

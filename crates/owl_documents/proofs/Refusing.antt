@@ -3,6 +3,10 @@ use Rattle.std.proofs.Common.{Result, Ok, Err, IfErr, ◌≡◌, ◌≢◌, ◌<
 use Rattle.std.specs.Result.{IsErrAnd}
 use Rattle.std.proofs.lemmas.List.{append_assoc, length-append, length-take-le, take-append-le}
 use Rattle.owl_atom.specs.declared.prefixes.Prefix.{Prefix}
+use Rattle.owl_canon.specs.Limits.{ReadsCanonical}
+use Rattle.owl_canon.specs.declared.fault.CanonFault.{CanonFault}
+use Rattle.owl_canon.specs.declared.fault.CanonFault.TheVariants as canon
+use Rattle.owl_tree.specs.Ontologies.{Ontology}
 use Rattle.owl_port.specs.Outside.{before}
 use Rattle.owl_command.specs.Commands.{Source}
 use Rattle.owl_port.specs.declared.whole.ReadFault as port
@@ -14,12 +18,12 @@ use Rattle.rdf_scans.specs.Outlines.{IsOutlineFault}
 use Rattle.rdf_scans.specs.declared.fault.OutlineFault.{OutlineFault}
 use Rattle.rdf_scans.specs.declared.fault.OutlineFault.TheVariants as outline
 use Rattle.ttl_grammar.specs.Documents.{ReadsTurtle}
-use Rattle.owl_documents.specs.Documents.{AreFew, Contents, IsDefect, IsRefused, defective, of_header, syntax_of, IsProperRefusal}
-use Rattle.owl_documents.specs.Reading.{IsDefectAgainst, IsLimit, IsLonger, IsProper, IsTroubleOf, IsTroubleOfShelf, failed, no_memory, too_long, trouble_of, trouble_of_header}
+use Rattle.owl_documents.specs.Documents.{AreFew, Contents, IsDefect, IsRefused, defective, of_bytes, of_header, syntax_of, IsProperRefusal}
+use Rattle.owl_documents.specs.Reading.{IsDefectAgainst, IsLimit, IsLonger, IsProper, IsTroubleOf, IsTroubleOfShelf, failed, no_memory, too_long, trouble_of, trouble_of_bytes, trouble_of_header}
 use Rattle.owl_documents.specs.declared.document.Syntax.{Syntax}
-use Rattle.owl_documents.specs.declared.document.Syntax.TheVariants.{Turtle}
+use Rattle.owl_documents.specs.declared.document.Syntax.TheVariants.{Canonical, Turtle}
 use Rattle.owl_documents.specs.declared.trouble.Refusal.{Refusal}
-use Rattle.owl_documents.specs.declared.trouble.Refusal.TheVariants.{DocumentBytes, AllBytes, Headless, Unreadable}
+use Rattle.owl_documents.specs.declared.trouble.Refusal.TheVariants.{DocumentBytes, AllBytes, Headless, NotCanon, Unreadable}
 use Rattle.owl_documents.specs.declared.trouble.Trouble.{Trouble}
 use Rattle.owl_documents.specs.declared.trouble.Trouble.TheVariants.{ReadFailed, Refused}
 
@@ -81,6 +85,15 @@ header_never_failed outline.TwoHeaders e = cc
 header_never_failed (outline.BadHeader node) e = cc
 header_never_failed outline.Memory e = cc
 
+-- bytes that are not canonical
+bytes_refusal_of : (fault : CanonFault) (refusal : Refusal) → trouble_of_bytes fault ≡ Refused refusal → (refusal ≡ NotCanon) × (fault ≡ canon.NotCanon)
+bytes_refusal_of canon.NotCanon refusal e = (cc, refl)
+bytes_refusal_of canon.Memory refusal e = absurd (cc)
+
+bytes_never_failed : (fault : CanonFault) → trouble_of_bytes fault ≡ ReadFailed → ⊥
+bytes_never_failed canon.NotCanon e = cc
+bytes_never_failed canon.Memory e = cc
+
 -- The trouble is what comes of this fault, whose refusal is of bytes that were fed.
 module _ {T Fault : Type 0} (trouble : Fault → Trouble) (r : Result T Trouble) (fault : Fault) (refused : IsErrAnd r (λ y. y ≡ trouble fault)) where
   by_fault : (P : Trouble → Type 0) → P (trouble fault) → IfErr r P
@@ -121,6 +134,18 @@ module _ {T : Type 0} (r : Result T Trouble) (fault : OutlineFault) (refused : I
   pub header_not_failed : r ≢ Err ReadFailed
   header_not_failed = not_failed trouble_of_header r fault refused (header_never_failed fault)
 
+module _ {T : Type 0} (r : Result T Trouble) (fault : CanonFault) (refused : IsErrAnd r (λ y. y ≡ trouble_of_bytes fault)) where
+  pub bytes_defect : (bytes : List ℕ) → (fault ≡ canon.NotCanon → (o : Ontology) → ReadsCanonical bytes o → ⊥) → IfErr r (λ trouble. (base : Option (List ℕ)) → IsDefectAgainst base Canonical bytes trouble)
+  bytes_defect bytes none = by_fault trouble_of_bytes r fault refused (λ trouble. (base : Option (List ℕ)) → IsDefectAgainst base Canonical bytes trouble) (λ base refusal is name t.
+      let told = bytes_refusal_of fault refusal is in
+      subst (IsDefect base name bytes) (sym told.0) (of_bytes t (none told.1)))
+
+  pub bytes_proper : IfErr r IsProper
+  bytes_proper = by_fault trouble_of_bytes r fault refused IsProper (λ refusal is. subst IsProperRefusal (sym (bytes_refusal_of fault refusal is).0) tt)
+
+  pub bytes_not_failed : r ≢ Err ReadFailed
+  bytes_not_failed = not_failed trouble_of_bytes r fault refused (bytes_never_failed fault)
+
 -- the document under a name has the defect of its bytes
 pub defect_trouble : (contents : Contents) (before : ℕ) (syntax : Syntax) (source : Source) (bytes : List ℕ) (trouble : Trouble) → syntax_of source.name ≡ syntax → contents source.name ≡ Some bytes → AreFew before (length bytes) → IsDefectAgainst source.base syntax bytes trouble → IsTroubleOf contents before source trouble
 defect_trouble contents before syntax source bytes trouble t there few d = λ refusal is.
@@ -147,6 +172,7 @@ module _ (before : ℕ) (fault : port.ReadFault) (trouble : Trouble) (of : IsTro
       of_limit AllBytes l = tt
       of_limit (Unreadable f) l = absurd l
       of_limit (Headless f) l = absurd l
+      of_limit NotCanon l = absurd l
 
       by_cause : IsTroubleOfShelf before fault trouble → IsProper trouble
       by_cause (failed f e) = λ refusal is. absurd (cc)

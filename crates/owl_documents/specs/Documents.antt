@@ -2,8 +2,9 @@
 use Rattle.std.specs.Prelude.{◌≡◌, ◌≢◌, ◌<◌, ◌≤◌, ◌+◌, ◌^◌, ◌⊎◌, ℕ, nat_eq, Option, Some, List, [], ◌∷◌, ◌++◌, codes, length, map, if◌then◌else◌}
 use Rattle.std.specs.List.{ends_with}
 use Rattle.owl_characters.specs.Limit.{most_bytes}
-use Rattle.owl_atom.specs.Prefixes.{AreAscending}
+use Rattle.owl_atom.specs.Prefixes.{AreAscending, fixed_prefixes}
 use Rattle.owl_atom.specs.declared.prefixes.Prefix.{Prefix}
+use Rattle.owl_canon.specs.Limits.{ReadsCanonical}
 use Rattle.owl_command.specs.Commands.{Source}
 use Rattle.owl_doc.specs.Documents as doc
 use Rattle.owl_doc.specs.Entities.{Declares}
@@ -33,9 +34,9 @@ use Rattle.owl_documents.specs.declared.document.Document.{Document}
 use Rattle.owl_documents.specs.declared.document.Document.TheVariants as document
 use Rattle.owl_documents.specs.declared.document.GraphDocument.{GraphDocument}
 use Rattle.owl_documents.specs.declared.document.Syntax.{Syntax}
-use Rattle.owl_documents.specs.declared.document.Syntax.TheVariants.{Functional, Turtle, Manchester}
+use Rattle.owl_documents.specs.declared.document.Syntax.TheVariants.{Functional, Turtle, Manchester, Canonical}
 use Rattle.owl_documents.specs.declared.trouble.Refusal.{Refusal}
-use Rattle.owl_documents.specs.declared.trouble.Refusal.TheVariants.{DocumentBytes, AllBytes, Unreadable, Headless}
+use Rattle.owl_documents.specs.declared.trouble.Refusal.TheVariants.{DocumentBytes, AllBytes, Unreadable, Headless, NotCanon}
 use Rattle.owl_reader.specs.declared.fault.ReadFault.TheVariants as read
 
 -- the bytes under each name, where there are any
@@ -59,15 +60,20 @@ pub record GraphRead : Type 0 where
   pub head : Head
   pub guessed : List (List ℕ)
 
+-- how what a document says is written, where it is known before the kinds of IRIs are
+pub data Written : Type 0 where
+  in_functional : Written
+  in_bytes : Written
+
 -- What is read of a document before the kinds of IRIs are known: what it says, a graph with the head that its header gives, or frames.
 pub data Parsed : Type 0 where
-  an_ontology : Said → Parsed
+  an_ontology : Written → Said → Parsed
   a_graph : GraphRead → Parsed
   the_frames : DocumentTree → Parsed
 
 -- how the document's ontology is called, and what it imports
 abbrev pub head_in : Parsed → Head
-head_in (an_ontology said) = said.ontology.head
+head_in (an_ontology written said) = said.ontology.head
 head_in (a_graph read) = read.head
 head_in (the_frames d) = frames.head_in d.head
 
@@ -81,14 +87,16 @@ graph_entities read = declarations read.triples ++ guessed_entities read.guessed
 
 -- the document declares the IRI as this kind
 abbrev pub DeclaresAs : Parsed → Kind → List ℕ → Type 0
-DeclaresAs (an_ontology said) kind iri = Declares said.ontology kind iri
+DeclaresAs (an_ontology written said) kind iri = Declares said.ontology kind iri
 DeclaresAs (a_graph read) kind iri = IsDeclared (graph_entities read) kind iri
 DeclaresAs (the_frames d) kind iri = IsDeclared (frame_entities d) kind iri
 
 -- The suffix of the name tells the syntax.
 abbrev pub syntax_of : List ℕ → Syntax
 syntax_of name =
-    if ends_with nat_eq name (codes ".ttl") then Turtle else (if ends_with nat_eq name (codes ".omn") then Manchester else Functional)
+    if ends_with nat_eq name (codes ".ttl") then Turtle
+    else (if ends_with nat_eq name (codes ".omn") then Manchester
+    else (if ends_with nat_eq name (codes ".owc") then Canonical else Functional))
 
 -- Against this base IRI, if any, the bytes are a document in Turtle with this graph and these prefixes, whose header gives this head.
 pub record ReadsGraph (base : Option (List ℕ)) (bytes : List ℕ) (read : GraphRead) : Type 0 where
@@ -105,19 +113,27 @@ pub record ReadsFrames (bytes : List ℕ) (d : DocumentTree) : Type 0 where
   pub reads : ReadsManchester bytes d
   pub ascending : AreAscending d.prefixes
 
+-- The bytes are the canonical bytes of the ontology, which has the prefixes that are declared beforehand.
+pub record ReadsBytes (bytes : List ℕ) (said : Said) : Type 0 where
+  pub reads : ReadsCanonical bytes said.ontology
+  pub prefixes : said.prefixes ≡ fixed_prefixes
+
 -- The bytes under this name are read as this, against a base IRI, if there is one. It changes nothing but what Turtle says.
 abbrev pub Reads : Option (List ℕ) → List ℕ → List ℕ → Parsed → Type 0
-Reads base name bytes (an_ontology said) = (syntax_of name ≡ Functional) × ReadsFunctional bytes said.prefixes said.ontology
+Reads base name bytes (an_ontology in_functional said) = (syntax_of name ≡ Functional) × ReadsFunctional bytes said.prefixes said.ontology
+Reads base name bytes (an_ontology in_bytes said) = (syntax_of name ≡ Canonical) × ReadsBytes bytes said
 Reads base name bytes (a_graph read) = (syntax_of name ≡ Turtle) × ReadsGraph base bytes read
 Reads base name bytes (the_frames d) = (syntax_of name ≡ Manchester) × ReadsFrames bytes d
 
--- What is wrong with the bytes under this name: the first defect by the grammar of their syntax, or what is wrong with the header of the graph.
+-- What is wrong with the bytes under this name: the first defect by the grammar of their syntax, what is wrong with the header of the graph,
+-- or that they are the canonical bytes of no ontology.
 pub data IsDefect (base : Option (List ℕ)) (name bytes : List ℕ) : Refusal → Type 0 where
   of_functional : (fault : ReadFault) → syntax_of name ≡ Functional → fss.IsFirstDefect bytes fault → IsDefect base name bytes (Unreadable fault)
   of_turtle : (fault : ReadFault) → syntax_of name ≡ Turtle → ttl.IsFirstDefect base bytes fault → IsDefect base name bytes (Unreadable fault)
   of_manchester : (fault : ReadFault) → syntax_of name ≡ Manchester → man.IsFirstDefect bytes fault → IsDefect base name bytes (Unreadable fault)
   of_header : (fault : OutlineFault) (prefixes : List Prefix) (triples : List Triple) → syntax_of name ≡ Turtle → ReadsTurtle base bytes prefixes triples →
       fault ≢ outline.Memory → IsOutlineFault triples fault → IsDefect base name bytes (Headless fault)
+  of_bytes : syntax_of name ≡ Canonical → ((o : Ontology) → ReadsCanonical bytes o → ⊥) → IsDefect base name bytes NotCanon
 
 -- the most bytes of all documents together
 abbrev pub most_bytes_of_all : ℕ
@@ -177,7 +193,8 @@ graph_read_of d = record { prefixes = d.prefixes; triples = d.graph; head = head
 
 -- what it is read as
 abbrev pub parsed_of : Document → Parsed
-parsed_of (document.Ontology d) = an_ontology (said_of d)
+parsed_of (document.Ontology d) = an_ontology in_functional (said_of d)
+parsed_of (document.Canonical d) = an_ontology in_bytes (said_of d)
 parsed_of (document.Graph d) = a_graph (graph_read_of d)
 parsed_of (document.Frames d) = the_frames d
 
@@ -187,3 +204,4 @@ IsProperRefusal DocumentBytes = Unit {0}
 IsProperRefusal AllBytes = Unit {0}
 IsProperRefusal (Unreadable fault) = fault ≢ read.Memory
 IsProperRefusal (Headless fault) = fault ≢ outline.Memory
+IsProperRefusal NotCanon = Unit {0}

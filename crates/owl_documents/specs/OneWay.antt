@@ -13,7 +13,7 @@ pub record IsSameGraph (a b : GraphRead) : Type 0 where
   pub guessed : a.guessed ≡ b.guessed
 
 abbrev pub IsSameParsed : Parsed → Parsed → Type 0
-IsSameParsed (an_ontology a) (an_ontology b) = IsSame a b
+IsSameParsed (an_ontology v a) (an_ontology w b) = (v ≡ w) × IsSame a b
 IsSameParsed (a_graph a) (a_graph b) = IsSameGraph a b
 IsSameParsed (the_frames d) (the_frames e) = d ≡ e
 IsSameParsed a b = ⊥

@@ -5,6 +5,8 @@ use Rattle.owl_reader.specs.declared.fault.ReadFault.{ReadFault}
 use Rattle.owl_reader.specs.declared.fault.ReadFault.TheVariants as read
 use Rattle.rdf_scans.specs.declared.fault.OutlineFault.{OutlineFault}
 use Rattle.rdf_scans.specs.declared.fault.OutlineFault.TheVariants as outline
+use Rattle.owl_canon.specs.declared.fault.CanonFault.{CanonFault}
+use Rattle.owl_canon.specs.declared.fault.CanonFault.TheVariants as canon
 use Rattle.owl_command.specs.Commands.{Request, Source, names_of, sources_of}
 use Rattle.owl_port.specs.declared.whole.ReadFault as port
 use Rattle.owl_port.specs.declared.whole.ReadFault.TheVariants as pf
@@ -13,7 +15,7 @@ use Rattle.owl_documents.specs.Shelves.{IsFaulty, IsFirstFaulty, IsFrontTaken, R
 use Rattle.owl_documents.specs.declared.document.Syntax.{Syntax}
 use Rattle.owl_documents.specs.declared.reading.Read.{Read}
 use Rattle.owl_documents.specs.declared.trouble.Refusal.{Refusal}
-use Rattle.owl_documents.specs.declared.trouble.Refusal.TheVariants.{DocumentBytes, AllBytes, Unreadable, Headless}
+use Rattle.owl_documents.specs.declared.trouble.Refusal.TheVariants.{DocumentBytes, AllBytes, Unreadable, Headless, NotCanon}
 use Rattle.owl_documents.specs.declared.trouble.Stop.{Stop}
 use Rattle.owl_documents.specs.declared.trouble.Trouble.{Trouble}
 use Rattle.owl_documents.specs.declared.trouble.Trouble.TheVariants.{ReadFailed, Refused, Memory}
@@ -34,6 +36,11 @@ trouble_of_header outline.Memory = Memory
 trouble_of_header outline.NoHeader = Refused (Headless outline.NoHeader)
 trouble_of_header outline.TwoHeaders = Refused (Headless outline.TwoHeaders)
 trouble_of_header (outline.BadHeader node) = Refused (Headless (outline.BadHeader node))
+
+-- and what comes of bytes that are not canonical
+abbrev pub trouble_of_bytes : CanonFault → Trouble
+trouble_of_bytes canon.NotCanon = Refused NotCanon
+trouble_of_bytes canon.Memory = Memory
 
 -- a reader was fed all that is there, so many bytes
 pub record IsFed (Fed : List ℕ → Type 0) (there : Option (List ℕ)) (size : ℕ) : Type 0 where
@@ -60,6 +67,7 @@ IsLimit DocumentBytes = Unit {0}
 IsLimit AllBytes = Unit {0}
 IsLimit (Unreadable fault) = ⊥
 IsLimit (Headless fault) = ⊥
+IsLimit NotCanon = ⊥
 
 -- Why a document is not fed whole, behind so many bytes of others.
 pub data IsTroubleOfShelf (before : ℕ) (fault : port.ReadFault) (trouble : Trouble) : Type 0 where

@@ -11,6 +11,8 @@ pub enum Syntax {
     Functional,
     Turtle,
     Manchester,
+    /// Canonical bytes.
+    Canonical,
 }
 
 /// A document that was read, before the kinds of IRIs are known.
@@ -18,6 +20,8 @@ pub enum Syntax {
 pub enum Document {
     /// Of Functional-Style Syntax.
     Ontology(Doc),
+    /// Of canonical bytes.
+    Canonical(Doc),
     /// Of Turtle.
     Graph(GraphDocument),
     /// Of Manchester Syntax.

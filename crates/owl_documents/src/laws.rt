@@ -18,4 +18,5 @@ pub fn documents_are_read_one_way()
     man_grammar::documents_are_read_one_way();
     man_grammar::defects_are_of_no_document();
     man_grammar::one_first_defect();
+    owl_canon::bytes_are_read_once();
 }

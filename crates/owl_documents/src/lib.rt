@@ -1,6 +1,7 @@
 //! Reads the documents that a command names, each to its end, from any shelf, and documents from memory.
 #![tactic(auto)]
 
+mod canonical;
 mod document;
 mod documents;
 mod laws;

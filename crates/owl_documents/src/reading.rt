@@ -7,6 +7,7 @@ ghost use Rattle.owl_documents.specs.Documents.{most_bytes_of_all, parsed_of, sy
 ghost use Rattle.owl_documents.specs.Reading.{AreReadUnder, IsDefectUnder, IsFed, IsLonger, IsProper, IsReadAs, IsTakenAlone, IsTroubleOf, IsTroubleOfShelf};
 ghost use Rattle.owl_characters.specs.Limit.{most_bytes};
 
+use crate::canonical::BytesReader;
 use crate::document::{Document, Syntax};
 use crate::limits::{limit_behind, room_behind};
 use crate::readers::DocumentReader;
@@ -120,6 +121,8 @@ fn syntax_of(name: &str) -> Syntax
         Syntax::Turtle
     } else if name.ends_with(".omn") {
         Syntax::Manchester
+    } else if name.ends_with(".owc") {
+        Syntax::Canonical
     } else {
         Syntax::Functional
     }
@@ -151,6 +154,7 @@ pub fn read_document<S: Shelf>(
         Syntax::Functional => read_in::<fss_read::Reader, S>(alloc, name, base, before, shelf),
         Syntax::Turtle => read_in::<ttl_read::Reader, S>(alloc, name, base, before, shelf),
         Syntax::Manchester => read_in::<man_read::Reader, S>(alloc, name, base, before, shelf),
+        Syntax::Canonical => read_in::<BytesReader, S>(alloc, name, base, before, shelf),
     }
 }
 
@@ -187,5 +191,6 @@ pub fn read_text(alloc: Global, syntax: Syntax, bytes: &[u8]) -> Result<Document
         Syntax::Functional => read_pieces::<fss_read::Reader>(alloc, bytes),
         Syntax::Turtle => read_pieces::<ttl_read::Reader>(alloc, bytes),
         Syntax::Manchester => read_pieces::<man_read::Reader>(alloc, bytes),
+        Syntax::Canonical => read_pieces::<BytesReader>(alloc, bytes),
     }
 }

@@ -1,8 +1,9 @@
 //! Why documents are not read.
 
 ghost use Rattle.std.specs.Prelude.{◌≡◌};
-ghost use Rattle.owl_documents.specs.Reading.{trouble_of, trouble_of_header};
+ghost use Rattle.owl_documents.specs.Reading.{trouble_of, trouble_of_bytes, trouble_of_header};
 
+use owl_canon::CanonFault;
 use owl_reader::ReadFault;
 use rdf_scans::OutlineFault;
 
@@ -17,6 +18,8 @@ pub enum Refusal {
     Unreadable(ReadFault),
     /// Its graph has no header of an ontology.
     Headless(OutlineFault),
+    /// Its bytes are the canonical bytes of no ontology.
+    NotCanon,
 }
 
 /// Why a document is not read.
@@ -55,6 +58,17 @@ impl From<OutlineFault> for Trouble {
         match fault {
             OutlineFault::Memory => Trouble::Memory,
             _ => Trouble::Refused(Refusal::Headless(fault)),
+        }
+    }
+}
+
+impl From<CanonFault> for Trouble {
+    ghost from_gives = { λ fault e. e ≡ trouble_of_bytes fault };
+
+    fn from(fault: CanonFault) -> Trouble {
+        match fault {
+            CanonFault::NotCanon => Trouble::Refused(Refusal::NotCanon),
+            CanonFault::Memory => Trouble::Memory,
         }
     }
 }

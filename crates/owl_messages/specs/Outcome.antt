@@ -1,8 +1,11 @@
--- What a run may answer: a status, a text and a line.
+-- What a run may answer: a status, what is written, and a line.
 use Rattle.std.specs.Prelude.{◌≡◌, ◌<◌, ◌≤◌, ℕ, List, [], ◌++◌, length, codes, nat_lt, if◌then◌else◌}
 use Rattle.std.specs.Fmt.{decimal}
 use Rattle.std.specs.Str.{encode_utf8_all}
 use Rattle.owl_characters.specs.Limit.{most_bytes}
+use Rattle.hex.specs.Hex.{encode_lower}
+use Rattle.sha2.specs.Sha256.{sha256}
+use Rattle.owl_canon.specs.Bytes.{canonical_bytes}
 use Rattle.owl_tree.specs.Ontologies.{canonical_ontology}
 use Rattle.owl_doc.specs.Counts.{axiom_count}
 use Rattle.owl_reader.specs.declared.fault.ReadFault.{ReadFault}
@@ -15,7 +18,7 @@ use Rattle.owl_command.specs.declared.status.Status.{Status}
 use Rattle.owl_command.specs.declared.status.Status.TheVariants.{Done, No, Words, Document as NoDocument, Target, Limit, ReadFailed, WriteFailed, Memory}
 use Rattle.owl_documents.specs.Documents.{Said}
 use Rattle.owl_documents.specs.declared.trouble.Refusal.{Refusal}
-use Rattle.owl_documents.specs.declared.trouble.Refusal.TheVariants.{DocumentBytes, AllBytes, Unreadable, Headless}
+use Rattle.owl_documents.specs.declared.trouble.Refusal.TheVariants.{DocumentBytes, AllBytes, Unreadable, Headless, NotCanon}
 use Rattle.rdf_graph.specs.declared.term.Term.{Term}
 use Rattle.rdf_graph.specs.declared.triple.Triple.{Triple}
 use Rattle.man_resolve.specs.declared.fault.ResolveFault.{ResolveFault}
@@ -27,7 +30,7 @@ use Rattle.rdf_scans.specs.declared.fault.OutlineFault.TheVariants as outline
 use Rattle.ttl_write.specs.Text.{full_term, full_triple}
 use Rattle.owl_messages.specs.Summary.{summary_text}
 
--- the status, the text on the output, and the line of the note
+-- the status, the bytes on the output, which are a text or canonical bytes, and the line of the note
 pub record Outcome : Type 0 where
   pub status : Status
   pub text : List ℕ
@@ -80,6 +83,18 @@ translation said = record {
 abbrev pub shown : Said → Outcome
 shown said = record { status = Done; text = summary_text said.ontology; line = codes "shown\n" }
 
+-- the canonical bytes of what a document says
+abbrev pub canonical : Said → Outcome
+canonical said = record { status = Done; text = canonical_bytes said.ontology; line = codes "canonical\n" }
+
+-- the SHA-256 digest of these bytes, in a line of 64 hexadecimal digits
+abbrev pub digested : Said → Outcome
+digested said = record {
+  status = Done;
+  text = encode_utf8_all (encode_lower (sha256 (canonical_bytes said.ontology)) ++ codes "\n");
+  line = codes "digested\n";
+}
+
 abbrev pub agreement : Outcome
 agreement = record { status = Done; text = codes "same\n"; line = codes "same\n" }
 
@@ -119,7 +134,7 @@ about_node word node = word ++ (codes " " ++ noted_as (codes "node") (encode_utf
 abbrev pub about_triple : List ℕ → Triple → List ℕ
 about_triple word triple = word ++ (codes " " ++ noted_as (codes "triple") (encode_utf8_all (full_triple triple)))
 
--- a graph, or frames, with this fault
+-- a graph, frames, or bytes, with this fault
 abbrev pub refused_graph : List ℕ → List ℕ → Outcome
 refused_graph name fault = refused NoDocument (name ++ (codes ": " ++ (fault ++ codes "\n")))
 
@@ -163,6 +178,7 @@ refusal_outcome name DocumentBytes = passed_limit (codes "DocumentBytes") name
 refusal_outcome name AllBytes = passed_limit (codes "AllBytes") name
 refusal_outcome name (Unreadable fault) = defect_outcome name fault
 refusal_outcome name (Headless fault) = headless name fault
+refusal_outcome name NotCanon = refused_graph name (codes "NotCanon")
 
 -- How a graph is refused that says no ontology under the kinds that it is read under. Want of memory is no fault of a graph.
 abbrev pub graph_outcome : List ℕ → ReverseFault → Outcome

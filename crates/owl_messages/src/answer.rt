@@ -3,17 +3,38 @@
 ghost use Rattle.std.specs.Prelude.{◌≡◌, ◌++◌, [], string_bytes, IfOk, IsErr};
 ghost use Rattle.std.specs.Str.{encode_utf8_all};
 ghost use Rattle.owl_messages.specs.Outcome.{counts_line, declared, told_with, too_long_output, translated};
-ghost use Rattle.owl_messages.specs.Answers.{outcome_of};
+ghost use Rattle.owl_messages.specs.Answers.{outcome_of, output_bytes};
 
 use owl_characters::{NoMemory, Text};
 use owl_command::Status;
 use std::alloc::{AllocError, Global};
 
-/// The status of a run, the text for the output, which is empty unless all is well, and the line for the note.
+/// What is written to the output.
+#[derive(Debug, Drop)]
+pub enum Output {
+    /// A text, in UTF-8.
+    Text(Text),
+    /// Bytes that are no text.
+    Bytes(Vec<u8>),
+}
+
+impl Output {
+    /// The bytes that are written.
+    pub fn as_bytes(&self) -> &[u8]
+        ensures { result.now ≡ output_bytes self.now }
+    {
+        match self {
+            Output::Text(text) => text.as_str().as_bytes(),
+            Output::Bytes(bytes) => bytes.as_slice(),
+        }
+    }
+}
+
+/// The status of a run, what is written to the output, which is empty unless all is well, and the line for the note.
 #[derive(Debug, Drop)]
 pub struct Answer {
     pub status: Status,
-    pub text: Text,
+    pub output: Output,
     pub line: String,
 }
 
@@ -28,7 +49,7 @@ pub fn refused(
 {
     Ok(Answer {
         status,
-        text: Text::new(alloc),
+        output: Output::Text(Text::new(alloc)),
         line: line?,
     })
 }
@@ -39,7 +60,24 @@ pub fn told(alloc: Global, status: Status, text: Text, line: &str) -> Result<Ans
 {
     Ok(Answer {
         status,
-        text,
+        output: Output::Text(text),
+        line: String::from_str(alloc, line)?,
+    })
+}
+
+/// An answer that writes these bytes, and a line.
+pub fn told_in_bytes(
+    alloc: Global,
+    status: Status,
+    bytes: Vec<u8>,
+    line: &str,
+) -> Result<Answer, NoMemory>
+    ensures { IfOk result (λ answer.
+        outcome_of answer ≡ record { status = status; text = bytes.items; line = line.now }) }
+{
+    Ok(Answer {
+        status,
+        output: Output::Bytes(bytes),
         line: String::from_str(alloc, line)?,
     })
 }
@@ -62,12 +100,20 @@ pub fn counts_line(alloc: Global, axioms: u64, absorbed: u64) -> Result<String, 
 pub fn told_as_translated(alloc: Global, answer: Answer) -> Result<Answer, NoMemory>
     ensures { IfOk result (λ told. outcome_of told ≡ told_with translated (outcome_of answer)) }
 {
-    let Answer { status, text, line } = answer;
+    let Answer {
+        status,
+        output,
+        line,
+    } = answer;
     let line = match status {
         Status::Done => format!(in alloc; "translated; {line}")?,
         _ => line,
     };
-    Ok(Answer { status, text, line })
+    Ok(Answer {
+        status,
+        output,
+        line,
+    })
 }
 
 /// The answer of a translation, told as one of a document that so many declarations were
@@ -76,12 +122,20 @@ pub fn told_as_declared(alloc: Global, added: u64, answer: Answer) -> Result<Ans
     ensures { IfOk result (λ told.
         outcome_of told ≡ told_with (declared added) (outcome_of answer)) }
 {
-    let Answer { status, text, line } = answer;
+    let Answer {
+        status,
+        output,
+        line,
+    } = answer;
     let line = match status {
         Status::Done => format!(in alloc; "declared; added {added}; {line}")?,
         _ => line,
     };
-    Ok(Answer { status, text, line })
+    Ok(Answer {
+        status,
+        output,
+        line,
+    })
 }
 
 /// The answer where the text would have more than 2^27 bytes.

@@ -10,7 +10,8 @@ mod unsaid;
 mod verdicts;
 
 pub use answer::{
-    Answer, counts_line, said, told, told_as_declared, told_as_translated, too_long_output,
+    Answer, Output, counts_line, said, told, told_as_declared, told_as_translated, told_in_bytes,
+    too_long_output,
 };
 pub use refusal::{answer_trouble, refuse_import, refuse_output};
 pub use refusals::{refuse_kinds, refuse_undeclared, refuse_unsayable};

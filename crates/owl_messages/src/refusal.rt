@@ -90,6 +90,18 @@ fn refuse_defect(alloc: Global, name: &str, fault: ReadFault) -> Result<Answer, 
     refused(alloc, Status::Limit, line)
 }
 
+/// What is answered where the bytes of the document of this name are not canonical.
+fn refuse_bytes(alloc: Global, name: &str) -> Result<Answer, NoMemory>
+    ensures { IfOk result (λ answer.
+        outcome_of answer ≡ refusal_outcome name.now Refusal.NotCanon) }
+{
+    refused(
+        alloc,
+        Status::Document,
+        format!(in alloc; "{name}: NotCanon\n"),
+    )
+}
+
 /// What is answered where the document of this name is refused.
 fn refuse(alloc: Global, name: &str, refusal: &Refusal) -> Result<Answer, NoMemory>
     ensures { IfOk result (λ answer. outcome_of answer ≡ refusal_outcome name.now refusal.now) }
@@ -99,6 +111,7 @@ fn refuse(alloc: Global, name: &str, refusal: &Refusal) -> Result<Answer, NoMemo
         Refusal::AllBytes => refuse_limit(alloc, "AllBytes", name),
         Refusal::Unreadable(fault) => refuse_defect(alloc, name, *fault),
         Refusal::Headless(fault) => refuse_headless(alloc, name, fault),
+        Refusal::NotCanon => refuse_bytes(alloc, name),
     }
 }
 

@@ -15,7 +15,7 @@ ghost use Rattle.owl_messages.specs.Verdicts.{no_line, part_text, verdict};
 ghost use Rattle.owl_profiles.specs.Profiles.{ProfileRule, name_of};
 ghost use Rattle.owl_writing.specs.Limits.{IsTooLong};
 
-use crate::answer::{Answer, too_long_output};
+use crate::answer::{Answer, Output, too_long_output};
 use fss_write::axiom_text;
 use owl_characters::{NoMemory, Text};
 use owl_command::{Profile, Status};
@@ -57,7 +57,7 @@ fn agree(alloc: Global, profile: Profile) -> Result<Answer, NoMemory>
     let word = profile.word();
     Ok(Answer {
         status: Status::Done,
-        text: Text::of(alloc, "yes\n")?,
+        output: Output::Text(Text::of(alloc, "yes\n")?),
         line: format!(in alloc; "profile {word}: yes\n")?,
     })
 }
@@ -73,7 +73,7 @@ fn refuse(alloc: Global, profile: Profile, count: usize, text: Text) -> Result<A
     let word = profile.word();
     Ok(Answer {
         status: Status::No,
-        text,
+        output: Output::Text(text),
         line: format!(in alloc; "profile {word}: no; breaches {count}\n")?,
     })
 }

@@ -2,9 +2,9 @@
 use Rattle.std.proofs.Common.{◌≡◌, inl, inr, ℕ, List, refl, sym, ap, ◌∙◌, subst}
 use Rattle.owl_reader.specs.declared.fault.ReadFault.TheVariants as read
 use Rattle.owl_documents.specs.declared.trouble.Refusal.{Refusal}
-use Rattle.owl_documents.specs.declared.trouble.Refusal.TheVariants.{DocumentBytes, AllBytes, Unreadable, Headless}
+use Rattle.owl_documents.specs.declared.trouble.Refusal.TheVariants.{DocumentBytes, AllBytes, Unreadable, Headless, NotCanon}
 use Rattle.owl_command.specs.Commands.{Request, compares, of_main, tries}
-use Rattle.owl_command.specs.declared.command.Action.TheVariants.{Translate, Check, Show, Declare}
+use Rattle.owl_command.specs.declared.command.Action.TheVariants.{Translate, Check, Show, Declare, Canon, Digest}
 use Rattle.owl_documents.specs.Documents.{IsProperRefusal}
 use Rattle.rdf_scans.specs.declared.fault.OutlineFault.TheVariants as outline
 use Rattle.owl_answer.specs.Outcome.{IsSettled}
@@ -20,6 +20,8 @@ no_success (of_main (Translate target) options names) line s = s
 no_success (of_main (Check profile) options names) line s = s
 no_success (of_main Show options names) line s = s
 no_success (of_main (Declare target) options names) line s = s
+no_success (of_main Canon options names) line s = s
+no_success (of_main Digest options names) line s = s
 no_success (compares first second) line s = s
 no_success (tries size) line s = s
 
@@ -37,6 +39,7 @@ no_refusal name (Headless outline.NoHeader) n e = cc
 no_refusal name (Headless outline.TwoHeaders) n e = cc
 no_refusal name (Headless (outline.BadHeader node)) n e = cc
 no_refusal name (Headless outline.Memory) n e = n refl
+no_refusal name NotCanon n e = cc
 
 not_failed : (o : Outcome) → IsRefusal o → ReadFailed ≡ o.status → ⊥
 not_failed o (inl f) e = let same = e ∙ ap (λ (x : Outcome). x.status) f in cc

@@ -46,7 +46,7 @@ fn deliver<O: Sink, N: Sink>(answer: &Answer, out: &mut O, note: &mut N) -> Stat
     ensures line_front { IsTrue (N.tells note.old) →
         (n : ℕ) × (N.written note.new ≡ N.written note.old ++ take n (delivered_line (outcome_of answer.now) result)) }
 {
-    match put_all(out, answer.text.as_str().as_bytes()) {
+    match put_all(out, answer.output.as_bytes()) {
         Ok(()) => {
             tell(note, answer.line.as_str());
             answer.status
@@ -109,12 +109,13 @@ fn obey<S: Shelf, O: Sink, N: Sink>(
 /// All that the program does for the words behind its name: it reads documents from the shelf, and writes its text to
 /// `out` and one line to `note`.
 ///
-/// A name that ends in `.ttl` is of a document in Turtle, one that ends in `.omn` of a document in Manchester Syntax, and
-/// each other one of a document in Functional-Style Syntax.
+/// A name that ends in `.ttl` is of a document in Turtle, one that ends in `.omn` of a document in Manchester Syntax, one that
+/// ends in `.owc` of canonical bytes, and each other one of a document in Functional-Style Syntax.
 ///
-/// The line of a status is `translated; axioms A; absorbed K`, `profile P: yes`, `shown`, `same` or `trial done` for `Done`,
+/// The line of a status is `translated; axioms A; absorbed K`, `declared; added D; axioms A; absorbed K`, `profile P: yes`,
+/// `shown`, `canonical`, `digested`, `same` or `trial done` for `Done`,
 /// `profile P: no; breaches B` or `different` for `No`, `words` for `Words`; for `Document` `NAME: item at ITEM: REASON at AT`,
-/// `NAME: MissingImport <IRI>`, or the fault of a graph or of frames:
+/// `NAME: NotCanon`, `NAME: MissingImport <IRI>`, or the fault of a graph or of frames:
 /// `NAME: NoHeader`, `NAME: TwoHeaders`, `NAME: BadHeader NODE`, `NAME: TwoKinds <IRI>`, `NAME: Mixed _:LABEL`, and so with
 /// `BadList`, `Cycle`, `BadNode`, `MainMissing` and `Orphan`, `NAME: Reserved S P O` or `NAME: Untyped S P O` of a graph, and
 /// `NAME: TwoKinds <IRI>`, `NAME: Untyped <IRI> at AT`, `NAME: WrongKind <IRI> at AT` or `NAME: WrongForm at AT` of frames;
@@ -127,9 +128,11 @@ fn obey<S: Shelf, O: Sink, N: Sink>(
 /// of those that it reaches; then, where that is asked for, annotation properties are guessed of each of these that is in
 /// Turtle: predicates that are not reserved and that these declare as no property; then each of these is read under the kinds
 /// that they declare together, with guesses (each of two that are compared under its own), and the first graph or document of frames that
-/// says no ontology is refused; then, unless a document in Functional-Style Syntax is translated to it, whether what the main
-/// one says is well typed; then, for Turtle and Manchester Syntax, whether it can be said. A check looks at all documents of
-/// the import closure, and tells each rule with each part that breaks it. A fault of `note` changes no status.
+/// says no ontology is refused. Then, for a translation, unless one of a document in Functional-Style Syntax to itself, it is
+/// asked whether what the main one says is well typed, and, for Turtle and Manchester Syntax, whether it can be said. With the
+/// declarations that it needs it is well typed, unless an IRI has then two kinds that none may share. Turtle has a line for each
+/// triple, or, where that is asked for, brackets and collections. A check looks at all documents of the import closure, and
+/// tells each rule with each part that breaks it. A fault of `note` changes no status.
 ///
 /// A trial reads nothing from the shelf: it makes a document in Functional-Style Syntax with so many classes, reads it,
 /// translates it to Turtle and to Manchester Syntax, reads both back, and checks it for each profile. Its nine lines tell

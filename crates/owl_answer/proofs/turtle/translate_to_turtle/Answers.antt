@@ -8,11 +8,16 @@ use Rattle.owl_answer.proofs.Turtles.{not_typed_told}
 use Rattle.owl_answer.proofs.turtle.translate_to_turtle.Goals as goal
 use Rattle.owl_messages.specs.Answers.{outcome_of}
 
+pub translate_typed-requires : goal.translate_typed-requires
+translate_typed-requires c =
+    let doc = c.args.doc.now in
+    (c.args.kinds.now, subst (λ (o : Option Answer). IsTyping c.args.kinds.now (ontology_of doc) o) c.in-None.is c.in_ok-refusal.ensures)
+
 pub returns-in-Some : goal.returns-in-Some
 returns-in-Some c =
     let doc = c.args.doc.now in
     let refused = subst (λ (o : Option Answer). IsTyping c.args.kinds.now (ontology_of doc) o) c.in-Some.is c.in_ok-refusal.ensures in
-    not_typed_told c.args.kinds.now (said_of doc) c.notes.ensures.document.canonical (outcome_of c.in-Some.refusal) refused
+    not_typed_told c.args.layout c.args.kinds.now (said_of doc) c.notes.ensures.document.canonical (outcome_of c.in-Some.refusal) refused
 
 pub returns-in-None : goal.returns-in-None
 returns-in-None c =
