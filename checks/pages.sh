@@ -109,7 +109,7 @@ page() {
 }
 
 # The pages beside each other.
-pages=(docs/REFUSALS.md docs/RULES.md README.md)
+pages=(docs/REFUSALS.md docs/RULES.md docs/CANONICAL.md README.md)
 for each in "${!pages[@]}"; do
     {
         page "$top/${pages[each]}"

@@ -128,7 +128,7 @@ hello
 END
 says 'no words' 2  <<'END'
 words
-owl: a command is missing: translate, declare, check, show, same or trial; owl --help says more
+owl: a command is missing: translate, declare, check, show, same, canon, digest or trial; owl --help says more
 END
 says 'another command' 2 convert zoo.ofn <<'END'
 words
@@ -140,19 +140,19 @@ owl: "trnaslate" is no command: is "translate" meant? owl --help says what there
 END
 says 'a command that nobody has' 2 frobnicate zoo.ofn <<'END'
 words
-owl: "frobnicate" is no command: one of translate, declare, check, show, same and trial; owl --help says more
+owl: "frobnicate" is no command: one of translate, declare, check, show, same, canon, digest and trial; owl --help says more
 END
 says 'no command' 2 zoo.ofn <<'END'
 words
-owl: a command is missing in front of "zoo.ofn": translate, declare, check, show or same; owl --help says more
+owl: a command is missing in front of "zoo.ofn": translate, declare, check, show, same, canon or digest; owl --help says more
 END
 says 'a name and no command' 2 --partial show zoo.ofn <<'END'
 words
-owl: "--partial" stands behind a command: translate, declare, check or show is the first word
+owl: "--partial" stands behind a command: translate, declare, check, show, canon or digest is the first word
 END
 says 'an option and no command' 2 --to fss zoo.ofn <<'END'
 words
-owl: "--to" stands behind a command: translate, declare, check or show is the first word
+owl: "--to" stands behind a command: translate, declare, check, show, canon or digest is the first word
 END
 says 'help by another word' 2 help <<'END'
 words
@@ -252,7 +252,7 @@ owl: the name of a document is missing: owl show [--partial] [--guess] [--base I
 END
 says '--guess and no command' 2 --guess show zoo.ofn <<'END'
 words
-owl: "--guess" stands behind a command: translate, declare, check or show is the first word
+owl: "--guess" stands behind a command: translate, declare, check, show, canon or digest is the first word
 END
 says '--base in front of --guess' 2 show --base http://e/ --guess zoo.ofn <<'END'
 words
@@ -272,7 +272,7 @@ owl: "--base" stands once, in front of the names and in this order: owl show [--
 END
 says '--base and no command' 2 --base http://e/ show zoo.ofn <<'END'
 words
-owl: "--base" stands behind a command: translate, declare, check or show is the first word
+owl: "--base" stands behind a command: translate, declare, check, show, canon or digest is the first word
 END
 says '--base and no name' 2 show --base http://e/ <<'END'
 words
@@ -324,7 +324,7 @@ owl: "http://e/?" is no UTF-8
 END
 says 'a base and a name that is none' 2 show --base http://e/ zoo <<'END'
 words
-owl: "zoo" is no name of a document: one ends in .ofn, .ttl or .omn
+owl: "zoo" is no name of a document: one ends in .ofn, .ttl, .omn or .owc
 END
 says 'nothing behind declare' 2 declare <<'END'
 words
@@ -353,6 +353,94 @@ END
 says 'declare with a typing error' 2 decalre --to fss zoo.ofn <<'END'
 words
 owl: "decalre" is no command: is "declare" meant? owl --help says what there is
+END
+says '--nest with another target' 2 translate --to fss --nest zoo.ofn <<'END'
+words
+owl: "--nest" stands once, right behind "--to ttl": owl translate --to ttl --nest [--partial] [--guess] [--base IRI] MAIN {IMPORT}
+END
+says '--nest behind --partial' 2 declare --to ttl --partial --nest zoo.ofn <<'END'
+words
+owl: "--nest" stands once, right behind "--to ttl": owl translate --to ttl --nest [--partial] [--guess] [--base IRI] MAIN {IMPORT}
+END
+says '--nest twice' 2 translate --to ttl --nest --nest zoo.ofn <<'END'
+words
+owl: "--nest" stands once, right behind "--to ttl": owl translate --to ttl --nest [--partial] [--guess] [--base IRI] MAIN {IMPORT}
+END
+says '--nest in front of the target' 2 translate --nest --to ttl zoo.ofn <<'END'
+words
+owl: "--to" stands right behind "translate", where "--nest" is: owl translate --to fss|ttl|omn [--partial] [--guess] [--base IRI] MAIN {IMPORT}
+END
+says '--nest and no name' 2 declare --to ttl --nest <<'END'
+words
+owl: the name of a document is missing: owl declare --to ttl --nest [--partial] [--guess] [--base IRI] MAIN {IMPORT}
+END
+says '--nest and words in another order' 2 translate --to ttl --nest --guess --partial zoo.ofn <<'END'
+words
+owl: "--partial" stands once, in front of the names and in this order: owl translate --to ttl --nest [--partial] [--guess] [--base IRI] MAIN {IMPORT}
+END
+says '--nest of another command' 2 show --nest zoo.ofn <<'END'
+words
+owl: "--nest" stands once, right behind "--to ttl": owl translate --to ttl --nest [--partial] [--guess] [--base IRI] MAIN {IMPORT}
+END
+says '--nest of canon' 2 canon --nest zoo.ofn <<'END'
+words
+owl: "--nest" is no word of "canon": owl canon [--partial] [--guess] [--base IRI] MAIN {IMPORT}
+END
+says '--nest and no command' 2 --nest translate --to ttl zoo.ofn <<'END'
+words
+owl: "--nest" stands behind a command: translate, declare, check, show, canon or digest is the first word
+END
+says 'nothing behind canon' 2 canon <<'END'
+words
+owl: the name of a document is missing: owl canon [--partial] [--guess] [--base IRI] MAIN {IMPORT}
+END
+says 'nothing behind digest' 2 digest <<'END'
+words
+owl: the name of a document is missing: owl digest [--partial] [--guess] [--base IRI] MAIN {IMPORT}
+END
+says 'a target of canon' 2 canon --to fss zoo.ofn <<'END'
+words
+owl: "--to" is no word of "canon": owl canon [--partial] [--guess] [--base IRI] MAIN {IMPORT}
+END
+says 'a profile of digest' 2 digest --profile=dl zoo.ofn <<'END'
+words
+owl: "--profile=dl" is no word of "digest": owl digest [--partial] [--guess] [--base IRI] MAIN {IMPORT}
+END
+says '--guess in front of --partial of canon' 2 canon --guess --partial zoo.ofn <<'END'
+words
+owl: "--partial" stands once, in front of the names and in this order: owl canon [--partial] [--guess] [--base IRI] MAIN {IMPORT}
+END
+says 'digest and a base that is relative' 2 digest --base e/ zoo.ofn <<'END'
+words
+owl: "e/" has no scheme, which the IRI behind "--base" begins with, as http://example.org/zoo
+END
+says 'digest and a base that is a document' 2 digest --base zoo.owc <<'END'
+words
+owl: an IRI is missing behind "--base", where "zoo.owc" is: owl digest [--partial] [--guess] [--base IRI] MAIN {IMPORT}
+END
+says 'canonical bytes as a target' 2 translate --to owc zoo.ofn <<'END'
+words
+owl: "owc" is none of fss, ttl, omn: what writes canonical bytes is "owl canon", and their digest "owl digest"
+END
+says 'canon by another word' 2 canonicalize zoo.ofn <<'END'
+words
+owl: "canonicalize" is no command: is "canon" meant? owl --help says what there is
+END
+says 'digest by another word' 2 sha256 zoo.ofn <<'END'
+words
+owl: "sha256" is no command: is "digest" meant? owl --help says what there is
+END
+says 'digest with a typing error' 2 digset zoo.ofn <<'END'
+words
+owl: "digset" is no command: is "digest" meant? owl --help says what there is
+END
+says 'the suffix of canonical bytes in capitals' 2 digest zoo.OWC <<'END'
+words
+owl: "zoo.OWC" ends in capitals: a name ends in .owc
+END
+says 'the suffix of canonical bytes alone' 2 show .owc <<'END'
+words
+owl: ".owc" is a suffix alone: a name has something in front of it
 END
 says '--to behind the name' 2 show zoo.ofn --to fss <<'END'
 words
@@ -392,15 +480,15 @@ owl: "full" is none of dl, el, ql, rl
 END
 says 'a suffix that is none' 2 show plain.owl <<'END'
 words
-owl: "plain.owl" is no name of a document: one ends in .ofn, .ttl or .omn
+owl: "plain.owl" is no name of a document: one ends in .ofn, .ttl, .omn or .owc
 END
 says 'RDF/XML under its own suffix' 2 show rdf.owl <<'END'
 words
-owl: "rdf.owl" ends in none of .ofn, .ttl and .omn; it looks like RDF/XML, which owl does not read: translate it first, as by rapper -i rdfxml -o turtle
+owl: "rdf.owl" ends in none of .ofn, .ttl, .omn and .owc; it looks like RDF/XML, which owl does not read: translate it first, as by rapper -i rdfxml -o turtle
 END
 says 'another suffix of Functional-Style Syntax' 2 show old.fss <<'END'
 words
-owl: "old.fss" ends in none of .ofn, .ttl and .omn; it looks like Functional-Style Syntax: its name has to end in .ofn
+owl: "old.fss" ends in none of .ofn, .ttl, .omn and .owc; it looks like Functional-Style Syntax: its name has to end in .ofn
 END
 says 'a file that is not there, with another suffix' 2 show none.nt <<'END'
 words
@@ -420,7 +508,7 @@ owl: ".ofn" is a suffix alone: a name has something in front of it
 END
 says 'no suffix' 2 show zoo <<'END'
 words
-owl: "zoo" is no name of a document: one ends in .ofn, .ttl or .omn
+owl: "zoo" is no name of a document: one ends in .ofn, .ttl, .omn or .owc
 END
 says 'the standard input by -' 2 show - <<'END'
 words
@@ -500,7 +588,7 @@ owl: a word is empty: the name of a document stands there
 END
 says 'an empty first word' 2 '' <<'END'
 words
-owl: the first word is empty: a command stands there, as translate, declare, check, show, same or trial
+owl: the first word is empty: a command stands there, as translate, declare, check, show, same, canon, digest or trial
 END
 says 'a word that is no UTF-8' 2 show $'zoo\xff.ofn' <<'END'
 words
@@ -1960,6 +2048,15 @@ Ontology(
   Declaration(Class(:A)) Declaration(ObjectProperty(:p)) Declaration(DataProperty(:d)) Declaration(DataProperty(:f))
   SubClassOf(:A :B))
 END
+says 'an undeclared class with --nest' 4 translate --to ttl --nest zoo.ofn <<'END'
+typing: Undeclared Class <http://e/B>: SubClassOf(<http://e/A> <http://e/B>)
+owl: zoo.ofn:4:17: :B stands here as a class and is declared nowhere: "declare" in place of "translate" adds what is missing; or add "Declaration(Class(:B))", or import a document that declares it
+      SubClassOf(:A :B))
+                    ^
+END
+says 'declared with --nest' 0 declare --to ttl --nest zoo.ofn <<'END'
+declared; added 1; axioms 6; absorbed 0
+END
 says 'an undeclared class' 4 translate --to ttl zoo.ofn <<'END'
 typing: Undeclared Class <http://e/B>: SubClassOf(<http://e/A> <http://e/B>)
 owl: zoo.ofn:4:17: :B stands here as a class and is declared nowhere: "declare" in place of "translate" adds what is missing; or add "Declaration(Class(:B))", or import a document that declares it
@@ -2292,7 +2389,116 @@ shown
 END
 }
 
-parts of_words of_functional_style of_suffixes of_turtle of_graphs of_frames of_imports of_targets of_limits of_files of_answers
+# --- Canonical bytes.
+of_bytes() {
+document zoo.ofn <<'END'
+Prefix(:=<http://e/>)
+Ontology(<http://e/zoo> Import(<http://e/farm>)
+  SubClassOf(:A :B))
+END
+document farm.ofn <<'END'
+Ontology(<http://e/farm>)
+END
+says 'bytes of an ontology' 0 canon farm.ofn <<'END'
+canonical
+END
+cp "$seen/output" farm.owc
+says 'a digest' 0 digest farm.ofn <<'END'
+digested
+END
+holds 'which is that of the bytes' test "$(<"$seen/output")" = "$(sha256sum farm.owc | cut -d ' ' -f 1)"
+says 'a digest of bytes' 0 digest farm.owc <<'END'
+digested
+END
+holds 'which is the same' test "$(<"$seen/output")" = "$(sha256sum farm.owc | cut -d ' ' -f 1)"
+says 'bytes where an import is missing' 3 canon zoo.ofn <<'END'
+zoo.ofn: MissingImport <http://e/farm>
+owl: zoo.ofn:2:32: no document that is named has the IRI of this import: name it behind the others, or put --partial in front of the names to do without
+    Ontology(<http://e/zoo> Import(<http://e/farm>)
+                                   ^
+END
+says 'bytes where an import may be missing' 0 canon --partial zoo.ofn <<'END'
+canonical
+END
+cp "$seen/output" zoo.owc
+says 'an import of bytes is missing' 3 show zoo.owc <<'END'
+zoo.owc: MissingImport <http://e/farm>
+owl: zoo.owc: no document that is named has the IRI of this import: name it behind the others, or put --partial in front of the names to do without
+END
+says 'bytes of what is not declared' 4 translate --to fss zoo.owc farm.owc <<'END'
+typing: Undeclared Class <http://e/A>: SubClassOf(<http://e/A> <http://e/B>)
+owl: zoo.owc: <http://e/A> stands in it as a class and is declared nowhere: "declare" in place of "translate" adds what is missing; or name a document that it imports and that declares it
+END
+says 'declarations are added to bytes' 0 declare --to fss zoo.owc farm.ofn <<'END'
+declared; added 2; axioms 3; absorbed 0
+END
+document kinds.ofn <<'END'
+Ontology(Declaration(ObjectProperty(<http://e/p>)) Declaration(DataProperty(<http://e/p>)))
+END
+owl canon kinds.ofn >kinds.owc 2>/dev/null
+says 'bytes with a name of two kinds' 4 translate --to fss kinds.owc <<'END'
+typing: TwoKinds <http://e/p>
+owl: kinds.owc: <http://e/p> is declared as two kinds that no IRI may have together, as class and datatype, or as two kinds of properties: take two IRIs
+END
+says 'bytes and a text are the same' 0 same farm.owc farm.ofn <<'END'
+same
+END
+says 'bytes and a text differ' 1 same zoo.owc farm.ofn <<'END'
+different
+owl: what differs is shown by: diff <(owl translate --to fss zoo.owc) <(owl translate --to fss farm.ofn)
+END
+says 'a check of bytes' 1 check --profile el zoo.owc farm.owc <<'END'
+profile el: no; breaches 1
+owl: what breaks which rule stands on the output; docs/RULES.md#dl-1
+END
+head -c 20 zoo.owc >cut.owc
+says 'bytes that are cut' 3 show cut.owc <<'END'
+cut.owc: NotCanon
+owl: cut.owc: these are not the bytes that "owl canon" writes of any ontology: some are missing, too many or changed; write them anew
+END
+{ cat farm.owc && echo; } >more.owc
+says 'bytes with one more' 3 same farm.owc more.owc <<'END'
+more.owc: NotCanon
+owl: more.owc: these are not the bytes that "owl canon" writes of any ontology: some are missing, too many or changed; write them anew
+END
+: >empty.owc
+says 'no bytes' 3 digest empty.owc <<'END'
+empty.owc: NotCanon
+owl: empty.owc: the document is empty
+END
+cp farm.ofn text.owc
+says 'a text with the suffix of bytes' 3 show text.owc <<'END'
+text.owc: NotCanon
+owl: text.owc: this looks like Functional-Style Syntax: its name has to end in .ofn
+END
+printf 'OWL\0C1\n' >others.owc
+says 'other bytes' 3 show others.owc <<'END'
+others.owc: NotCanon
+owl: others.owc: canonical bytes begin with a line "OWL2C1", and these do not: "owl canon" writes such bytes
+END
+cp farm.owc bytes.ofn
+says 'bytes with the suffix of a text' 3 show bytes.ofn <<'END'
+bytes.ofn: item at 0: NotHere at 0
+owl: bytes.ofn:1:1: this has the canonical bytes of an ontology: its name has to end in .owc
+    OWL2C1
+    ^
+END
+cp farm.owc farm.bin
+says 'bytes with another suffix' 2 show farm.bin <<'END'
+words
+owl: "farm.bin" ends in none of .ofn, .ttl, .omn and .owc; it has the canonical bytes of an ontology: its name has to end in .owc
+END
+says 'no file of bytes' 6 digest none.owc <<'END'
+read: none.owc
+owl: none.owc: there is no such file
+END
+says 'no file, and bytes beside it' 6 show others.ttl <<'END'
+read: others.ttl
+owl: others.ttl: there is no such file, but there is others.owc
+END
+}
+
+parts of_words of_functional_style of_suffixes of_turtle of_graphs of_frames of_imports of_targets of_limits of_files of_answers of_bytes
 
 # --- What the program writes goes through.
 echo 'Ontology(<http://e/farm>)' >farm.ofn
@@ -2486,33 +2692,43 @@ completes() {
         COMP_CWORD=$((${#COMP_WORDS[@]} - 1)) && _owl && printf "%s\n" "${COMPREPLY[@]}"' x "$top/completions/owl.bash" "$line" | LC_ALL=C sort)
     holds "completions of $line" test "$found" = "$wanted"
 }
-mkdir zoos && cd zoos && touch a.ofn b.ttl c.omn d.txt && mkdir inner
-completes 'owl ' translate declare check show same trial --help --version --install --build --quiet
+mkdir zoos && cd zoos && touch a.ofn b.ttl c.omn d.txt e.owc && mkdir inner
+completes 'owl ' translate declare check show same canon digest trial --help --version --install --build --quiet
 completes 'owl t' translate trial
 completes 'owl translate ' --to
 completes 'owl translate --to ' fss ttl omn
-completes 'owl d' declare
+completes 'owl d' declare digest
+completes 'owl c' check canon
+completes 'owl canon ' a.ofn b.ttl c.omn e.owc inner
+completes 'owl canon --' --partial --guess --base
+completes 'owl digest --partial --' --guess --base
+completes 'owl digest --base e : ?a = ' ''
 completes 'owl declare ' --to
 completes 'owl declare --to ' fss ttl omn
 completes 'owl declare --to ttl --partial --' --guess --base
-completes 'owl declare --to omn ' a.ofn b.ttl c.omn inner
+completes 'owl declare --to ttl --' --nest --partial --guess --base
+completes 'owl translate --to ttl --nest --' --partial --guess --base
+completes 'owl translate --to fss --' --partial --guess --base
+completes 'owl --quiet translate --to ttl --n' --nest
+completes 'owl translate --to ttl --nest --partial ' a.ofn b.ttl c.omn e.owc inner
+completes 'owl declare --to omn ' a.ofn b.ttl c.omn e.owc inner
 completes 'owl check --profile ' dl el ql rl
-completes 'owl check --profile dl ' a.ofn b.ttl c.omn inner
+completes 'owl check --profile dl ' a.ofn b.ttl c.omn e.owc inner
 completes 'owl check --profile dl --' --partial --guess --base
 completes 'owl show --' --partial --guess --base
 completes 'owl show --partial --' --guess --base
 completes 'owl translate --to ttl --partial --guess -' --base
-completes 'owl translate --to ttl --guess --partial ' a.ofn b.ttl c.omn inner
+completes 'owl translate --to ttl --guess --partial ' a.ofn b.ttl c.omn e.owc inner
 completes 'owl --quiet show --guess --' --base
 completes 'owl show --base ' ''
 completes 'owl show --base h' ''
-completes 'owl show --base http : //e/ ' a.ofn b.ttl c.omn inner
+completes 'owl show --base http : //e/ ' a.ofn b.ttl c.omn e.owc inner
 completes 'owl show --base http : //e/' ''
 completes 'owl show --base e : ?a = ' ''
-completes 'owl show --base http : //e/?a = b a.ofn ' b.ttl c.omn inner
+completes 'owl show --base http : //e/?a = b a.ofn ' b.ttl c.omn e.owc inner
 completes 'owl show --base http : //e/ --' ''
 completes 'owl show a.ofn --' ''
-completes 'owl show a.ofn ' b.ttl c.omn inner
+completes 'owl show a.ofn ' b.ttl c.omn e.owc inner
 completes 'owl --quiet sh' show
 completes 'owl trial ' ''
 completes 'owl --build ' --keep

@@ -153,6 +153,20 @@ sed '1s/Ontology(/&Import(:k) /' heavy.ofn >typed.ofn
 "$top/tools/make_hostile.py" disjoint_unions 4200 >shared.ttl
 # The document of a trial, 2 MB.
 "$top/tools/make_trial.py" 20000 >trial.ofn
+# A string of so many bytes, behind which its canonical bytes are 159 more.
+string_of() {
+    printf 'Ontology(Annotation(rdfs:label "'
+    head -c "$1" /dev/zero | tr '\0' s
+    printf '"))'
+}
+string_of $((2 ** 27 - 159)) >even.ofn
+string_of $((2 ** 27 - 158)) >odd.ofn
+python3 "$top/checks/second_canon.py" a.ofn >a.owc
+printf 'Ontology(Declaration(Class(<a:b>)))' >class.ofn
+python3 "$top/checks/second_canon.py" class.ofn >class.owc
+head -c 62 class.owc >cut.owc
+{ cat class.owc && echo; } >more.owc
+truncate -s $((2 ** 27 + 1)) big.owc
 mkdir folder.ofn
 cp m.ofn secret.ofn && chmod 000 secret.ofn
 mkfifo pipe.ofn
@@ -181,6 +195,11 @@ ${four_of_frames}Ontology: <http://e/o>
 Class: :A
 " 'translated; axioms 1; absorbed 0
 ' translate --to omn graph.ttl
+python3 "$top/checks/second_nest.py" instruments.ofn >"$room/nested" 2>"$room/line"
+call 'the example in Turtle with brackets' 0 "$room/nested" "$(<"$room/line")
+" translate --to ttl --nest instruments.ofn
+call 'brackets with another target' 2 '' 'words
+' translate --to fss --nest m.ofn
 python3 "$top/checks/second_manchester_writer.py" translate --to omn home.omn >"$room/frames" 2>"$room/line"
 call 'the example in Manchester Syntax' 0 "$room/frames" "$(<"$room/line")
 " translate --to omn home.omn
@@ -304,6 +323,43 @@ SubClassOf(:A :B)
 )
 " 'declared; added 1; axioms 3; absorbed 0
 ' declare --to fss a.ofn
+call 'canonical bytes of an ontology' 0 "$room/work/a.owc" 'canonical
+' canon b.ofn
+call 'a digest of an ontology' 0 "$(sha256sum <a.owc | cut -d ' ' -f 1)
+" 'digested
+' digest b.ofn
+call 'canonical bytes of canonical bytes' 0 "$room/work/a.owc" 'canonical
+' canon a.owc
+call 'a digest of canonical bytes' 0 "$(sha256sum <a.owc | cut -d ' ' -f 1)
+" 'digested
+' digest a.owc
+call 'canonical bytes are translated' 0 "${four}Ontology(
+Declaration(Class(<a:b>))
+)
+" 'translated; axioms 1; absorbed 0
+' translate --to fss class.owc
+call 'canonical bytes say the same as a text' 0 'same
+' 'same
+' same a.owc b.ofn
+call 'canonical bytes are checked' 1 'no
+DL-1 1 SubClassOf(<http://e/A> <http://e/B>)
+' 'profile dl: no; breaches 1
+' check --profile dl a.owc
+call 'canonical bytes of what is not declared' 4 '' 'typing: Undeclared Class <http://e/B>: SubClassOf(<http://e/A> <http://e/B>)
+' translate --to fss a.owc
+call 'canonical bytes where an import is missing' 3 '' 'import.ofn: MissingImport <http://e/i>
+' canon import.ofn
+call 'a digest where an import may be missing' 0 "$(python3 "$top/checks/second_canon.py" --digest import.ofn)
+" 'digested
+' digest --partial import.ofn
+call 'bytes that are cut' 3 '' 'cut.owc: NotCanon
+' show cut.owc
+call 'bytes with one more' 3 '' 'more.owc: NotCanon
+' digest m.ofn more.owc
+call 'canon without a name' 2 '' 'words
+' canon
+call 'digest with a target' 2 '' 'words
+' digest --to fss m.ofn
 call 'a name is reserved' 4 '' 'target: Reserved <http://www.w3.org/2002/07/owl#Class>: Declaration(Class(<http://www.w3.org/2002/07/owl#Class>))
 ' translate --to ttl reserved.ofn
 call 'a reserved name in Manchester Syntax' 0 "${four_of_frames}Ontology:
@@ -372,11 +428,24 @@ call 'a weight of 2^24, and a declaration that it needs' 5 '' 'limit: Weight: ou
 ' declare --to fss heavy.ofn
 call 'a declaration that a text of more than 2^27 bytes needs' 5 '' 'limit: OutputBytes: output
 ' declare --to omn lengthy.ofn
+shell 'canonical bytes of 2^27, and read again' 0 '' 'canonical
+canonical
+' '"$owl" canon even.ofn >"$room/seen/even.owc" && (($(stat -c %s "$room/seen/even.owc") == 2 ** 27)) && "$owl" canon "$room/seen/even.owc" |
+    cmp - "$room/seen/even.owc"; ended=$?; rm "$room/seen/even.owc"; exit $ended'
+call 'canonical bytes of 2^27 + 1' 5 '' 'limit: OutputBytes: output
+' canon odd.ofn
+call 'a digest of canonical bytes of 2^27 and more' 0 "$(python3 "$top/checks/second_canon.py" --digest lengthy.ofn)
+" 'digested
+' digest lengthy.ofn
+call 'canonical bytes with one more than 2^27' 5 '' 'limit: DocumentBytes: big.owc
+' canon big.owc
 call '2^27 + 1 bytes' 5 '' 'limit: DocumentBytes: big.ofn
 ' translate --to fss big.ofn
 call '2^27 bytes' 0 "$nothing" "$done_line" translate --to fss full.ofn
 call 'no file' 6 '' 'read: no.ofn
 ' translate --to fss no.ofn
+call 'no file of canonical bytes' 6 '' 'read: no.owc
+' digest no.owc
 call 'no file of a long name' 6 '' "read: $lost
 " show "$lost"
 call 'a folder' 6 '' 'read: folder.ofn
@@ -387,6 +456,10 @@ shell 'a full device' 7 '' 'write
 ' '"$owl" translate --to fss m.ofn >/dev/full'
 shell 'a full device for breaches' 7 '' 'write
 ' '"$owl" check --profile dl breach.ofn >/dev/full'
+shell 'a full device for canonical bytes' 7 '' 'write
+' '"$owl" canon class.owc >/dev/full'
+shell 'a full device for a digest' 7 '' 'write
+' '"$owl" digest m.ofn >/dev/full'
 shell 'a full device for a refusal' 3 '' 'bytes.ofn: item at 9: BadUtf8 at 9
 ' '"$owl" show bytes.ofn >/dev/full'
 shell 'a closed output' 7 '' 'write
@@ -438,6 +511,14 @@ line='translated; axioms 59999; absorbed 0
 shell 'four translations of the document of a trial' 0 '' "$line$line$line$line" '
     cd "$room/seen" && "$owl" translate --to fss ../work/trial.ofn >first.ofn && "$owl" translate --to ttl first.ofn >m.ttl &&
     "$owl" translate --to omn m.ttl >m.omn && "$owl" translate --to fss m.omn >last.ofn && cmp first.ofn last.ofn'
+shell 'one digest of the document of a trial in four forms' 0 '' "$line${line}canonical
+digested
+digested
+digested
+digested
+" '
+    cd "$room/seen" && "$owl" translate --to ttl ../work/trial.ofn >m.ttl && "$owl" translate --to omn m.ttl >m.omn && "$owl" canon m.omn >m.owc &&
+    for name in ../work/trial.ofn m.ttl m.omn m.owc; do "$owl" digest "$name" || exit; done >digests && (($(sort -u digests | wc -l) == 1))'
 
 # --- The script.
 script() {

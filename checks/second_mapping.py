@@ -416,14 +416,20 @@ class TurtleWriter(Writer):
         return "\n".join([*lines, ""])
 
 
-def translation(document):
-    """The text, and the line of the note."""
+def drawn(document):
+    """The triples of the normal form, and the line of the note."""
     annotations, axioms, absorbed = normal_form(document)
     labels = {inside for tree in annotations + axioms for tag, inside in leaves(tree) if tag == ANONYMOUS}
     drawing = Drawing(labels)
     drawing.header(document.iris, document.imports, annotations)
     drawing.axioms(axioms)
-    return TurtleWriter(document.prefixes).graph(drawing.triples), f"translated; axioms {len(axioms)}; absorbed {absorbed}"
+    return drawing.triples, f"translated; axioms {len(axioms)}; absorbed {absorbed}"
+
+
+def translation(document):
+    """The text, and the line of the note."""
+    triples, line = drawn(document)
+    return TurtleWriter(document.prefixes).graph(triples), line
 
 
 def outcome(names_and_texts, partial=False):

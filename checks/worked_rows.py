@@ -82,6 +82,16 @@ a restriction of which nothing is declared | declare: a_restriction_to_functiona
 a property of objects and of data | declare: two_kinds_of_properties
 a class that an import declares | declare: an_import_that_declares_a_class_to_functional_style_syntax
 all kinds, in order | declare: by_kind_and_by_bytes
+= brackets and collections
+a union | nested: a_union
+a complement that an annotation names | nested: the_target_of_an_annotation
+a complement that is equivalent to itself | nested: both_ends_of_a_triple
+= canonical bytes
+those of an ontology of nothing, and of a declaration | canon: nothing a_declaration
+a digest of a union, and of the same in another order with a repeat | canon: a_digest a_digest_of_a_union_in_another_order
+a declaration of bytes, which types itself | owc: a_declaration_to_functional_style_syntax
+the same bytes less the last | owc: less_the_last_byte
+kids out of order | owc: members_of_a_union_out_of_order annotations_of_an_axiom_out_of_order
 = graphs that are refused
 no header, and two | graphs: no_header two_headers
 a list in a circle | graphs: a_list_in_a_circle

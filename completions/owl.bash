@@ -9,7 +9,7 @@ _owl() {
     case $at:${COMP_WORDS[first]-} in
     -*) ;;
     0:*)
-        choices='translate declare check show same trial --help --version --install --build'
+        choices='translate declare check show same canon digest trial --help --version --install --build'
         ((first == 2)) || choices+=' --quiet'
         ;;
     1:translate | 1:declare) choices=--to ;;
@@ -23,20 +23,28 @@ _owl() {
         ;;
     1:--build) choices=--keep ;;
     1:--*) ;;
-    *:show) _owl_rest "$word" $((first + 1)) ;;
-    *:translate | *:declare | *:check) _owl_rest "$word" $((first + 3)) ;;
+    *:show | *:canon | *:digest) _owl_rest "$word" $((first + 1)) ;;
+    *:translate | *:declare)
+        if [[ ${COMP_WORDS[first + 2]} == ttl ]]; then
+            _owl_rest "$word" $((first + 3)) '--nest '
+        else
+            _owl_rest "$word" $((first + 3))
+        fi
+        ;;
+    *:check) _owl_rest "$word" $((first + 3)) ;;
     *) _owl_names "$word" ;;
     esac
     [[ -z $choices ]] || mapfile -t -O "${#COMPREPLY[@]}" COMPREPLY < <(compgen -W "$choices" -- "$word")
 }
 
-# _owl_rest WORD AT: what stands behind the target, the profile or `show`, from AT
-# on: options in their order, and names.
+# _owl_rest WORD AT [MORE]: what stands behind the target, the profile or a command without
+# these, from AT on: options in their order, MORE of them in front, and names.
 _owl_rest() {
     local word=$1 at
-    choices='--partial --guess --base'
+    choices="${3-}--partial --guess --base"
     for ((at = $2; at < COMP_CWORD; at++)); do
         case ${COMP_WORDS[at]} in
+        --nest) choices='--partial --guess --base' ;;
         --partial) choices='--guess --base' ;;
         --guess) choices=--base ;;
         --base)
@@ -58,7 +66,7 @@ _owl_rest() {
 _owl_names() {
     local name
     while IFS= read -r name; do
-        if [[ -d $name || $name == *?.@(ofn|ttl|omn) ]] && ! _owl_is_named "$name"; then COMPREPLY+=("$name"); fi
+        if [[ -d $name || $name == *?.@(ofn|ttl|omn|owc) ]] && ! _owl_is_named "$name"; then COMPREPLY+=("$name"); fi
     done < <(compgen -f -- "$1")
     compopt -o filenames 2>/dev/null
 }

@@ -131,9 +131,9 @@ syntax_of() {
     esac
 }
 
-# Whether a document can be searched.
+# Whether a document can be searched, as a text.
 is_searched() {
-    [[ -f $1 && -r $1 ]] && (($(stat -L -c %s -- "$1") <= most_searched))
+    [[ $1 != *.owc && -f $1 && -r $1 ]] && (($(stat -L -c %s -- "$1") <= most_searched))
 }
 
 # What a document looks like, where that is not the syntax of its name: a few
@@ -153,6 +153,7 @@ sniff() {
     $'\x1f\x8b'*) is='is compressed by gzip: unpack it first, as by gunzip' ;;
     PK$'\x03'*) is='is a zip archive: unpack it first' ;;
     $'\xfd'7zXZ* | BZh*) is='is compressed: unpack it first' ;;
+    $'OWL2C1\n'*) [[ $file == *.owc ]] || is='has the canonical bytes of an ontology: its name has to end in .owc' ;;
     $'\xff\xfe'* | $'\xfe\xff'*) is='is in UTF-16: turn it into UTF-8 first, as by iconv -f UTF-16 -t UTF-8' ;;
     esac
     if [[ -z $is ]]; then
@@ -675,6 +676,20 @@ explain_frames() {
     esac
 }
 
+# What is wrong with bytes that are not canonical.
+not_canon() {
+    local file=$1 looks
+    if [[ -f $file && ! -s $file ]]; then
+        say 'the document is empty'
+    elif looks=$(sniff "$file"); then
+        say 'this %s' "$looks"
+    elif [[ -f $file && -r $file && $(head -c 7 -- "$file" | tr '\0' '\1'; echo .) != $'OWL2C1\n.' ]]; then
+        say 'canonical bytes begin with a line "OWL2C1", and these do not: "owl canon" writes such bytes'
+    else
+        say 'these are not the bytes that "owl canon" writes of any ontology: some are missing, too many or changed; write them anew'
+    fi
+}
+
 # Says what is wrong with a document: `fault` is the line behind its name.
 explain_document() {
     local file=$1 fault=$2
@@ -696,6 +711,8 @@ explain_document() {
         explain_frames "$file" "${BASH_REMATCH[@]:1:3}"
     elif [[ $fault =~ $of_kinds ]]; then
         explain_kinds "$file" "${BASH_REMATCH[1]}"
+    elif [[ $fault == NotCanon ]]; then
+        not_canon "$file"
     elif [[ $fault == NoHeader ]]; then
         no_header "$file"
     elif [[ $fault == TwoHeaders ]]; then
@@ -726,6 +743,11 @@ explain_target() {
         kind=${BASH_REMATCH[1]} iri=${BASH_REMATCH[2]}
         find_item "$main" "${line#"${BASH_REMATCH[0]}"}" "${iri:1:-1}"
         iri=$(named "$iri")
+        if [[ $main == *.owc ]]; then
+            say '%s stands in it as %s and is declared nowhere: "declare" in place of "translate" adds what is missing; or name a document that it imports and that declares it' \
+                "$iri" "$(a_kind "$kind")"
+            return
+        fi
         say '%s stands here as %s and is declared nowhere: "declare" in place of "translate" adds what is missing; or add "%s", or import a document that declares it' \
             "$iri" "$(a_kind "$kind")" "$(declaration "$main" "$kind" "$iri")"
     elif [[ $line =~ $of_kinds ]]; then
@@ -779,8 +801,9 @@ find_number() {
     [[ -z $spot ]] || locate "$file" "$spot"
 }
 
+# explain_limit LIMIT OF COMMAND: says what to do where a limit is passed.
 explain_limit() {
-    local limit=$1 of=$2
+    local limit=$1 of=$2 command=$3
     place="$of: "
     [[ $of != output ]] || place=
     case $limit:$of in
@@ -793,7 +816,13 @@ explain_limit() {
         find_number "$of"
         say 'a cardinality is at most 18446744073709551615'
         ;;
-    OutputBytes:*) say 'what would be written has more than 134217728 bytes (128 MiB): split the ontology, or declare shorter prefixes' ;;
+    OutputBytes:*)
+        if [[ $command == canon ]]; then
+            say 'what would be written has more than 134217728 bytes (128 MiB): split the ontology; "owl digest" has no such limit'
+            return
+        fi
+        say 'what would be written has more than 134217728 bytes (128 MiB): split the ontology, or declare shorter prefixes'
+        ;;
     Triples:output) say 'what would be written has more than 16777216 triples: split the ontology, or take --to fss' ;;
     Triples:*) say 'a graph has at most 16777216 triples: split it, and import the parts' ;;
     *) say 'docs/REFUSALS.md has an entry for %s' "$limit" ;;
@@ -813,7 +842,7 @@ explain_read() {
             say 'there is no such file, and no folder %s' "${folder%/}"
             return
         fi
-        others=$(for other in "${file%.*}".{ofn,ttl,omn,owl,rdf,owx,obo}; do [[ ! -e $other ]] || printf '%s' " $other"; done)
+        others=$(for other in "${file%.*}".{ofn,ttl,omn,owc,owl,rdf,owx,obo}; do [[ ! -e $other ]] || printf '%s' " $other"; done)
         if [[ -n $others ]]; then
             say 'there is no such file, but there is%s' "$others"
         else
@@ -880,6 +909,7 @@ name_documents() {
     *) shift ;;
     esac
     [[ $command != declare ]] || adds=yes
+    [[ ${1-} != --nest ]] || shift
     [[ ${1-} != --partial ]] || shift
     [[ ${1-} != --guess ]] || { guesses=yes && shift; }
     [[ ${1-} != --base ]] || { base=$2 && shift 2; }
@@ -915,7 +945,7 @@ explain() {
         ;;
     5)
         line=${line#limit: }
-        explain_limit "${line%%: *}" "${line#*: }"
+        explain_limit "${line%%: *}" "${line#*: }" "${1-}"
         ;;
     6) explain_read "${line#read: }" ;;
     7) explain_write ;;

@@ -2,7 +2,7 @@
 # explain.sh sources it.
 # shellcheck shell=bash
 
-actions=(translate declare check show same trial)
+actions=(translate declare check show same canon digest trial)
 
 # Says what is wrong with the words of a command, from its names on.
 explain_names() {
@@ -37,6 +37,7 @@ explain_name() {
     case $name in
     '') say 'a word is empty: the name of a document stands there' ;;
     --partial | --guess | --base) say '"%s" stands once, in front of the names and in this order: %s' "$name" "$usage" ;;
+    --nest) say '"--nest" stands once, right behind "--to ttl": owl translate --to ttl --nest %s' "$options" ;;
     --base=*) say '"%s" has to be two words, in front of the names: --base %s' "$(clean "$name")" "$(clean "${name#*=}")" ;;
     --to | --profile | --to=* | --profile=*) say '"%s" stands right behind the command: %s' "$(clean "$name")" "$usage" ;;
     -o | --output | --output=*) say '"%s" is no word of owl: the text goes to the standard output, so write > FILE' "$(clean "$name")" ;;
@@ -44,11 +45,11 @@ explain_name() {
     --help | -h) say '"%s" stands alone: owl --help' "$name" ;;
     -) say '"-" is no name: the suffix of a name tells the syntax, so the standard input is no document; a pipe with a name is, as by mkfifo zoo.ttl' ;;
     -*) say '"%s" is no word of owl; a name that begins with - is written ./%s' "$(clean "$name")" "$(clean "$name")" ;;
-    .ofn | .ttl | .omn | */.ofn | */.ttl | */.omn)
+    .ofn | .ttl | .omn | .owc | */.ofn | */.ttl | */.omn | */.owc)
         [[ $name == */* ]] && return 1
         say '"%s" is a suffix alone: a name has something in front of it' "$name"
         ;;
-    ?*.ofn | ?*.ttl | ?*.omn)
+    ?*.ofn | ?*.ttl | ?*.omn | ?*.owc)
         is_utf8 "$name" && return 1
         say '"%s" is no UTF-8: rename the file, or lead a link to it' "$(printf '%s' "$name" | tr '\200-\377' '?')"
         ;;
@@ -56,8 +57,8 @@ explain_name() {
     *)
         suffix=${name##*/}
         if looks=$(sniff "$name"); then
-            say '"%s" ends in none of .ofn, .ttl and .omn; it %s' "$(clean "$name")" "$looks"
-        elif [[ $suffix == *.* && ${suffix##*.} =~ ^([oO][fF][nN]|[tT][tT][lL]|[oO][mM][nN])$ ]]; then
+            say '"%s" ends in none of .ofn, .ttl, .omn and .owc; it %s' "$(clean "$name")" "$looks"
+        elif [[ $suffix == *.* && ${suffix##*.} =~ ^([oO][fF][nN]|[tT][tT][lL]|[oO][mM][nN]|[oO][wW][cC])$ ]]; then
             suffix=${suffix##*.}
             say '"%s" ends in capitals: a name ends in .%s' "$(clean "$name")" "${suffix,,}"
         else
@@ -66,7 +67,7 @@ explain_name() {
             *.turtle | *.nt | *.n3) say '"%s" has no suffix that owl knows: Turtle ends in .ttl, and N-Triples is Turtle' "$(clean "$name")" ;;
             *.gz | *.zip | *.bz2 | *.xz) say '"%s" is compressed: unpack it first' "$(clean "$name")" ;;
             http://* | https://*) say '"%s" is an IRI, and owl fetches nothing: fetch it first, and name the file' "$(clean "$name")" ;;
-            *) say '"%s" is no name of a document: one ends in .ofn, .ttl or .omn' "$(clean "$name")" ;;
+            *) say '"%s" is no name of a document: one ends in .ofn, .ttl, .omn or .owc' "$(clean "$name")" ;;
             esac
         fi
         ;;
@@ -75,7 +76,7 @@ explain_name() {
 
 options='[--partial] [--guess] [--base IRI] MAIN {IMPORT}'
 
-# Says what is wrong behind the target, the profile or `show`.
+# Says what is wrong behind the target, the profile, or a command without these.
 explain_rest() {
     local usage=$1
     shift
@@ -99,7 +100,7 @@ explain_base() {
         say 'the word behind "--base" is empty: an IRI stands there, as http://example.org/zoo'
     elif [[ $iri == '<'*'>' ]]; then
         say '"%s" stands without < and > behind "--base": %s' "$(clean "$iri")" "$(clean "${iri:1:-1}")"
-    elif [[ $iri == -* || $iri != *:* && $iri == ?*.@(ofn|ttl|omn) ]]; then
+    elif [[ $iri == -* || $iri != *:* && $iri == ?*.@(ofn|ttl|omn|owc) ]]; then
         say 'an IRI is missing behind "--base", where "%s" is: %s' "$(clean "$iri")" "$usage"
     elif [[ ! $iri =~ ^[A-Za-z][A-Za-z0-9+.-]*: ]]; then
         say '"%s" has no scheme, which the IRI behind "--base" begins with, as http://example.org/zoo' "$(clean "$iri")"
@@ -130,11 +131,15 @@ explain_option() {
         say 'a word is missing behind "%s": one of %s' "$option" "${kinds// /, }"
     elif [[ " $kinds " != *" $2 "* ]]; then
         near=$(meant "$2")
-        if [[ " $kinds " == *" $near "* ]]; then
+        if [[ $option == --to && ${2,,} == @(owc|.owc|canon|digest) ]]; then
+            say '"%s" is none of %s: what writes canonical bytes is "owl canon", and their digest "owl digest"' "$(clean "$2")" "${kinds// /, }"
+        elif [[ " $kinds " == *" $near "* ]]; then
             say '"%s" is none of %s: is "%s" meant?' "$(clean "$2")" "${kinds// /, }" "$near"
         else
             say '"%s" is none of %s' "$(clean "$2")" "${kinds// /, }"
         fi
+    elif [[ $2 == ttl && ${3-} == --nest ]]; then
+        explain_rest "owl $command --to ttl --nest $options" "${@:4}"
     else
         explain_rest "$usage" "${@:3}"
     fi
@@ -192,6 +197,21 @@ explain_same() {
     fi
 }
 
+# Says what is wrong behind `canon` or `digest`.
+explain_bytes() {
+    local command=$1 usage="owl $1 $options" word
+    shift
+    for word; do
+        case $word in
+        --to | --to=* | --profile | --profile=* | --nest)
+            say '"%s" is no word of "%s": %s' "$(clean "$word")" "$command" "$usage"
+            return
+            ;;
+        esac
+    done
+    explain_rest "$usage" "$@"
+}
+
 explain_words() {
     local word=${1-} near
     case $word in
@@ -199,12 +219,13 @@ explain_words() {
     check) explain_option check --profile 'dl el ql rl' "${@:2}" ;;
     show) explain_rest "owl show $options" "${@:2}" ;;
     same) explain_same "${@:2}" ;;
+    canon | digest) explain_bytes "$@" ;;
     trial) explain_trial "${@:2}" ;;
     '')
         if (($#)); then
-            say 'the first word is empty: a command stands there, as translate, declare, check, show, same or trial'
+            say 'the first word is empty: a command stands there, as translate, declare, check, show, same, canon, digest or trial'
         else
-            say 'a command is missing: translate, declare, check, show, same or trial; owl --help says more'
+            say 'a command is missing: translate, declare, check, show, same, canon, digest or trial; owl --help says more'
         fi
         ;;
     -h | -help | help | -\?) say '"%s" is no command: owl --help says what there is' "$(clean "$word")" ;;
@@ -213,7 +234,7 @@ explain_words() {
     --install) say '"--install" has at most one folder behind it: owl --install [FOLDER]' ;;
     --build) say '"--build" has nothing behind it but --keep: owl --build [--keep]' ;;
     --quiet) say '"--quiet" stands once' ;;
-    --to | --to=* | --profile | --profile=* | --partial | --guess | --base | --base=*) say '"%s" stands behind a command: translate, declare, check or show is the first word' "$(clean "$word")" ;;
+    --to | --to=* | --profile | --profile=* | --nest | --partial | --guess | --base | --base=*) say '"%s" stands behind a command: translate, declare, check, show, canon or digest is the first word' "$(clean "$word")" ;;
     *)
         near=$(nearest "$word" "${actions[@]}")
         case $word in
@@ -221,14 +242,16 @@ explain_words() {
         validate | validate-profile | profile) near=check ;;
         measure | count | info | stats) near=show ;;
         diff | compare | equal) near=same ;;
+        canonical | canonicalize | normalize) near=canon ;;
+        hash | sha256 | checksum | fingerprint) near=digest ;;
         test | selftest) near=trial ;;
         esac
         if [[ -n $near ]]; then
             say '"%s" is no command: is "%s" meant? owl --help says what there is' "$(clean "$word")" "$near"
         elif [[ $word == *.* ]]; then
-            say 'a command is missing in front of "%s": translate, declare, check, show or same; owl --help says more' "$(clean "$word")"
+            say 'a command is missing in front of "%s": translate, declare, check, show, same, canon or digest; owl --help says more' "$(clean "$word")"
         else
-            say '"%s" is no command: one of translate, declare, check, show, same and trial; owl --help says more' "$(clean "$word")"
+            say '"%s" is no command: one of translate, declare, check, show, same, canon, digest and trial; owl --help says more' "$(clean "$word")"
         fi
         ;;
     esac
